@@ -1,0 +1,3 @@
+pub mod Ring
+pub mod Machine
+pub mod Signs
