@@ -1,0 +1,5 @@
+pub mod Tests
+pub mod Signed
+pub mod Record
+pub mod Blocks
+pub mod Needed

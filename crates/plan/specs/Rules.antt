@@ -1,0 +1,62 @@
+-- The rules that a plan record keeps.
+use mathlib.Core.Bool.{Bool, true, false, _&&_, cond}
+use mathlib.Core.List.{[]}
+use Prim.Native.Nat.{ℕ, zero, suc}
+use lib.IntN.{ℤ, pos, negsuc}
+use lib.Dec.{ltb, leb, eqb}
+use lib.ListN.{getD}
+use Rattle.plan.specs.declared.Pass.{Pass}
+use Rattle.plan.specs.declared.Plan.{Plan}
+
+-- The largest order of a pass.
+abbrev pub orderLimit : ℕ
+orderLimit = 4
+
+-- From 1 to `most`.
+abbrev pub within : ℕ → ℕ → Bool
+within number most = leb 1 number && leb number most
+
+-- From -134217728 to 134217727, the numbers of signed 28 bits: `negsuc n` is -(n + 1).
+abbrev pub inSigned28 : ℤ → Bool
+inSigned28 (pos n) = ltb n 134217728
+inSigned28 (negsuc n) = ltb n 134217728
+
+-- Equal to 0.
+abbrev pub isZero : ℤ → Bool
+isZero (pos n) = eqb n 0
+isZero (negsuc n) = false
+
+-- A test holds of every number below n.
+unfoldable pub allBelow : (ℕ → Bool) → ℕ → Bool
+allBelow test zero = true
+allBelow test (suc n) = allBelow test n && test n
+
+-- Coefficient d(j+1) of a pass.
+abbrev pub coefficientAt : Pass → ℕ → ℤ
+coefficientAt pass j = getD (pass .coefficients) j (pos 0)
+
+-- A coefficient place holds a number of signed 28 bits below the order, and 0 from there on.
+abbrev pub coefficientKept : ℕ → ℕ → ℤ → Bool
+coefficientKept order j value = cond (ltb j order) (inSigned28 value) (isZero value)
+
+-- Every coefficient place of a pass is as it may be.
+unfoldable pub coefficientsKept : Pass → Bool
+coefficientsKept pass = allBelow (λ j. coefficientKept (pass .order) j (coefficientAt pass j)) orderLimit
+
+-- A pass has an order up to the limit and up to the block side, and a gain and coefficients of signed 28 bits.
+unfoldable pub passKept : ℕ → Pass → Bool
+passKept side pass =
+    leb (pass .order) orderLimit && (leb (pass .order) side && (inSigned28 (pass .gain) && coefficientsKept pass))
+
+-- Pass i of a plan: 0 down, 1 up, 2 right, 3 left.
+abbrev pub passAt : Plan → ℕ → Pass
+passAt plan i = getD (plan .passes) i (record { order = 0; gain = pos 0; coefficients = [] })
+
+-- All four passes are as they may be.
+unfoldable pub passesKept : Plan → Bool
+passesKept plan = allBelow (λ i. passKept (plan .side) (passAt plan i)) 4
+
+-- 1 to 4,096 rows and columns, a block side of 1 to 32, and four passes that keep their rules.
+unfoldable pub keepsRules : Plan → Bool
+keepsRules plan =
+    within (plan .rows) 4096 && (within (plan .columns) 4096 && (within (plan .side) 32 && passesKept plan))
