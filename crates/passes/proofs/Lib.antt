@@ -1,0 +1,10 @@
+pub mod Line
+pub mod Linear
+pub mod Passes
+pub mod Blocks
+pub mod Link
+pub mod Square
+pub mod Exchange
+pub mod Pixel
+pub mod Table
+pub mod Examples

@@ -1,0 +1,7 @@
+pub mod Line
+pub mod Filter
+pub mod Passes
+pub mod Pixel
+pub mod Square
+pub mod Table
+pub mod Examples

@@ -1,0 +1,66 @@
+-- The four passes: document 01, 'The four passes'. A map is a function of row and column.
+use Prim.Native.Nat.{ℕ, zero, suc, _-_}
+use Rattle.passes.specs.Line.{output}
+use Rattle.passes.specs.Filter.{Filter, filterStep}
+
+-- A pass runs along the columns or along the rows,
+pub data Axis : Type 0 where
+  columns : Axis
+  rows : Axis
+
+-- with rising index or with falling index.
+pub data Direction : Type 0 where
+  forward : Direction
+  backward : Direction
+
+-- The passes are down, up, right and left, numbered from 0: the first two run along the columns,
+abbrev pub axisOf : ℕ → Axis
+axisOf zero = columns
+axisOf (suc zero) = columns
+axisOf (suc (suc t)) = rows
+
+-- and down and right run forward, up and left backward.
+abbrev pub directionOf : ℕ → Direction
+directionOf zero = forward
+directionOf (suc zero) = backward
+directionOf (suc (suc t)) = directionOf t
+
+-- Of a height and a width, or of a row and a column, the one that runs along the lines of an axis,
+abbrev pub along : Axis → ℕ → ℕ → ℕ
+along columns vertical horizontal = vertical
+along rows vertical horizontal = horizontal
+
+-- and the one that runs across them.
+abbrev pub across : Axis → ℕ → ℕ → ℕ
+across columns vertical horizontal = horizontal
+across rows vertical horizontal = vertical
+
+-- Place i of line l of a map X: column l or row l.
+abbrev pub lineOf : Axis → (ℕ → ℕ → ℕ) → ℕ → ℕ → ℕ
+lineOf columns X l i = X i l
+lineOf rows X l i = X l i
+
+-- The index of the place that a pass over n places comes to after i others: direction is one reflection of the index.
+abbrev pub reflect : Direction → ℕ → ℕ → ℕ
+reflect forward n i = i
+reflect backward n i = n - suc i
+
+-- A pass over a line x of n places; p stands for the outputs past the end where the pass starts, nearest first.
+unfoldable pub filterLine : Direction → Filter → ℕ → (ℕ → ℕ) → (ℕ → ℕ) → ℕ → ℕ
+filterLine d f n p x i = output (filterStep f) p (λ j. x (reflect d n j)) (reflect d n i)
+
+-- A pass over each line of a map X by itself, the lines having n places; H l stands for the outputs past the end of
+-- line l.
+unfoldable pub filterLines : Axis → Direction → Filter → ℕ → (ℕ → ℕ → ℕ) → (ℕ → ℕ → ℕ) → ℕ → ℕ → ℕ
+filterLines a d f n H X = lineOf a (λ l. filterLine d f n (H l) (lineOf a X l))
+
+-- The first t passes over a block X of h rows and w columns, each on the result of the one before; pass u has the
+-- filter `filters u` and the outputs H u past the block's edge.
+unfoldable pub passesOver : (ℕ → Filter) → ℕ → ℕ → (ℕ → ℕ → ℕ → ℕ) → (ℕ → ℕ → ℕ) → ℕ → ℕ → ℕ → ℕ
+passesOver filters h w H X zero = X
+passesOver filters h w H X (suc t) =
+    filterLines (axisOf t) (directionOf t) (filters t) (along (axisOf t) h w) (H t) (passesOver filters h w H X t)
+
+-- The first t passes over a whole map of h rows and w columns: outputs with an index outside the map count as 0.
+unfoldable pub serialPasses : (ℕ → Filter) → ℕ → ℕ → (ℕ → ℕ → ℕ) → ℕ → ℕ → ℕ → ℕ
+serialPasses filters h w X t = passesOver filters h w (λ u l k. 0) X t
