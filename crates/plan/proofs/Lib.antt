@@ -3,3 +3,4 @@ pub mod Signed
 pub mod Record
 pub mod Blocks
 pub mod Needed
+pub mod Known
