@@ -1,0 +1,24 @@
+-- `plan_reader::decode_signed28` meets its contract: each sign is a law of Signed. Assumes nothing.
+use native.Mathlib.Omega.{arith}
+use borrow.Author.Needs.{needs}
+use Rattle.plan_reader.proofs.Signed.{decoded-low, lowered-fits, decoded-high}
+use Rattle.plan_reader.proofs.decode_signed28.Statement.{statement}
+use Rattle.plan_reader.proofs.decode_signed28.Tie as tie
+
+cast-result : tie.Need-cast-result
+cast-result c = search needs
+
+cast-result-2 : tie.Need-cast-result-2
+cast-result-2 c = search needs
+
+sub-result : tie.Need-sub-result
+sub-result c = lowered-fits _ (c .if1 .left) (omega arith)
+
+returns : tie.Need-returns
+returns c = decoded-low _ (c .if1 .taken)
+
+returns-2 : tie.Need-returns-2
+returns-2 c = decoded-high _ (c .if1 .left) (omega arith)
+
+pub decode-signed28-spec : {M : Type 1} → statement M
+decode-signed28-spec = tie.close (tie.spec cast-result cast-result-2 sub-result returns returns-2)

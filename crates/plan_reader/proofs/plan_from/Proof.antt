@@ -1,0 +1,44 @@
+-- `plan_reader::plan_from` meets its contract, field by field. Assumes nothing.
+use mathlib.Core.Path.{ap}
+use borrow.Author.Needs.{needs}
+use Rattle.plan_reader.specs.Layout.{rowsIn, columnsIn}
+use Rattle.plan_reader.specs.Reading.{planFrom}
+use Rattle.plan_reader.proofs.Record.{same-plan}
+use Rattle.plan_reader.proofs.plan_from.Statement.{statement}
+use Rattle.plan_reader.proofs.plan_from.Tie as tie
+
+payload-at-requires : tie.Need-payload-at-requires
+payload-at-requires c κs = search needs
+
+payload-at-requires-2 : tie.Need-payload-at-requires-2
+payload-at-requires-2 c κs = search needs
+
+passes-from-requires : tie.Need-passes-from-requires
+passes-from-requires c κs = search needs
+
+cast-t7 : tie.Need-cast-t7
+cast-t7 c = search needs
+
+cast-t9 : tie.Need-cast-t9
+cast-t9 c = search needs
+
+cast-t10 : tie.Need-cast-t10
+cast-t10 c = search needs
+
+returns : tie.Need-returns
+unfolding planFrom
+returns c =
+    let s = c .before .before .payload-at .ensures in
+    same-plan (ap rowsIn s) (ap columnsIn s) (c .before .payload-at2 .ensures) (c .passes-from .ensures)
+
+pub plan-from-spec : {M : Type 1} → statement M
+plan-from-spec =
+    tie.close
+    (tie.spec
+    payload-at-requires
+    payload-at-requires-2
+    passes-from-requires
+    cast-t7
+    cast-t9
+    cast-t10
+    returns)

@@ -1,0 +1,52 @@
+-- Plan words: a word's kind and payload, and what a payload of each kind holds and may be.
+use mathlib.Core.Bool.{Bool, _&&_, cond}
+use Prim.Native.Nat.{ℕ, suc, _-_, _/_, _%_}
+use lib.IntN.{ℤ, pos, negsuc}
+use lib.Dec.{ltb, leb, eqb}
+use Rattle.plan.specs.Rules.{orderLimit, within}
+
+-- The kind of a word of 32 bits: its top four bits.
+abbrev pub kindOf : ℕ → ℕ
+kindOf word = word / 268435456
+
+-- The payload of a word: its low 28 bits.
+abbrev pub payloadOf : ℕ → ℕ
+payloadOf word = word % 268435456
+
+-- Size, kind 1: the rows in bits 13 to 25.
+abbrev pub rowsIn : ℕ → ℕ
+rowsIn payload = payload / 8192 % 8192
+
+-- Size, kind 1: the columns in bits 0 to 12.
+abbrev pub columnsIn : ℕ → ℕ
+columnsIn payload = payload % 8192
+
+-- Size, kind 1: rows and columns from 1 to 4,096, bits 26 and 27 zero.
+abbrev pub sizeAllowed : ℕ → Bool
+sizeAllowed payload =
+    within (rowsIn payload) 4096 && (within (columnsIn payload) 4096 && eqb (payload / 67108864) 0)
+
+-- Block, kind 2: the block side, from 1 to 32.
+abbrev pub sideAllowed : ℕ → Bool
+sideAllowed payload = within payload 32
+
+-- Pass, kind 3: the order in bits 0 to 3.
+abbrev pub orderIn : ℕ → ℕ
+orderIn payload = payload % 16
+
+-- Pass, kind 3: the pass in bits 4 and 5, 0 down, 1 up, 2 right, 3 left.
+abbrev pub passIn : ℕ → ℕ
+passIn payload = payload / 16 % 4
+
+-- Pass, kind 3: the pass that is due, an order up to the limit, all other bits zero.
+abbrev pub passAllowed : ℕ → ℕ → Bool
+passAllowed pass payload =
+    eqb (passIn payload) pass && (leb (orderIn payload) orderLimit && eqb (payload / 64) 0)
+
+-- End, kind 6: zero.
+abbrev pub endAllowed : ℕ → Bool
+endAllowed payload = eqb payload 0
+
+-- Gain and coefficient, kinds 4 and 5: signed 28 bits, two's complement: the payload, less 2^28 from 2^27 on.
+unfoldable pub signed28 : ℕ → ℤ
+signed28 payload = cond (ltb payload 134217728) (pos payload) (negsuc (268435456 - suc payload))

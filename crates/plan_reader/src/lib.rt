@@ -1,0 +1,293 @@
+// Reads a plan from its words.
+use plan::Pass;
+use plan::Plan;
+use refusal::Outcome;
+use refusal::Refusal;
+ghost use mathlib.Core.Path.{_≡_};
+ghost use Prim.Native.Nat.{_+_, _<_, _≤_, _%_};
+ghost use lib.ListN.{length};
+ghost use Rattle.plan.specs.Rules.{orderLimit};
+ghost use Rattle.plan_reader.specs.Layout.{payloadOf, sizeAllowed, passAllowed, signed28};
+ghost use Rattle.plan_reader.specs.Reading.{wordAt, payloadAt, orderAt, afterPass, passPlace, wordOutcome, headOutcome, coefficientsOutcome, passOutcome, passesOutcome, endOutcome, sideOutcome, planOutcome, listOf, coefficientIn, passFrom, planFrom, zeroPass, zeroPlan, readPlan};
+
+// The plan that was read, or a plan of zeros beside a refusal.
+pub struct PlanRead {
+    pub outcome: Outcome,
+    pub plan: Plan,
+}
+
+// The plan that the words hold, or the first refusal.
+pub fn read_plan(words: &[u32]) -> PlanRead
+    ensures { λ r. ⌜ r ≡ readPlan (now (words .entry)) ⌝ }
+{
+    let outcome = plan_outcome(words);
+    match outcome {
+        Outcome::Accepted => PlanRead {
+            outcome: Outcome::Accepted,
+            plan: plan_from(words),
+        },
+        Outcome::Refused(refusal) => PlanRead {
+            outcome: Outcome::Refused(refusal),
+            plan: zero_plan(),
+        },
+    }
+}
+
+// ---- words
+
+// The word at a place; 0 past the last.
+fn word_at(words: &[u32], place: usize) -> u32
+    ensures { λ r. ⌜ r ≡ wordAt (now (words .entry)) place ⌝ }
+{
+    if place < words.len() { words[place] } else { 0 }
+}
+
+fn payload_at(words: &[u32], place: usize) -> u32
+    ensures { λ r. ⌜ r ≡ payloadAt (now (words .entry)) place ⌝ }
+{
+    word_at(words, place) % 268435456
+}
+
+fn order_at(words: &[u32], place: usize) -> usize
+    ensures { λ r. ⌜ r ≡ orderAt (now (words .entry)) place ⌝ }
+{
+    (payload_at(words, place) % 16) as usize
+}
+
+// The place of the pass word of pass i, of the end word for i = 4.
+fn pass_place(words: &[u32], i: usize) -> usize
+    requires { ⌜ i ≤ 4 ⌝ }
+    ensures { λ r. ⌜ r ≡ passPlace (now (words .entry)) i ⌝ }
+{
+    let mut place = 2;
+    let mut j = 0;
+    while j < i {
+        place = place + 2 + order_at(words, place);
+        j += 1;
+    }
+    place
+}
+
+fn size_allowed(payload: u32) -> bool
+    ensures { λ r. ⌜ r ≡ sizeAllowed payload ⌝ }
+{
+    if !plan::within((payload / 8192 % 8192) as usize, 4096) {
+        return false;
+    }
+    if !plan::within((payload % 8192) as usize, 4096) {
+        return false;
+    }
+    payload / 67108864 == 0
+}
+
+fn pass_allowed(pass: usize, payload: u32) -> bool
+    ensures { λ r. ⌜ r ≡ passAllowed pass payload ⌝ }
+{
+    if (payload / 16 % 4) as usize != pass {
+        return false;
+    }
+    if plan::ORDER_LIMIT < (payload % 16) as usize {
+        return false;
+    }
+    payload / 64 == 0
+}
+
+// A payload of signed 28 bits.
+fn decode_signed28(payload: u32) -> i64
+    requires { ⌜ payload < 268435456 ⌝ }
+    ensures { λ r. ⌜ r ≡ signed28 payload ⌝ }
+{
+    if payload < 134217728 {
+        payload as i64
+    } else {
+        payload as i64 - 268435456
+    }
+}
+
+// ---- refusals
+
+fn word_outcome(words: &[u32], place: usize, kind: u32, allowed: bool) -> Outcome
+    ensures { λ r. ⌜ r ≡ wordOutcome (now (words .entry)) place kind allowed ⌝ }
+{
+    let count = words.len();
+    if count <= place {
+        return Outcome::Refused(Refusal::WordsEndEarly(count));
+    }
+    if words[place] / 268435456 != kind {
+        return Outcome::Refused(Refusal::AnotherKindDue(place));
+    }
+    if !allowed {
+        return Outcome::Refused(Refusal::OutOfRange(place));
+    }
+    Outcome::Accepted
+}
+
+fn head_outcome(words: &[u32]) -> Outcome
+    ensures { λ r. ⌜ r ≡ headOutcome (now (words .entry)) ⌝ }
+{
+    let size = word_outcome(words, 0, 1, size_allowed(payload_at(words, 0)));
+    let block = word_outcome(words, 1, 2, plan::within(payload_at(words, 1) as usize, 32));
+    size.or_first(block)
+}
+
+fn coefficients_outcome(words: &[u32], place: usize, count: usize) -> Outcome
+    requires { ⌜ place + count < 4294967296 ⌝ }
+    ensures { λ r. ⌜ r ≡ coefficientsOutcome (now (words .entry)) place count ⌝ }
+{
+    let mut outcome = Outcome::Accepted;
+    let mut j = 0;
+    while j < count {
+        let next = word_outcome(words, place + j, 5, true);
+        outcome = outcome.or_first(next);
+        j += 1;
+    }
+    outcome
+}
+
+fn pass_outcome(words: &[u32], i: usize, place: usize) -> Outcome
+    requires { ⌜ place ≤ 1000 ⌝ }
+    ensures { λ r. ⌜ r ≡ passOutcome (now (words .entry)) i place ⌝ }
+{
+    let head = word_outcome(words, place, 3, pass_allowed(i, payload_at(words, place)));
+    let gain = word_outcome(words, place + 1, 4, true);
+    let coefficients = coefficients_outcome(words, place + 2, order_at(words, place));
+    head.or_first(gain.or_first(coefficients))
+}
+
+fn passes_outcome(words: &[u32]) -> Outcome
+    ensures { λ r. ⌜ r ≡ passesOutcome (now (words .entry)) 4 ⌝ }
+{
+    let mut outcome = Outcome::Accepted;
+    let mut i = 0;
+    while i < 4 {
+        let next = pass_outcome(words, i, pass_place(words, i));
+        outcome = outcome.or_first(next);
+        i += 1;
+    }
+    outcome
+}
+
+fn end_outcome(words: &[u32], place: usize) -> Outcome
+    requires { ⌜ place ≤ 1000 ⌝ }
+    ensures { λ r. ⌜ r ≡ endOutcome (now (words .entry)) place ⌝ }
+{
+    let end = word_outcome(words, place, 6, payload_at(words, place) == 0);
+    if place + 1 < words.len() {
+        return end.or_first(Outcome::Refused(Refusal::WordsAfterEnd(place + 1)));
+    }
+    end.or_first(Outcome::Accepted)
+}
+
+fn side_outcome(words: &[u32]) -> Outcome
+    ensures { λ r. ⌜ r ≡ sideOutcome (now (words .entry)) ⌝ }
+{
+    let side = payload_at(words, 1) as usize;
+    let mut i = 0;
+    while i < 4 {
+        if side < order_at(words, pass_place(words, i)) {
+            return Outcome::Refused(Refusal::SideBelowOrder);
+        }
+        i += 1;
+    }
+    Outcome::Accepted
+}
+
+fn plan_outcome(words: &[u32]) -> Outcome
+    ensures { λ r. ⌜ r ≡ planOutcome (now (words .entry)) ⌝ }
+{
+    let head = head_outcome(words);
+    let passes = passes_outcome(words);
+    let end = end_outcome(words, pass_place(words, 4));
+    let side = side_outcome(words);
+    head.or_first(passes.or_first(end.or_first(side)))
+}
+
+// ---- the record
+
+fn coefficient_in(words: &[u32], place: usize, j: usize) -> i64
+    requires { ⌜ (place ≤ 1000) × (j < orderLimit) ⌝ }
+    ensures { λ r. ⌜ r ≡ coefficientIn (now (words .entry)) place j ⌝ }
+{
+    if j < order_at(words, place) {
+        return decode_signed28(payload_at(words, place + 2 + j));
+    }
+    0
+}
+
+fn coefficients_from(words: &[u32], place: usize) -> [i64; plan::ORDER_LIMIT]
+    requires { ⌜ place ≤ 1000 ⌝ }
+    ensures { λ r. ⌜ r ≡ listOf (coefficientIn (now (words .entry)) place) orderLimit ⌝ }
+{
+    let mut coefficients = [0; plan::ORDER_LIMIT];
+    let mut j = 0;
+    while j < plan::ORDER_LIMIT {
+        let value = coefficient_in(words, place, j);
+        coefficients[j] = value;
+        j += 1;
+    }
+    coefficients
+}
+
+fn pass_from(words: &[u32], place: usize) -> Pass
+    requires { ⌜ place ≤ 1000 ⌝ }
+    ensures { λ r. ⌜ r ≡ passFrom (now (words .entry)) place ⌝ }
+{
+    let order = order_at(words, place);
+    let gain = decode_signed28(payload_at(words, place + 1));
+    let coefficients = coefficients_from(words, place);
+    Pass {
+        order: order,
+        gain: gain,
+        coefficients: coefficients,
+    }
+}
+
+fn passes_from(words: &[u32]) -> [Pass; 4]
+    ensures { λ r. ⌜ r ≡ listOf (λ i. passFrom (now (words .entry)) (passPlace (now (words .entry)) i)) 4 ⌝ }
+{
+    let empty = zero_pass();
+    let mut passes = [empty; 4];
+    let mut i = 0;
+    while i < 4 {
+        let pass = pass_from(words, pass_place(words, i));
+        passes[i] = pass;
+        i += 1;
+    }
+    passes
+}
+
+fn plan_from(words: &[u32]) -> Plan
+    ensures { λ r. ⌜ r ≡ planFrom (now (words .entry)) ⌝ }
+{
+    let size = payload_at(words, 0);
+    let side = payload_at(words, 1);
+    let passes = passes_from(words);
+    Plan {
+        rows: (size / 8192 % 8192) as usize,
+        columns: (size % 8192) as usize,
+        side: side as usize,
+        passes: passes,
+    }
+}
+
+fn zero_pass() -> Pass
+    ensures { λ r. ⌜ r ≡ zeroPass ⌝ }
+{
+    Pass {
+        order: 0,
+        gain: 0,
+        coefficients: [0; plan::ORDER_LIMIT],
+    }
+}
+
+fn zero_plan() -> Plan
+    ensures { λ r. ⌜ r ≡ zeroPlan ⌝ }
+{
+    let pass = zero_pass();
+    Plan {
+        rows: 0,
+        columns: 0,
+        side: 0,
+        passes: [pass; 4],
+    }
+}
