@@ -1,0 +1,6 @@
+pub mod Payload
+pub mod Words
+pub mod Answers
+pub mod Accepted
+pub mod RoundTripWritten
+pub mod RoundTripRead

@@ -1,0 +1,304 @@
+-- A plan that was read from accepted words keeps the rules and has those words. Each accepted word is the next word of what is
+-- left, and is the word that writing makes of what was read from it. Assumes nothing.
+use mathlib.Core.Path.{_≡_, refl, sym, ap, _∙_}
+use mathlib.Core.Bool.{true, false, _&&_}
+use mathlib.Core.Logic.{⊎-elim}
+use mathlib.Core.List.{List, [], _∷_, _++_, append-assoc}
+use Prim.Native.Nat.{ℕ, zero, suc, _+_, _*_, _/_, _<_, _≤_}
+use native.Mathlib.Omega.{arith}
+use native.Mathlib.Nat.{add-zero}
+use native.Mathlib.Numerals.{add-one}
+use lib.IntN.{pos}
+use lib.Dec.{ltb, leb, eqb}
+use lib.ListN.{length, drop, drop-of-length-le}
+use borrow.Author.Tests.{lt-ltb, le-ltb, ltb-false, le-leb, leb-true, eqb-true}
+use Rattle.refusal.specs.declared.Outcome.the-variants.{Accepted}
+use Rattle.plan.specs.declared.Pass.{Pass}
+use Rattle.plan.specs.Rules.{
+  orderLimit,
+  within,
+  inSigned28,
+  allBelow,
+  coefficientAt,
+  coefficientKept,
+  coefficientsKept,
+  passKept,
+  passAt,
+  passesKept,
+  keepsRules,
+}
+use Rattle.plan.proofs.Tests.{and-left, and-right, all-at, lt-or-ge}
+use Rattle.plan_reader.specs.Layout.{rowsIn, columnsIn, passIn, passAllowed, sizeAllowed, sideAllowed, endAllowed, signed28}
+use Rattle.plan_reader.specs.Reading.{
+  payloadAt,
+  orderAt,
+  afterPass,
+  passPlace,
+  wordOutcome,
+  headOutcome,
+  coefficientsOutcome,
+  passOutcome,
+  passesOutcome,
+  endOutcome,
+  sideOutcome,
+  planOutcome,
+  coefficientIn,
+  passFrom,
+  planFrom,
+  readPlan,
+}
+use Rattle.plan_reader.proofs.Listed.{listed-at, listed-length}
+use Rattle.plan_reader.proofs.Record.{coefficient-read, coefficient-zero}
+use Rattle.plan_reader.proofs.Outcomes.{sideReaches}
+use Rattle.plan_writer.specs.Shape.{WellShaped}
+use Rattle.plan_writer.specs.Writing.{wordOf, payload28, coefficientWords, passWords, passesWords, wordsOf}
+use Rattle.plan_writer.proofs.Payload.{payload-signed, signed-kept}
+use Rattle.plan_writer.proofs.Accepted.{
+  and-both,
+  all-of,
+  first-accepted,
+  second-accepted,
+  answer-accepted,
+  not-refused,
+  not-refused-unless,
+  word-due,
+  word-first,
+}
+
+-- ---- one pass
+
+module _ (words : List ℕ) (i place : ℕ) (e : passOutcome words i place ≡ Accepted) where
+  abbrev pass : Pass
+  pass = passFrom words place
+
+  head-accepted : wordOutcome words place 3 (passAllowed i (payloadAt words place)) ≡ Accepted
+  unfolding passOutcome
+  head-accepted = first-accepted _ _ e
+
+  gain-accepted : wordOutcome words (place + 1) 4 true ≡ Accepted
+  unfolding passOutcome
+  gain-accepted = first-accepted _ _ (second-accepted (wordOutcome words place 3 (passAllowed i (payloadAt words place))) _ e)
+
+  coefficients-accepted : coefficientsOutcome words (place + 2) (orderAt words place) ≡ Accepted
+  unfolding passOutcome
+  coefficients-accepted =
+      second-accepted (wordOutcome words (place + 1) 4 true) _
+      (second-accepted (wordOutcome words place 3 (passAllowed i (payloadAt words place))) _ e)
+
+  -- what the pass word may hold
+  head-allowed : passAllowed i (payloadAt words place) ≡ true
+  head-allowed = word-due words place 3 _ head-accepted .payload-allowed
+
+  order-and-spare : (leb (orderAt words place) orderLimit && eqb (payloadAt words place / 64) 0) ≡ true
+  order-and-spare = and-right (eqb (passIn (payloadAt words place)) i) _ head-allowed
+
+  order-limited : orderAt words place ≤ orderLimit
+  order-limited = leb-true (orderAt words place) orderLimit (and-left (leb (orderAt words place) orderLimit) _ order-and-spare)
+
+  head-payload : payloadAt words place ≡ i * 16 + orderAt words place
+  head-payload =
+      let number : passIn (payloadAt words place) ≡ i = eqb-true _ i (and-left (eqb (passIn (payloadAt words place)) i) _ head-allowed) in
+      let spare : payloadAt words place / 64 ≡ 0 = eqb-true _ 0 (and-right (leb (orderAt words place) orderLimit) _ order-and-spare) in
+      omega arith
+
+  -- what the pass holds
+  order-is : pass .order ≡ orderAt words place
+  unfolding passFrom
+  order-is = refl
+
+  gain-is : pass .gain ≡ signed28 (payloadAt words (place + 1))
+  unfolding passFrom
+  gain-is = refl
+
+  place-is : (j : ℕ) → j < orderLimit → coefficientAt pass j ≡ coefficientIn words place j
+  unfolding passFrom
+  place-is j h = listed-at (coefficientIn words place) orderLimit j (pos 0) h
+
+  coefficient-is : (j : ℕ) → j < orderAt words place → coefficientAt pass j ≡ signed28 (payloadAt words (place + 2 + j))
+  coefficient-is j h = place-is j (omega (arith, order-limited)) ∙ coefficient-read words place j h
+
+  places-full : length (pass .coefficients) ≡ orderLimit
+  unfolding passFrom
+  places-full = listed-length (coefficientIn words place) orderLimit
+
+  -- its words are those that were read
+  coefficients-first : (count : ℕ) → count ≤ orderAt words place → coefficientsOutcome words (place + 2) count ≡ Accepted
+      → drop (place + 2) words ≡ coefficientWords pass count ++ drop (place + 2 + count) words
+  unfolding coefficientsOutcome coefficientWords
+  coefficients-first zero h a = rw (add-zero (place + 2))
+  coefficients-first (suc count) h a =
+      let before = first-accepted (coefficientsOutcome words (place + 2) count) _ a in
+      let word = word-first words (place + 2 + count) 5 true (second-accepted (coefficientsOutcome words (place + 2) count) _ a) in
+      let same : payload28 (coefficientAt pass count) ≡ payloadAt words (place + 2 + count) =
+      ap payload28 (coefficient-is count (omega arith)) ∙ payload-signed (payloadAt words (place + 2 + count)) (omega arith) in
+      let next : place + 2 + suc count ≡ suc (place + 2 + count) = omega arith in
+      coefficients-first count (omega arith) before
+      ∙ ap (λ (l : List ℕ). coefficientWords pass count ++ l) word
+      ∙ rw (append-assoc, same, next)
+
+  pass-first : drop place words ≡ passWords i pass ++ drop (afterPass words place) words
+  unfolding passWords
+  pass-first =
+      let gain : payload28 (pass .gain) ≡ payloadAt words (place + 1) =
+      ap payload28 gain-is ∙ payload-signed (payloadAt words (place + 1)) (omega arith) in
+      let second : drop (suc place) words ≡ wordOf 4 (payloadAt words (place + 1)) ∷ drop (suc (place + 1)) words =
+      ap (λ (n : ℕ). drop n words) (sym (add-one place)) ∙ word-first words (place + 1) 4 true gain-accepted in
+      let third : suc (place + 1) ≡ place + 2 = omega arith in
+      word-first words place 3 _ head-accepted
+      ∙ rw (second, third, coefficients-first (orderAt words place) (omega arith) coefficients-accepted, order-is, gain, ← head-payload)
+
+  -- it keeps the rules
+  coefficient-kept : (j : ℕ) → j < orderLimit → coefficientKept (pass .order) j (coefficientAt pass j) ≡ true
+  coefficient-kept j h =
+      ⊎-elim
+      (λ (l : j < orderAt words place).
+      rw (order-is, lt-ltb j (orderAt words place) l, coefficient-is j l) (signed-kept (payloadAt words (place + 2 + j)) (omega arith)))
+      (λ (g : orderAt words place ≤ j).
+      rw (order-is, le-ltb j (orderAt words place) g, place-is j h, coefficient-zero words place j g))
+      (lt-or-ge j (orderAt words place))
+
+  pass-keeps-rules : (side : ℕ) → orderAt words place ≤ side → passKept side pass ≡ true
+  unfolding passKept coefficientsKept
+  pass-keeps-rules side h =
+      let limited : leb (pass .order) orderLimit ≡ true = rw order-is (le-leb (orderAt words place) orderLimit order-limited) in
+      let in-side : leb (pass .order) side ≡ true = rw order-is (le-leb (orderAt words place) side h) in
+      let gain : inSigned28 (pass .gain) ≡ true = rw gain-is (signed-kept (payloadAt words (place + 1)) (omega arith)) in
+      and-both limited
+      (and-both in-side
+      (and-both gain (all-of (λ j. coefficientKept (pass .order) j (coefficientAt pass j)) orderLimit coefficient-kept)))
+
+-- ---- the plan
+
+module _ (words : List ℕ) where
+  pass-is : (i : ℕ) → i < 4 → passAt (planFrom words) i ≡ passFrom words (passPlace words i)
+  unfolding planFrom
+  pass-is i h = listed-at (λ i. passFrom words (passPlace words i)) 4 i _ h
+
+  pass-accepted : (count i : ℕ) → passesOutcome words count ≡ Accepted → i < count → passOutcome words i (passPlace words i) ≡ Accepted
+  unfolding passesOutcome
+  pass-accepted zero i a h = absurd (omega arith)
+  pass-accepted (suc count) i a h =
+      ⊎-elim
+      (λ (l : i < count). pass-accepted count i (first-accepted (passesOutcome words count) _ a) l)
+      (λ (g : count ≤ i).
+      let same : i ≡ count = omega arith in
+      rw same (second-accepted (passesOutcome words count) _ a))
+      (lt-or-ge i count)
+
+  passes-first : passesOutcome words 4 ≡ Accepted → (count : ℕ) → count ≤ 4
+      → drop 2 words ≡ passesWords (planFrom words) count ++ drop (passPlace words count) words
+  unfolding passesWords passPlace
+  passes-first a zero h = refl
+  passes-first a (suc count) h =
+      passes-first a count (omega arith)
+      ∙ rw (pass-first words count (passPlace words count) (pass-accepted 4 count a (omega arith)), pass-is count (omega arith), append-assoc)
+
+module _ (words : List ℕ) (accepted : planOutcome words ≡ Accepted) where
+  heads : headOutcome words ≡ Accepted
+  unfolding planOutcome
+  heads = first-accepted _ _ accepted
+
+  passes : passesOutcome words 4 ≡ Accepted
+  unfolding planOutcome
+  passes = first-accepted _ _ (second-accepted (headOutcome words) _ accepted)
+
+  ends : endOutcome words (passPlace words 4) ≡ Accepted
+  unfolding planOutcome
+  ends = first-accepted _ _ (second-accepted (passesOutcome words 4) _ (second-accepted (headOutcome words) _ accepted))
+
+  sides : sideOutcome words ≡ Accepted
+  unfolding planOutcome
+  sides =
+      second-accepted (endOutcome words (passPlace words 4)) _
+      (second-accepted (passesOutcome words 4) _ (second-accepted (headOutcome words) _ accepted))
+
+  size-accepted : wordOutcome words 0 1 (sizeAllowed (payloadAt words 0)) ≡ Accepted
+  unfolding headOutcome
+  size-accepted = first-accepted _ _ heads
+
+  block-accepted : wordOutcome words 1 2 (sideAllowed (payloadAt words 1)) ≡ Accepted
+  unfolding headOutcome
+  block-accepted = second-accepted (wordOutcome words 0 1 (sizeAllowed (payloadAt words 0))) _ heads
+
+  end-accepted : wordOutcome words (passPlace words 4) 6 (endAllowed (payloadAt words (passPlace words 4))) ≡ Accepted
+  unfolding endOutcome
+  end-accepted = first-accepted _ _ ends
+
+  rows-kept : within (rowsIn (payloadAt words 0)) 4096 ≡ true
+  rows-kept = and-left _ _ (word-due words 0 1 _ size-accepted .payload-allowed)
+
+  columns-and-spare : (within (columnsIn (payloadAt words 0)) 4096 && eqb (payloadAt words 0 / 67108864) 0) ≡ true
+  columns-and-spare = and-right (within (rowsIn (payloadAt words 0)) 4096) _ (word-due words 0 1 _ size-accepted .payload-allowed)
+
+  size-payload : rowsIn (payloadAt words 0) * 8192 + columnsIn (payloadAt words 0) ≡ payloadAt words 0
+  size-payload =
+      let spare : payloadAt words 0 / 67108864 ≡ 0 = eqb-true _ 0 (and-right (within (columnsIn (payloadAt words 0)) 4096) _ columns-and-spare) in
+      omega arith
+
+  nothing-left : drop (suc (passPlace words 4)) words ≡ []
+  unfolding endOutcome
+  nothing-left =
+      let last : ltb (passPlace words 4 + 1) (length words) ≡ false =
+      not-refused _ _ (second-accepted (wordOutcome words (passPlace words 4) 6 (endAllowed (payloadAt words (passPlace words 4)))) _ ends) in
+      let past : length words ≤ suc (passPlace words 4) = omega (arith, ltb-false (passPlace words 4 + 1) (length words) last) in
+      drop-of-length-le words past
+
+  end-first : drop (passPlace words 4) words ≡ wordOf 6 0 ∷ []
+  end-first =
+      let d = word-due words (passPlace words 4) 6 _ end-accepted in
+      let empty : payloadAt words (passPlace words 4) ≡ 0 = eqb-true (payloadAt words (passPlace words 4)) 0 (d .payload-allowed) in
+      word-first words (passPlace words 4) 6 _ end-accepted ∙ rw (empty, nothing-left)
+
+  words-again : wordsOf (planFrom words) ≡ words
+  unfolding wordsOf planFrom
+  words-again =
+      sym (word-first words 0 1 _ size-accepted
+      ∙ rw (word-first words 1 2 _ block-accepted, passes-first words passes 4 (omega arith), end-first, size-payload))
+
+  sides-reach : allBelow (sideReaches words) 4 ≡ true
+  unfolding sideOutcome
+  sides-reach = not-refused-unless _ _ sides
+
+  pass-kept : (i : ℕ) → i < 4 → passKept (payloadAt words 1) (passAt (planFrom words) i) ≡ true
+  pass-kept i h =
+      rw (pass-is words i h)
+      (pass-keeps-rules words i (passPlace words i) (pass-accepted words 4 i passes h) (payloadAt words 1)
+      (leb-true (orderAt words (passPlace words i)) (payloadAt words 1) (all-at (sideReaches words) 4 i sides-reach h)))
+
+  rules-kept : keepsRules (planFrom words) ≡ true
+  unfolding keepsRules passesKept planFrom
+  rules-kept =
+      and-both rows-kept
+      (and-both (and-left (within (columnsIn (payloadAt words 0)) 4096) _ columns-and-spare)
+      (and-both (word-due words 1 2 _ block-accepted .payload-allowed)
+      (all-of (λ i. passKept (payloadAt words 1) (passAt (planFrom words) i)) 4 pass-kept)))
+
+  shaped : WellShaped (planFrom words)
+  unfolding planFrom
+  shaped =
+      record {
+        passCount = listed-length (λ i. passFrom words (passPlace words i)) 4;
+        placeCount = λ i h. ap (λ (pass : Pass). length (pass .coefficients)) (pass-is words i h) ∙ places-full words i (passPlace words i) (pass-accepted words 4 i passes h);
+      }
+
+-- ---- the laws
+
+module _ (words : List ℕ) (e : readPlan words .outcome ≡ Accepted) where
+  accepted-words : planOutcome words ≡ Accepted
+  unfolding readPlan
+  accepted-words = answer-accepted (planOutcome words) (planFrom words) e
+
+  read-is : readPlan words .plan ≡ planFrom words
+  unfolding readPlan
+  read-is = rw accepted-words
+
+-- The words of a plan that was read are the words that it was read from.
+pub writing-read : (words : List ℕ) → readPlan words .outcome ≡ Accepted → wordsOf (readPlan words .plan) ≡ words
+writing-read words e = rw (read-is words e) (words-again words (accepted-words words e))
+
+-- A plan that was read keeps the rules.
+pub read-keeps-rules : (words : List ℕ) → readPlan words .outcome ≡ Accepted → keepsRules (readPlan words .plan) ≡ true
+read-keeps-rules words e = rw (read-is words e) (rules-kept words (accepted-words words e))
+
+pub read-well-shaped : (words : List ℕ) → readPlan words .outcome ≡ Accepted → WellShaped (readPlan words .plan)
+read-well-shaped words e = rw (read-is words e) (shaped words (accepted-words words e))

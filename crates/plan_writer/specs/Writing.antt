@@ -1,0 +1,56 @@
+-- The words of a plan, in the order of document 01's table, and the call that writes them.
+use mathlib.Core.Bool.{cond}
+use mathlib.Core.List.{List, [], _∷_, _++_}
+use Prim.Native.Nat.{ℕ, zero, suc, _+_, _-_, _*_}
+use lib.IntN.{ℤ, pos, negsuc}
+use lib.Dec.{ltb}
+use lib.ListN.{length, drop}
+use Rattle.refusal.specs.declared.Refusal.the-variants.{RecordBreaksRule, BufferTooShort}
+use Rattle.plan.specs.declared.Pass.{Pass}
+use Rattle.plan.specs.declared.Plan.{Plan}
+use Rattle.plan.specs.Rules.{coefficientAt, passAt, keepsRules}
+use Rattle.plan.specs.Sizes.{wordCount}
+use Rattle.plan_writer.specs.declared.PlanWritten.{PlanWritten}
+use Rattle.plan_writer.specs.declared.PlanWritten.the-variants.{Words, Refused}
+
+-- A word: its kind in the top four bits, its payload in the low 28.
+abbrev pub wordOf : ℕ → ℕ → ℕ
+wordOf kind payload = kind * 268435456 + payload
+
+-- The payload of a number of signed 28 bits, two's complement: `negsuc n` is -(n + 1).
+unfoldable pub payload28 : ℤ → ℕ
+payload28 (pos n) = n
+payload28 (negsuc n) = 268435456 - suc n
+
+-- The first `count` coefficient words of a pass.
+unfoldable pub coefficientWords : Pass → ℕ → List ℕ
+coefficientWords pass zero = []
+coefficientWords pass (suc count) =
+    coefficientWords pass count ++ (wordOf 5 (payload28 (coefficientAt pass count)) ∷ [])
+
+-- The words of pass i: pass word, gain word, coefficient words.
+unfoldable pub passWords : ℕ → Pass → List ℕ
+passWords i pass =
+    wordOf 3 (i * 16 + pass .order) ∷ wordOf 4 (payload28 (pass .gain)) ∷ coefficientWords pass (pass .order)
+
+-- The words of the first `count` passes.
+unfoldable pub passesWords : Plan → ℕ → List ℕ
+passesWords plan zero = []
+passesWords plan (suc count) = passesWords plan count ++ passWords count (passAt plan count)
+
+-- The words of a plan: size, block, the four passes, end.
+unfoldable pub wordsOf : Plan → List ℕ
+wordsOf plan =
+    wordOf 1 (plan .rows * 8192 + plan .columns) ∷ wordOf 2 (plan .side) ∷ (passesWords plan 4 ++ (wordOf 6 0 ∷ []))
+
+-- The answer: 6 if the record breaks a rule, 7 if there is no room for the words, else how many words were written.
+unfoldable pub writeAnswer : Plan → ℕ → PlanWritten
+writeAnswer plan room =
+    cond (keepsRules plan) (cond (ltb room (wordCount plan)) (Refused BufferTooShort) (Words (wordCount plan)))
+    (Refused RecordBreaksRule)
+
+-- The lent words after the call: the plan's words and then what stood there; unaltered by a refusal.
+unfoldable pub writtenWords : Plan → List ℕ → List ℕ
+writtenWords plan words =
+    cond (keepsRules plan)
+    (cond (ltb (length words) (wordCount plan)) words (wordsOf plan ++ drop (wordCount plan) words)) words
