@@ -1,0 +1,9 @@
+pub mod Written
+pub mod RowMajor
+pub mod Buffers
+pub mod Filters
+pub mod Turns
+pub mod Unchanged
+pub mod InPlace
+pub mod Windows
+pub mod Numbers

@@ -1,0 +1,319 @@
+-- Windows: where the lines of a window lie, that they fit the buffer and are apart, and that a pass over a window is the
+-- filter over its lines, for both axes and both directions. Assumes nothing.
+use mathlib.Core.Path.{_≡_, refl, sym, ap, _∙_}
+use mathlib.Core.Bool.{Bool, true, false}
+use mathlib.Core.List.{List}
+use mathlib.Core.Logic.{_≢_}
+use Prim.Native.Nat.{ℕ, suc, _+_, _-_, _*_, _<_, _≤_}
+use native.Mathlib.Nat.{mul-le-mul-left, mul-le-mul-right, add-mul}
+use native.Mathlib.Decide.{decLt}
+use native.Mathlib.Omega.{arith}
+use lib.ListN.{length}
+use Rattle.passes.specs.Line.{wordsBefore}
+use Rattle.passes.specs.Filter.{Filter, filterStep}
+use Rattle.passes.specs.Passes.{
+  Axis,
+  columns,
+  rows,
+  Direction,
+  forward,
+  backward,
+  axisOf,
+  directionOf,
+  along,
+  across,
+  lineOf,
+  reflect,
+  filterLine,
+  filterLines,
+}
+use Rattle.passes.proofs.Line.{output-reads, wordsBefore-inside, wordsBefore-past}
+use Rattle.passes.proofs.Linear.{filterStep-reads}
+use Rattle.passes.proofs.Passes.{reflect-lt, reflect-twice}
+use Rattle.filter.specs.declared.Lines.{Lines}
+use Rattle.filter.specs.declared.Window.{Window}
+use Rattle.filter.specs.Buffer.{wordAt}
+use Rattle.filter.specs.Kernel.{linePlace, LinesFit}
+use Rattle.filter.specs.Windows.{
+  pixelPlace,
+  isBackward,
+  ifForward,
+  ifBackward,
+  windowLines,
+  windowPass,
+  windowOf,
+  beyond,
+  wordsBesideWindow,
+  WindowFits,
+}
+use Rattle.filter.proofs.RowMajor.{place-below, same-row-column}
+use Rattle.filter.proofs.InPlace.{Apart, Filtered, filtered}
+
+sub-mul : (y t w : ℕ) → t ≤ y → (y - t) * w + t * w ≡ y * w
+sub-mul y t w h = let e : y ≡ (y - t) + t = omega arith in sym (ap (_* w) e ∙ add-mul (y - t) t w)
+
+-- ---- where the lines of a window lie
+
+-- The index of place t of a line, of q places of history and then n places from `start` on.
+abbrev indexAt : Direction → ℕ → ℕ → ℕ → ℕ → ℕ
+indexAt forward start n q t = (start + t) - q
+indexAt backward start n q t = (start + n + q) - suc t
+
+index-inside : (d : Direction) (start n q j : ℕ) → ifForward (isBackward d) q ≤ start → j < n
+    → indexAt d start n q (q + j) ≡ start + reflect d n j
+index-inside forward start n q j h l = omega arith
+index-inside backward start n q j h l = omega arith
+
+index-beside : (d : Direction) (start n q k : ℕ) → ifForward (isBackward d) q ≤ start → k < q
+    → indexAt d start n q (q - suc k) ≡ beyond d start n k
+index-beside forward start n q k h l = omega arith
+index-beside backward start n q k h l = omega arith
+
+index-below : (d : Direction) (start n q t : ℕ) → ifForward (isBackward d) q ≤ start → t < q + n
+    → indexAt d start n q t < start + n + ifBackward (isBackward d) q
+index-below forward start n q t h l = omega arith
+index-below backward start n q t h l = omega arith
+
+index-apart : (d : Direction) (start n q t u : ℕ) → ifForward (isBackward d) q ≤ start → t < q + n → u < q + n
+    → indexAt d start n q t ≡ indexAt d start n q u → t ≡ u
+index-apart forward start n q t u h l k e = omega arith
+index-apart backward start n q t u h l k e = omega arith
+
+-- The index of place t along, and the index of line l across.
+abbrev indexIn : Axis → Direction → Window → ℕ → ℕ → ℕ
+indexIn a d W q t = indexAt d (along a (W .top) (W .left)) (along a (W .height) (W .width)) q t
+
+abbrev lineIn : Axis → Window → ℕ → ℕ
+lineIn a W l = across a (W .top) (W .left) + l
+
+pub line-place : {n : ℕ} (a : Axis) (d : Direction) (W : Window) (q : ℕ) → WindowFits n a d W q → (l t : ℕ)
+    → t < q + along a (W .height) (W .width)
+    → linePlace (windowLines a d W q) l t ≡ lineOf a (pixelPlace (W .stride)) (lineIn a W l) (indexIn a d W q t)
+line-place columns forward W q fits l t h =
+    omega (
+      arith,
+      fits .start,
+      add-mul (W .top) t (W .stride),
+      sub-mul (W .top + t) q (W .stride) (omega (arith, fits .start)),
+      sub-mul (W .top) q (W .stride) (fits .start),
+    )
+line-place columns backward W q fits l t h =
+    let u : ℕ = (W .height + q) - 1 in
+    let e : (W .top + W .height + q) - suc t ≡ (W .top + u) - t = omega (arith, fits .tall) in
+    rw e (omega (arith, add-mul (W .top) u (W .stride), sub-mul (W .top + u) t (W .stride) (omega (arith, fits .tall))))
+line-place rows forward W q fits l t h = omega (arith, fits .start, add-mul (W .top) l (W .stride))
+line-place rows backward W q fits l t h = omega (arith, fits .wide, add-mul (W .top) l (W .stride))
+
+-- The column of a place, and its row.
+column-in : {n : ℕ} (a : Axis) (d : Direction) (W : Window) (q : ℕ) → WindowFits n a d W q → (l t : ℕ)
+    → l < across a (W .height) (W .width) → t < q + along a (W .height) (W .width)
+    → along a (lineIn a W l) (indexIn a d W q t) < W .stride
+column-in columns d W q fits l t h k = omega (arith, fits .in-row)
+column-in rows d W q fits l t h k = omega (arith, fits .in-row, index-below d (W .left) (W .width) q t (fits .start) k)
+
+row-in : {n : ℕ} (a : Axis) (d : Direction) (W : Window) (q : ℕ) → WindowFits n a d W q → (l t : ℕ)
+    → l < across a (W .height) (W .width) → t < q + along a (W .height) (W .width)
+    → across a (lineIn a W l) (indexIn a d W q t) < W .top + W .height + along a (ifBackward (isBackward d) q) 0
+row-in columns d W q fits l t h k = index-below d (W .top) (W .height) q t (fits .start) k
+row-in rows d W q fits l t h k = omega arith
+
+-- ---- they fit, and are apart
+
+line-below : (a : Axis) (w l i z n : ℕ) → along a l i < w → across a l i < z → z * w ≤ n → lineOf a (pixelPlace w) l i < n
+line-below columns w l i z n h k f = omega (arith, place-below z w i l k h)
+line-below rows w l i z n h k f = omega (arith, place-below z w l i k h)
+
+one-line : (a : Axis) (w l i m j : ℕ) → along a l i < w → along a m j < w
+    → lineOf a (pixelPlace w) l i ≡ lineOf a (pixelPlace w) m j → (l ≡ m) × (i ≡ j)
+one-line columns w l i m j h k e = let p = same-row-column w i l j m h k e in (p .1, p .0)
+one-line rows w l i m j h k e = same-row-column w l i m j h k e
+
+module _ {n : ℕ} (a : Axis) (d : Direction) (W : Window) (q : ℕ) (fits : WindowFits n a d W q) where
+  place-in : (l t : ℕ) → l < across a (W .height) (W .width) → t < q + along a (W .height) (W .width)
+      → linePlace (windowLines a d W q) l t < n
+  place-in l t h k =
+      rw (line-place a d W q fits l t k)
+      (line-below a (W .stride) _ _ _ n (column-in a d W q fits l t h k) (row-in a d W q fits l t h k) (fits .in-buffer))
+
+  pub lines-apart : Apart (windowLines a d W q) (q + along a (W .height) (W .width))
+  lines-apart l j t u hl hj ht hu e =
+      let p = one-line a (W .stride) _ _ _ _ (column-in a d W q fits l t hl ht) (column-in a d W q fits j u hj hu)
+      (sym (line-place a d W q fits l t ht) ∙ e ∙ line-place a d W q fits j u hu) in
+      (omega (arith, p .0), index-apart d _ _ q t u (fits .start) ht hu (p .1))
+
+pub some-lines : {n : ℕ} (a : Axis) (d : Direction) (W : Window) (q : ℕ) → WindowFits n a d W q
+    → (0 < across a (W .height) (W .width)) × (0 < along a (W .height) (W .width))
+some-lines columns d W q fits = (fits .wide, fits .tall)
+some-lines rows d W q fits = (fits .tall, fits .wide)
+
+pub few-places : {n : ℕ} (a : Axis) (d : Direction) (W : Window) (q : ℕ) → WindowFits n a d W q
+    → q + along a (W .height) (W .width) ≤ n
+few-places columns forward W q fits =
+    omega (arith, fits .start, fits .in-buffer, mul-le-mul-left {m = 1} {n = W .stride} (W .top + W .height + 0) (omega (arith, fits .wide, fits .in-row)))
+few-places columns backward W q fits =
+    omega (arith, fits .in-buffer, mul-le-mul-left {m = 1} {n = W .stride} (W .top + W .height + q) (omega (arith, fits .wide, fits .in-row)))
+few-places rows forward W q fits =
+    omega (arith, fits .start, fits .in-row, fits .in-buffer, mul-le-mul-right {m = 1} {n = W .top + W .height + 0} (W .stride) (omega (arith, fits .tall)))
+few-places rows backward W q fits =
+    omega (arith, fits .in-row, fits .in-buffer, mul-le-mul-right {m = 1} {n = W .top + W .height + 0} (W .stride) (omega (arith, fits .tall)))
+
+pub lines-fit : {n : ℕ} (a : Axis) (d : Direction) (W : Window) (q : ℕ) → WindowFits n a d W q
+    → LinesFit n (windowLines a d W q) (q + along a (W .height) (W .width))
+lines-fit a forward W q fits =
+    record {
+      some = some-lines a forward W q fits .0;
+      enough = few-places a forward W q fits;
+      low = λ t e. omega arith;
+      high = λ l t h e. omega (arith, place-in a forward W q fits l t h e);
+    }
+lines-fit a backward W q fits =
+    record {
+      some = some-lines a backward W q fits .0;
+      enough = few-places a backward W q fits;
+      low = λ t e. omega (arith, mul-le-mul-right {m = t} {n = (along a (W .height) (W .width) + q) - 1} (along a (W .stride) 1) (omega arith));
+      high = λ l t h e. omega (arith, place-in a backward W q fits l 0 h (omega arith));
+    }
+
+-- ---- a pass over a window
+
+-- Buffer b has at each pixel of the window the word of the filter over the window's lines, H l standing for the words
+-- beyond line l, and everywhere else the word of buffer a.
+pub record Passed (a : Axis) (d : Direction) (W : Window) (f : Filter) (H : ℕ → ℕ → ℕ) (before after : List ℕ) : Type 0 where
+  pub length-kept : length after ≡ length before
+  pub at : (y x : ℕ) → y < W .height → x < W .width
+      → windowOf W after y x ≡ filterLines a d f (along a (W .height) (W .width)) H (windowOf W before) y x
+  pub elsewhere : (z : ℕ)
+      → ((y x : ℕ) → y < W .height → x < W .width → z ≢ pixelPlace (W .stride) (W .top + y) (W .left + x))
+      → wordAt after z ≡ wordAt before z
+
+-- The histories are the words beside the window, q of each line, and 0 past these.
+pub record Histories (a : Axis) (d : Direction) (W : Window) (f : Filter) (q : ℕ) (H : ℕ → ℕ → ℕ) (buffer : List ℕ) : Type 0 where
+  pub near : (l k : ℕ) → l < across a (W .height) (W .width) → k < q → k < f .order
+      → wordsBesideWindow a d W buffer l k ≡ H l k
+  pub far : (l k : ℕ) → l < across a (W .height) (W .width) → q ≤ k → k < f .order → 0 ≡ H l k
+
+-- What holds of each line holds of each pixel.
+by-line : (a : Axis) (h w : ℕ) (X : ℕ → ℕ → ℕ) (line : ℕ → ℕ → ℕ)
+    → ((l i : ℕ) → l < across a h w → i < along a h w → lineOf a X l i ≡ line l i)
+    → (y x : ℕ) → y < h → x < w → X y x ≡ lineOf a line y x
+by-line columns h w X line e y x p q = e x y q p
+by-line rows h w X line e y x p q = e y x p q
+
+-- A place of a line is a pixel.
+by-pixel : (a : Axis) (h w : ℕ) (place : ℕ → ℕ → ℕ) (z : ℕ) → ((y x : ℕ) → y < h → x < w → z ≢ place y x)
+    → (l i : ℕ) → l < across a h w → i < along a h w → z ≢ lineOf a place l i
+by-pixel columns h w place z e l i p q = e i l q p
+by-pixel rows h w place z e l i p q = e l i p q
+
+window-line : (a : Axis) (W : Window) (buffer : List ℕ) (l i : ℕ)
+    → wordAt buffer (lineOf a (pixelPlace (W .stride)) (lineIn a W l) (along a (W .top) (W .left) + i))
+    ≡ lineOf a (windowOf W buffer) l i
+window-line columns W buffer l i = refl
+window-line rows W buffer l i = refl
+
+line-pixel : (a : Axis) (W : Window) (l i : ℕ)
+    → lineOf a (pixelPlace (W .stride)) (lineIn a W l) (along a (W .top) (W .left) + i)
+    ≡ lineOf a (λ y x. pixelPlace (W .stride) (W .top + y) (W .left + x)) l i
+line-pixel columns W l i = refl
+line-pixel rows W l i = refl
+
+module _ (a : Axis) (d : Direction) (W : Window) (f : Filter) (q : ℕ) (H : ℕ → ℕ → ℕ) (before : List ℕ)
+    (fits : WindowFits (length before) a d W q) (histories : Histories a d W f q H before) where
+  abbrev L : Lines
+  L = windowLines a d W q
+
+  abbrev m : ℕ
+  m = along a (W .height) (W .width)
+
+  -- The words of a line that the kernel reads, in its order.
+  inside-is : (l j : ℕ) → j < m → wordAt before (linePlace L l (q + j)) ≡ lineOf a (windowOf W before) l (reflect d m j)
+  inside-is l j h =
+      ap (wordAt before)
+      (line-place a d W q fits l (q + j) (omega arith)
+      ∙ ap (lineOf a (pixelPlace (W .stride)) (lineIn a W l)) (index-inside d _ m q j (fits .start) h))
+      ∙ window-line a W before l (reflect d m j)
+
+  history-is : (l k : ℕ) → l < across a (W .height) (W .width) → k < f .order
+      → wordsBefore (λ k. 0) (λ t. wordAt before (linePlace L l t)) q k ≡ H l k
+  history-is l k h e =
+      elim (decLt k q) [
+        | yes b ↦
+            wordsBefore-inside (λ k. 0) _ q k b
+            ∙ ap (wordAt before)
+            (line-place a d W q fits l (q - suc k) (omega arith)
+            ∙ ap (lineOf a (pixelPlace (W .stride)) (lineIn a W l)) (index-beside d _ m q k (fits .start) b))
+            ∙ histories .near l k h b e
+        | no b ↦ wordsBefore-past (λ k. 0) _ q k (omega arith) ∙ histories .far l k h (omega arith) e
+      ]
+
+  -- The words of a line as the kernel leaves them.
+  line-is : (after : List ℕ) → Filtered L f q before m after → (l i : ℕ) → l < across a (W .height) (W .width) → i < m
+      → lineOf a (windowOf W after) l i ≡ filterLine d f m (H l) (lineOf a (windowOf W before) l) i
+  unfolding filterLine
+  line-is after u l i h e =
+      let j : ℕ = reflect d m i in
+      let b : j < m = reflect-lt d m i e in
+      sym
+      (ap (wordAt after)
+      (line-place a d W q fits l (q + j) (omega arith)
+      ∙ ap (lineOf a (pixelPlace (W .stride)) (lineIn a W l)) (index-inside d _ m q j (fits .start) b ∙ ap (along a (W .top) (W .left) +_) (reflect-twice d m i e)))
+      ∙ window-line a W after l i)
+      ∙ u .at l j h b
+      ∙ output-reads (filterStep f) (f .order) (filterStep-reads f) _ (H l) _ _ (λ k c. history-is l k h c) j
+      (λ k c. inside-is l k (omega arith))
+
+  passed-at : (after : List ℕ) → Filtered L f q before m after → Passed a d W f H before after
+  unfolding filterLines
+  passed-at after u =
+      record {
+        length-kept = u .length-kept;
+        at = by-line a (W .height) (W .width) (windowOf W after) _ (line-is after u);
+        elsewhere = λ z e. u .elsewhere z (λ l i h c p.
+            by-pixel a (W .height) (W .width) (λ y x. pixelPlace (W .stride) (W .top + y) (W .left + x)) z e l (reflect d m i) h (reflect-lt d m i c)
+            (p ∙ line-place a d W q fits l (q + i) (omega arith) ∙ ap (lineOf a (pixelPlace (W .stride)) (lineIn a W l)) (index-inside d _ m q i (fits .start) c) ∙ line-pixel a W l (reflect d m i)));
+      }
+
+-- A pass over a window is the filter over its lines.
+pub windowPass-passed : (pass : ℕ) (W : Window) (f : Filter) (q : ℕ) (H : ℕ → ℕ → ℕ) (before : List ℕ)
+    → WindowFits (length before) (axisOf pass) (directionOf pass) W q
+    → Histories (axisOf pass) (directionOf pass) W f q H before
+    → Passed (axisOf pass) (directionOf pass) W f H before (windowPass pass W q f before)
+unfolding windowPass
+windowPass-passed pass W f q H before fits histories =
+    let a : Axis = axisOf pass in
+    let d : Direction = directionOf pass in
+    passed-at a d W f q H before fits histories _
+    (filtered (windowLines a d W q) f q (q + along a (W .height) (W .width)) before (lines-fit a d W q fits)
+    (lines-apart a d W q fits) (along a (W .height) (W .width)) (omega arith))
+
+-- ---- windows with no history
+
+nothing-forward : (b : Bool) → ifForward b 0 ≡ 0
+nothing-forward false = refl
+nothing-forward true = refl
+
+nothing-backward : (b : Bool) → ifBackward b 0 ≡ 0
+nothing-backward false = refl
+nothing-backward true = refl
+
+along-same : (a : Axis) (x : ℕ) → along a x x ≡ x
+along-same columns x = refl
+along-same rows x = refl
+
+pub fits-alone : {n : ℕ} (a : Axis) (d : Direction) (W : Window) → 0 < W .height → 0 < W .width
+    → W .left + W .width ≤ W .stride → (W .top + W .height) * W .stride ≤ n → WindowFits n a d W 0
+fits-alone a d W tall wide in-row in-buffer =
+    let e : ifForward (isBackward d) 0 ≡ 0 = nothing-forward (isBackward d) in
+    let none : along a (ifBackward (isBackward d) 0) 0 ≡ 0 = rw nothing-backward (along-same a 0) in
+    let none-across : along a 0 (ifBackward (isBackward d) 0) ≡ 0 = rw nothing-backward (along-same a 0) in
+    record {
+      tall = tall;
+      wide = wide;
+      start = omega arith;
+      in-row = omega arith;
+      in-buffer = rw none (omega arith);
+    }
+
+pub no-history : (a : Axis) (d : Direction) (W : Window) (f : Filter) (buffer : List ℕ)
+    → Histories a d W f 0 (λ l k. 0) buffer
+no-history a d W f buffer = record { near = λ l k h e g. absurd (omega arith); far = λ l k h e g. refl }

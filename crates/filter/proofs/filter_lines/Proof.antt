@@ -1,0 +1,102 @@
+-- `filter_lines` has done the places passed so far of all lines.
+use mathlib.Core.Path.{_≡_, refl}
+use Prim.Native.Nat.{_+_, _-_, _≤_}
+use native.Mathlib.Omega.{arith}
+use borrow.Author.Needs.{needs}
+use lib.ListN.{length}
+use Rattle.filter.specs.Filters.{filterBy}
+use Rattle.filter.specs.Kernel.{filterInPlace}
+use Rattle.filter.proofs.Turns.{TimeFits, time-fits, places-fit, place-more}
+use Rattle.filter.proofs.filter_lines.Statement.{statement}
+use Rattle.filter.proofs.filter_lines.Tie as tie
+
+abbrev Inv-loop : tie.InvT-loop
+Inv-loop buffer₀ lines history places gain coefficients order done₀ buffer done =
+    (done ≤ places)
+    × (length buffer ≡ length buffer₀)
+    × (buffer
+    ≡ filterInPlace lines (filterBy gain order coefficients) history done buffer₀)
+
+abbrev μ-loop : tie.MeasureT-loop
+μ-loop buffer₀ lines history places gain coefficients order done₀ buffer done = places - done
+
+-- The place of this turn is in the buffer.
+here : (c : tie.In-loop Inv-loop μ-loop)
+    → let a = c .before .before .before .args in
+    TimeFits (length (a .buffer .now)) (a .lines)
+    (a .history + c .before .loop .done)
+here c = time-fits (c .before .before .before .pre .1) _ (omega arith)
+
+loop-holds : tie.Need-loop-holds Inv-loop μ-loop
+unfolding filterInPlace
+loop-holds c = (omega arith, refl, refl)
+
+add-time : tie.Need-add-time Inv-loop μ-loop
+add-time c = let h = here c in omega arith
+
+mul-place : tie.Need-mul-place Inv-loop μ-loop
+mul-place c = let h = here (c .before) in omega arith
+
+add-place : tie.Need-add-place Inv-loop μ-loop
+add-place c = let h = here (c .before .before) in omega arith
+
+mul-place-2 : tie.Need-mul-place-2 Inv-loop μ-loop
+mul-place-2 c = let h = here (c .before .before .before) in omega arith
+
+sub-place : tie.Need-sub-place Inv-loop μ-loop
+sub-place c = let h = here (c .before .before .before) in omega arith
+
+lesser-requires : tie.Need-lesser-requires Inv-loop μ-loop
+lesser-requires c κs = search needs
+
+outputs-at-place-requires : tie.Need-outputs-at-place-requires Inv-loop μ-loop
+outputs-at-place-requires c κs =
+    let l = c .before .before .before .before .before .before in
+    let s = l .before .before in
+    let t = s .args .history + l .loop .done in
+    let e : length (l .loop .buffer) ≡ length (s .args .buffer .now) = l .loop .inv .1 in
+    (omega (arith, c .before .lesser .ensures), rw e (places-fit (s .pre .1) t (c .before .lesser .result) (omega arith) (omega (arith, c .before .lesser .ensures))))
+
+add-done : tie.Need-add-done Inv-loop μ-loop
+add-done c = search needs
+
+loop-less : tie.Need-loop-less Inv-loop μ-loop
+loop-less c = search needs
+
+loop-again : tie.Need-loop-again Inv-loop μ-loop
+loop-again c =
+    let f = c .before .before in
+    let l = f .before .before .before .before .before .before .before in (
+      omega arith,
+      omega (arith, f .outputs-at-place .kept, l .loop .inv .1),
+      place-more _ _ _ (l .loop .done) _ (l .loop .buffer) (l .loop .inv .2)
+          (rw (f .before .before .lesser .ensures) at (f .outputs-at-place .ensures)),
+    )
+
+same-length : tie.Need-same-length Inv-loop μ-loop
+same-length c = search needs
+
+returns : tie.Need-returns Inv-loop μ-loop
+returns c =
+    let e : c .before .loop .done ≡ c .before .before .before .args .places = omega arith in
+    rw e at (c .before .loop .inv .2)
+
+pub filter-lines-spec : {M : Type 1} → statement M
+filter-lines-spec =
+    tie.close
+    (tie.spec
+    Inv-loop
+    μ-loop
+    loop-holds
+    add-time
+    mul-place
+    add-place
+    mul-place-2
+    sub-place
+    lesser-requires
+    outputs-at-place-requires
+    add-done
+    loop-less
+    loop-again
+    same-length
+    returns)

@@ -1,0 +1,32 @@
+-- The filters of a plan's passes.
+use mathlib.Core.List.{List, map}
+use Prim.Native.Nat.{ℕ}
+use Rattle.word.specs.Word.{residue}
+use Rattle.plan.specs.declared.Pass.{Pass}
+use Rattle.plan.specs.declared.Plan.{Plan}
+use Rattle.plan.specs.Rules.{coefficientAt, passAt}
+use Rattle.passes.specs.Filter.{Filter}
+use Rattle.filter.specs.declared.FilterWords.{FilterWords}
+use Rattle.filter.specs.Buffer.{wordAt}
+
+-- The filter of a pass: gain and coefficients enter as residues modulo 2^64.
+unfoldable pub filterOf : Pass → Filter
+filterOf pass =
+    record { gain = residue (pass .gain); order = pass .order; coefficient = λ k. residue (coefficientAt pass k) }
+
+-- The four filters of a plan: 0 down, 1 up, 2 right, 3 left.
+abbrev pub filtersOf : Plan → ℕ → Filter
+filtersOf plan i = filterOf (passAt plan i)
+
+-- The filter of a gain, an order and a list of coefficients.
+abbrev pub filterBy : ℕ → ℕ → List ℕ → Filter
+filterBy gain order coefficients = record { gain = gain; order = order; coefficient = wordAt coefficients }
+
+-- The filter that given words are.
+abbrev pub filterWith : FilterWords → Filter
+filterWith words = filterBy (words .gain) (words .order) (words .coefficients)
+
+-- The words of the filter of a pass.
+unfoldable pub filterWords : Pass → FilterWords
+filterWords pass =
+    record { gain = residue (pass .gain); order = pass .order; coefficients = map residue (pass .coefficients) }

@@ -1,0 +1,5 @@
+pub mod Buffer
+pub mod Written
+pub mod Filters
+pub mod Kernel
+pub mod Windows

@@ -1,0 +1,73 @@
+-- A pass over a window: a rectangle of a buffer of rows, its lines the columns or the rows.
+use mathlib.Core.Bool.{Bool, true, false}
+use mathlib.Core.List.{List}
+use Prim.Native.Nat.{ℕ, suc, _+_, _-_, _*_, _<_, _≤_}
+use Rattle.passes.specs.Filter.{Filter}
+use Rattle.passes.specs.Passes.{Axis, Direction, forward, backward, axisOf, directionOf, along, across, lineOf}
+use Rattle.filter.specs.declared.Lines.{Lines}
+use Rattle.filter.specs.declared.Window.{Window}
+use Rattle.filter.specs.Buffer.{wordAt}
+use Rattle.filter.specs.Kernel.{filterInPlace}
+
+-- Where the pixel of a row and a column lies in a buffer of rows of `stride` words.
+abbrev pub pixelPlace : ℕ → ℕ → ℕ → ℕ
+pixelPlace stride row column = row * stride + column
+
+-- Whether a direction is that of falling index.
+abbrev pub isBackward : Direction → Bool
+isBackward forward = false
+isBackward backward = true
+
+-- A number that counts in a forward pass alone,
+abbrev pub ifForward : Bool → ℕ → ℕ
+ifForward false x = x
+ifForward true x = 0
+
+-- and one that counts in a backward pass alone.
+abbrev pub ifBackward : Bool → ℕ → ℕ
+ifBackward false x = 0
+ifBackward true x = x
+
+-- The lines of a window, each with its q places of history first: in a forward pass they begin q places before the
+-- window's first pixel, in a backward pass q places past its last.
+abbrev pub windowLines : Axis → Direction → Window → ℕ → Lines
+windowLines a d W q =
+    record {
+      first =
+          (pixelPlace (W .stride) (W .top) (W .left)
+          + ifBackward (isBackward d) ((along a (W .height) (W .width) + q) - 1) * along a (W .stride) 1)
+          - ifForward (isBackward d) q * along a (W .stride) 1;
+      forth = ifForward (isBackward d) (along a (W .stride) 1);
+      back = ifBackward (isBackward d) (along a (W .stride) 1);
+      apart = across a (W .stride) 1;
+      count = across a (W .height) (W .width);
+    }
+
+-- The buffer after pass 0, 1, 2 or 3 (down, up, right, left) over a window.
+unfoldable pub windowPass : ℕ → Window → ℕ → Filter → List ℕ → List ℕ
+windowPass pass W q f =
+    filterInPlace (windowLines (axisOf pass) (directionOf pass) W q) f q (along (axisOf pass) (W .height) (W .width))
+
+-- The pixels of a window of a buffer, by row and column.
+abbrev pub windowOf : Window → List ℕ → ℕ → ℕ → ℕ
+windowOf W buffer y x = wordAt buffer (pixelPlace (W .stride) (W .top + y) (W .left + x))
+
+-- The index of the place that lies k + 1 places beyond n places from `start` on, on the side where a pass comes from.
+abbrev pub beyond : Direction → ℕ → ℕ → ℕ → ℕ
+beyond forward start n k = start - suc k
+beyond backward start n k = start + n + k
+
+-- The words beyond line l of a window, on the side where a pass comes from, nearest first.
+abbrev pub wordsBesideWindow : Axis → Direction → Window → List ℕ → ℕ → ℕ → ℕ
+wordsBesideWindow a d W buffer l k =
+    wordAt buffer
+    (lineOf a (pixelPlace (W .stride)) (across a (W .top) (W .left) + l)
+    (beyond d (along a (W .top) (W .left)) (along a (W .height) (W .width)) k))
+
+-- A window that is not empty lies in a buffer of n words, with q places of history beside it.
+pub record WindowFits (n : ℕ) (a : Axis) (d : Direction) (W : Window) (q : ℕ) : Type 0 where
+  pub tall : 0 < W .height
+  pub wide : 0 < W .width
+  pub start : ifForward (isBackward d) q ≤ along a (W .top) (W .left)
+  pub in-row : W .left + W .width + along a 0 (ifBackward (isBackward d) q) ≤ W .stride
+  pub in-buffer : (W .top + W .height + along a (ifBackward (isBackward d) q) 0) * W .stride ≤ n

@@ -1,0 +1,228 @@
+// The kernel of every pass: one recursive filter over the lines of a window of a buffer, in place.
+ghost use mathlib.Core.Path.{_≡_};
+ghost use Prim.Native.Nat.{_+_, _^_, _≤_, min};
+ghost use lib.ListN.{length};
+ghost use Rattle.plan.specs.Rules.{orderLimit};
+ghost use Rattle.passes.specs.Passes.{axisOf, directionOf, along, across};
+ghost use Rattle.passes.specs.Pixel.{pixel};
+ghost use Rattle.filter.specs.Filters.{filterBy, filterWith, filterWords};
+ghost use Rattle.filter.specs.Kernel.{outputAt, TapsFit, outputsAt, PlacesFit, filterInPlace, LinesFit};
+ghost use Rattle.filter.specs.Windows.{isBackward, ifForward, ifBackward, windowLines, windowPass, WindowFits};
+
+// A filter: the gain and the coefficients of a pass as residues modulo 2^64.
+pub struct FilterWords {
+    pub gain: u64,
+    pub order: usize,
+    pub coefficients: [u64; plan::ORDER_LIMIT],
+}
+
+// A rectangle of a buffer of rows of `stride` words.
+pub struct Window {
+    pub stride: usize,
+    pub top: usize,
+    pub left: usize,
+    pub height: usize,
+    pub width: usize,
+}
+
+// Lines in a buffer: the first begins at `first`, each other lies `apart` above the one before, and each place of a line
+// lies `forth` above the one before, or `back` below it.
+struct Lines {
+    first: usize,
+    forth: usize,
+    back: usize,
+    apart: usize,
+    count: usize,
+}
+
+// The word that a pixel enters the passes with.
+pub fn read_pixel(height: i32) -> u64
+    ensures { λ r. ⌜ r ≡ pixel height ⌝ }
+{
+    word::residue_of_height(height)
+}
+
+// The filter of a pass.
+pub fn filter_words(pass: plan::Pass) -> FilterWords
+    ensures { λ r. ⌜ r ≡ filterWords pass ⌝ }
+{
+    let mut coefficients = [0; plan::ORDER_LIMIT];
+    let mut place = 0;
+    while place < plan::ORDER_LIMIT {
+        coefficients[place] = word::residue(pass.coefficients[place]);
+        place += 1;
+    }
+    FilterWords {
+        gain: word::residue(pass.gain),
+        order: pass.order,
+        coefficients: coefficients,
+    }
+}
+
+// One output: the gain times the word at `place`, less the coefficients times the words before it. The count of taps is
+// fixed, so that the compiler writes them out; a tap past the order is a test that is never taken.
+fn output_at(
+    buffer: &[u64],
+    place: usize,
+    forth: usize,
+    back: usize,
+    gain: u64,
+    coefficients: &[u64; plan::ORDER_LIMIT],
+    order: usize,
+) -> u64
+    requires { ⌜ (order ≤ orderLimit) × TapsFit (length (now buffer)) place forth back order ⌝ }
+    ensures { λ r. ⌜ r ≡ outputAt (filterBy gain order (now (coefficients .entry))) forth back (now (buffer .entry)) place ⌝ }
+{
+    let mut sum = word::mul(gain, buffer[place]);
+    let mut tap = 0;
+    while tap < plan::ORDER_LIMIT {
+        let distance = tap + 1;
+        if distance <= order {
+            let before = place + distance * back - distance * forth;
+            sum = word::sub(sum, word::mul(coefficients[tap], buffer[before]));
+        }
+        tap = distance;
+    }
+    sum
+}
+
+// The outputs of many lines at one place. It stays a call: its independent sums hide the latency of the multiply.
+fn outputs_at_place(
+    buffer: &mut [u64],
+    place: usize,
+    forth: usize,
+    back: usize,
+    apart: usize,
+    lines: usize,
+    gain: u64,
+    coefficients: &[u64; plan::ORDER_LIMIT],
+    order: usize,
+)
+    requires { ⌜ (order ≤ orderLimit) × PlacesFit (length (now buffer)) place forth back apart lines order ⌝ }
+    ensures { λ _. ⌜ now (buffer .exit) ≡ outputsAt (filterBy gain order (now (coefficients .entry))) forth back apart place lines (now (buffer .entry)) ⌝ }
+{
+    let mut line = 0;
+    while line < lines {
+        let here = place + line * apart;
+        let output = output_at(buffer, here, forth, back, gain, coefficients, order);
+        buffer[here] = output;
+        line += 1;
+    }
+}
+
+// The lesser of two numbers.
+pub fn lesser(a: usize, b: usize) -> usize
+    ensures { λ r. ⌜ r ≡ min a b ⌝ }
+{
+    if a < b { a } else { b }
+}
+
+// The outputs of many lines at `places` places, after `history` places whose words are their history.
+fn filter_lines(
+    buffer: &mut [u64],
+    lines: Lines,
+    history: usize,
+    places: usize,
+    gain: u64,
+    coefficients: &[u64; plan::ORDER_LIMIT],
+    order: usize,
+)
+    requires { ⌜ (order ≤ orderLimit) × LinesFit (length (now buffer)) lines (history + places) ⌝ }
+    ensures { λ _. ⌜ now (buffer .exit) ≡ filterInPlace lines (filterBy gain order (now (coefficients .entry))) history places (now (buffer .entry)) ⌝ }
+{
+    let mut done = 0;
+    while done < places {
+        let time = history + done;
+        let place = lines.first + time * lines.forth - time * lines.back;
+        let taps = lesser(order, time);
+        outputs_at_place(
+            buffer,
+            place,
+            lines.forth,
+            lines.back,
+            lines.apart,
+            lines.count,
+            gain,
+            coefficients,
+            taps,
+        );
+        done += 1;
+    }
+}
+
+// Passes 0 down, 1 up, 2 right and 3 left: the first two run along columns,
+fn along(pass: usize, vertical: usize, horizontal: usize) -> usize
+    ensures { λ r. ⌜ r ≡ along (axisOf pass) vertical horizontal ⌝ }
+{
+    if pass < 2 { vertical } else { horizontal }
+}
+
+fn across(pass: usize, vertical: usize, horizontal: usize) -> usize
+    ensures { λ r. ⌜ r ≡ across (axisOf pass) vertical horizontal ⌝ }
+{
+    if pass < 2 { horizontal } else { vertical }
+}
+
+// and up and left run backward.
+fn is_backward(pass: usize) -> bool
+    ensures { λ r. ⌜ r ≡ isBackward (directionOf pass) ⌝ }
+{
+    pass % 2 == 1
+}
+
+fn if_forward(backward: bool, number: usize) -> usize
+    ensures { λ r. ⌜ r ≡ ifForward backward number ⌝ }
+{
+    if backward { 0 } else { number }
+}
+
+fn if_backward(backward: bool, number: usize) -> usize
+    ensures { λ r. ⌜ r ≡ ifBackward backward number ⌝ }
+{
+    if backward { number } else { 0 }
+}
+
+// The lines of a window along which a pass runs, each with its history first.
+fn window_lines(window: Window, pass: usize, history: usize) -> Lines
+    requires { ⌜ WindowFits (2 ^ 63) (axisOf pass) (directionOf pass) window history ⌝ }
+    ensures { λ r. ⌜ r ≡ windowLines (axisOf pass) (directionOf pass) window history ⌝ }
+{
+    let backward = is_backward(pass);
+    let step = along(pass, window.stride, 1);
+    let length = along(pass, window.height, window.width);
+    let corner = window.top * window.stride + window.left;
+    let past = if_backward(backward, length + history - 1) * step;
+    let before = if_forward(backward, history) * step;
+    Lines {
+        first: corner + past - before,
+        forth: if_forward(backward, step),
+        back: if_backward(backward, step),
+        apart: across(pass, window.stride, 1),
+        count: across(pass, window.height, window.width),
+    }
+}
+
+// Pass 0, 1, 2 or 3 (down, up, right, left) over a window, each line after `history` words of the buffer that stand
+// before it. A pass that changes nothing, of order 0 and gain 1, returns at once.
+pub fn run_pass(
+    buffer: &mut [u64],
+    window: Window,
+    pass: usize,
+    history: usize,
+    filter: FilterWords,
+)
+    requires { ⌜ (filter .order ≤ orderLimit) × WindowFits (length (now buffer)) (axisOf pass) (directionOf pass) window history ⌝ }
+    ensures { λ _. ⌜ now (buffer .exit) ≡ windowPass pass window history (filterWith filter) (now (buffer .entry)) ⌝ }
+{
+    let order = filter.order;
+    let gain = filter.gain;
+    if order == 0 {
+        if gain == 1 {
+            return;
+        }
+    }
+    let lines = window_lines(window, pass, history);
+    let places = along(pass, window.height, window.width);
+    let coefficients = filter.coefficients;
+    filter_lines(buffer, lines, history, places, gain, &coefficients, order);
+}
