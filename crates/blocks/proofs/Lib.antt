@@ -1,0 +1,9 @@
+pub mod Written
+pub mod RowMajor
+pub mod Geometry
+pub mod Grid
+pub mod Strips
+pub mod Output
+pub mod Reading
+pub mod Tasks
+pub mod Depends

@@ -1,0 +1,5 @@
+pub mod Geometry
+pub mod Written
+pub mod Strips
+pub mod Writes
+pub mod Matching
