@@ -1,0 +1,8 @@
+pub mod Sums
+pub mod Places
+pub mod Needs
+pub mod Counting
+pub mod Marking
+pub mod Verdicts
+pub mod Progress
+pub mod Bounds
