@@ -1,0 +1,4 @@
+pub mod Search
+pub mod Tallies
+pub mod Answers
+pub mod Claims

@@ -1,0 +1,59 @@
+-- The definition; the times and the area are small, so nothing wraps.
+use mathlib.Core.Path.{_∙_, ap, ap₂}
+use Prim.Native.Nat.{_*_, _+_, _≤_}
+use native.Mathlib.Omega.{arith}
+use borrow.Author.Needs.{needs}
+use Rattle.report.proofs.Tallies.{area-small, twice-small}
+use Rattle.report.specs.Tally.{tallyAt}
+use Rattle.tasks.proofs.Sums.{one-most}
+use Rattle.tasks.specs.Counts.{one}
+use Rattle.report.proofs.tally_at.Statement.{statement}
+use Rattle.report.proofs.tally_at.Tie as tie
+
+is-marked-requires : tie.Need-is-marked-requires
+is-marked-requires c κs = search needs
+
+one-if-requires : tie.Need-one-if-requires
+one-if-requires c κs = search needs
+
+is-marked-requires-2 : tie.Need-is-marked-requires-2
+is-marked-requires-2 c κs = search needs
+
+one-if-requires-2 : tie.Need-one-if-requires-2
+one-if-requires-2 c κs = search needs
+
+add-times : tie.Need-add-times
+add-times c =
+    let collected = one-most (c .before .before .before .is-marked .result) in
+    let finished = one-most (c .before .is-marked2 .result) in
+    omega (arith, c .before .before .one-if .ensures, c .one-if2 .ensures)
+
+block-area-requires : tie.Need-block-area-requires
+block-area-requires c κs = search needs
+
+mul-result : tie.Need-mul-result
+mul-result c =
+    let collected = one-most (c .before .before .before .before .is-marked .result) in
+    let finished = one-most (c .before .before .is-marked2 .result) in
+    let times : c .before .before .before .one-if .result + c .before .one-if2 .result ≤ 2 = omega (arith, c .before .before .before .one-if .ensures, c .before .one-if2 .ensures) in
+    omega (arith, twice-small times (area-small _ _ _ _ _ _ (c .before .before .before .before .before .before .pre .0) (c .block-area .ensures)))
+
+returns : tie.Need-returns
+unfolding tallyAt
+returns c =
+    let collected = c .before .before .before .one-if .ensures ∙ ap one (c .before .before .before .before .is-marked .ensures) in
+    let finished = c .before .one-if2 .ensures ∙ ap one (c .before .before .is-marked2 .ensures) in
+    ap₂ _*_ (ap₂ _+_ collected finished) (c .block-area .ensures)
+
+pub tally-at-spec : {M : Type 1} → statement M
+tally-at-spec =
+    tie.close
+    (tie.spec
+    is-marked-requires
+    one-if-requires
+    is-marked-requires-2
+    one-if-requires-2
+    add-times
+    block-area-requires
+    mul-result
+    returns)
