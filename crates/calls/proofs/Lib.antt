@@ -1,0 +1,5 @@
+pub mod Cover
+pub mod Tables
+pub mod Invariant
+pub mod Step
+pub mod Demand

@@ -1,0 +1,137 @@
+-- Start, the task call and a list of task calls: the exact answer, and the marks, strips and output after it.
+-- Document 01, 'Blocks, marks and strips' and 'Refused calls'.
+use mathlib.Core.Bool.{Bool, _||_, cond}
+use mathlib.Core.List.{List, [], _∷_}
+use Prim.Native.Nat.{ℕ, zero, suc, _+_, min}
+use lib.IntN.{ℤ}
+use lib.Dec.{ltb, eqb}
+use lib.ListN.{length, getD}
+use Rattle.refusal.specs.declared.Refusal.the-variants.{RecordBreaksRule, BufferTooShort}
+use Rattle.refusal.specs.declared.Outcome.{Outcome}
+use Rattle.refusal.specs.declared.Outcome.the-variants.{Accepted, Refused}
+use Rattle.plan.specs.declared.Plan.{Plan}
+use Rattle.plan.specs.Rules.{keepsRules}
+use Rattle.plan.specs.Sizes.{blockRows, blockColumns, neededMarks, neededStrips, neededPixels}
+use Rattle.tasks.specs.Tasks.{BlockTask, nothingDone}
+use Rattle.tasks.specs.Marks.{markOf, withBit}
+use Rattle.tasks.specs.Verdict.{verdict}
+use Rattle.blocks.specs.Written.{written}
+use Rattle.blocks.specs.Writes.{mapOf, collected, linked, finished}
+
+-- The lists that a job's calls write.
+pub record Buffers : Type 0 where
+  pub marks : List ℕ
+  pub strips : List ℕ
+  pub output : List ℕ
+
+-- Of two values, that of an accepted call or that of a refused one.
+abbrev pub ifAccepted : {A : Type 0} → Outcome → A → A → A
+ifAccepted Accepted accepted refused = accepted
+ifAccepted (Refused refusal) accepted refused = refused
+
+-- ---- start
+
+-- Start is lent marks and strips: 6 if the record breaks a rule, 7 if one of the two is too short.
+unfoldable pub startOutcome : Plan → List ℕ → List ℕ → Outcome
+startOutcome plan marks strips =
+    cond (keepsRules plan)
+    (cond (ltb (length marks) (neededMarks plan) || ltb (length strips) (neededStrips plan)) (Refused BufferTooShort)
+    Accepted)
+    (Refused RecordBreaksRule)
+
+-- Marks of which the first n are of kind 7 with no bit.
+unfoldable pub unmarked : ℕ → List ℕ → List ℕ
+unmarked n marks = written (λ k. k) (λ k. markOf nothingDone k) n marks
+
+-- Words of which the first n are 0.
+unfoldable pub cleared : ℕ → List ℕ → List ℕ
+cleared n words = written (λ q. q) (λ q. 0) n words
+
+-- The marks after a call of start: all needed marks are unmarked, or a refused call leaves them.
+unfoldable pub marksAfterStart : Plan → List ℕ → List ℕ → List ℕ
+marksAfterStart plan marks strips = ifAccepted (startOutcome plan marks strips) (unmarked (neededMarks plan) marks) marks
+
+-- The strips after a call of start: all needed strip words are 0, or a refused call leaves them.
+unfoldable pub stripsAfterStart : Plan → List ℕ → List ℕ → List ℕ
+stripsAfterStart plan marks strips =
+    ifAccepted (startOutcome plan marks strips) (cleared (neededStrips plan) strips) strips
+
+-- The lists of a job after its start: marks and strips as start leaves them, and the output untouched.
+unfoldable pub started : Plan → Buffers → Buffers
+started plan lent =
+    record {
+      marks = marksAfterStart plan (lent .marks) (lent .strips);
+      strips = stripsAfterStart plan (lent .marks) (lent .strips);
+      output = lent .output;
+    }
+
+-- ---- the task call
+
+-- A lent list is too short: all four are tested, also where the task doesn't read them.
+unfoldable pub tooShort : Plan → List ℤ → Buffers → Bool
+tooShort plan heights buffers =
+    ltb (length heights) (neededPixels plan)
+    || (ltb (length (buffers .marks)) (neededMarks plan)
+    || (ltb (length (buffers .strips)) (neededStrips plan) || ltb (length (buffers .output)) (neededPixels plan)))
+
+-- What a call of task t at block k answers: 6, 7, and then what the marks say.
+unfoldable pub taskOutcome : Plan → List ℤ → Buffers → ℕ → ℕ → Outcome
+taskOutcome plan heights buffers t k =
+    cond (keepsRules plan)
+    (cond (tooShort plan heights buffers) (Refused BufferTooShort)
+    (verdict (blockRows plan) (blockColumns plan) (buffers .marks) t k))
+    (Refused RecordBreaksRule)
+
+-- The strips after an accepted task: collect writes the block's slot, a link the strip of its pass, finish none.
+unfoldable pub stripsAfter : Plan → List ℤ → ℕ → ℕ → List ℕ → List ℕ
+stripsAfter plan heights zero k strips = collected plan (mapOf plan heights) k strips
+stripsAfter plan heights (suc pass) k strips = cond (ltb pass 4) (linked plan k pass strips) strips
+
+-- The output after an accepted task: finish writes the block's words, the others none.
+unfoldable pub outputAfter : Plan → List ℤ → ℕ → ℕ → List ℕ → List ℕ → List ℕ
+outputAfter plan heights t k strips output =
+    cond (eqb t 5) (finished plan (mapOf plan heights) strips k output) output
+
+-- An accepted task sets its bit and writes its place.
+unfoldable pub performed : Plan → List ℤ → ℕ → ℕ → Buffers → Buffers
+performed plan heights t k buffers =
+    record {
+      marks = withBit (buffers .marks) t k;
+      strips = stripsAfter plan heights t k (buffers .strips);
+      output = outputAfter plan heights t k (buffers .strips) (buffers .output);
+    }
+
+-- The lists after a call of task t at block k: a refused call leaves all as it was.
+unfoldable pub afterTask : Plan → List ℤ → ℕ → ℕ → Buffers → Buffers
+afterTask plan heights t k buffers =
+    ifAccepted (taskOutcome plan heights buffers t k) (performed plan heights t k buffers) buffers
+
+-- ---- a list of task calls, one after another
+
+-- The lists after the calls.
+unfoldable pub afterCalls : Plan → List ℤ → List BlockTask → Buffers → Buffers
+afterCalls plan heights [] buffers = buffers
+afterCalls plan heights (call ∷ calls) buffers =
+    afterCalls plan heights calls (afterTask plan heights (call .task) (call .block) buffers)
+
+-- The answer of each call.
+unfoldable pub outcomesOf : Plan → List ℤ → List BlockTask → Buffers → List Outcome
+outcomesOf plan heights [] buffers = []
+outcomesOf plan heights (call ∷ calls) buffers =
+    taskOutcome plan heights buffers (call .task) (call .block)
+    ∷ outcomesOf plan heights calls (afterTask plan heights (call .task) (call .block) buffers)
+
+-- The number of accepted calls among the answers.
+unfoldable pub acceptedCount : List Outcome → ℕ
+acceptedCount [] = 0
+acceptedCount (outcome ∷ outcomes) = ifAccepted outcome 1 0 + acceptedCount outcomes
+
+-- The n calls from number i on, where call i is of the task number i of one list at the block number i of another.
+unfoldable pub callsFrom : List ℕ → List ℕ → ℕ → ℕ → List BlockTask
+callsFrom tasks blocks i zero = []
+callsFrom tasks blocks i (suc n) =
+    record { task = getD tasks i 0; block = getD blocks i 0 } ∷ callsFrom tasks blocks (suc i) n
+
+-- The calls of two lists, as many as the shorter has.
+abbrev pub callsOf : List ℕ → List ℕ → List BlockTask
+callsOf tasks blocks = callsFrom tasks blocks 0 (min (length tasks) (length blocks))
