@@ -1,0 +1,4 @@
+pub mod Passes
+pub mod Positions
+pub mod Slots
+pub mod Reading
