@@ -1,0 +1,4 @@
+pub mod LinePasses
+pub mod Response
+pub mod Lines
+pub mod Units

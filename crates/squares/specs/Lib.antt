@@ -1,0 +1,2 @@
+pub mod LinePasses
+pub mod Lines

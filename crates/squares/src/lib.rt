@@ -1,0 +1,123 @@
+// Passes along single lines, and the squares of the links: how a history moves across a line of zeros.
+use filter::FilterWords;
+use filter::Window;
+ghost use mathlib.Core.Path.{_≡_};
+ghost use mathlib.Core.List.{[]};
+ghost use Prim.Native.Nat.{ℕ, _+_, _*_, _<_, _≤_};
+ghost use lib.ListN.{length, getD};
+ghost use Rattle.plan.specs.Rules.{orderLimit};
+ghost use Rattle.passes.specs.Passes.{directionOf};
+ghost use Rattle.filter.specs.Buffer.{wordAt};
+ghost use Rattle.filter.specs.Windows.{beyond};
+ghost use Rattle.squares.specs.Lines.{rowWords, bufferWords, filterAt, OrdersFit, linesPassed, unitLines, LinesFit, SquareFits, Square};
+
+// The words of a row of lines: the longest line, and a history at both ends.
+pub const ROW: usize = 32 + 2 * plan::ORDER_LIMIT;
+
+// The words of a buffer of lines: a row for each place of a history.
+pub const BUFFER: usize = plan::ORDER_LIMIT * ROW;
+
+// The index, from the start of a margin of ORDER_LIMIT places on, of the place at a distance past an extent, on the side
+// where a pass comes from.
+pub fn margin(pass: usize, extent: usize, distance: usize) -> usize
+    requires { ⌜ (extent ≤ 32) × (distance < orderLimit) ⌝ }
+    ensures { λ r. ⌜ r ≡ beyond (directionOf pass) orderLimit extent distance ⌝ }
+{
+    if pass % 2 == 0 {
+        plan::ORDER_LIMIT - 1 - distance
+    } else {
+        plan::ORDER_LIMIT + extent + distance
+    }
+}
+
+// The passes from `first` on, `count` of them, along the lines of the first `rows` rows of a buffer.
+pub fn run_lines(
+    lines: &mut [u64],
+    rows: usize,
+    places: usize,
+    filters: [FilterWords; 4],
+    first: usize,
+    count: usize,
+)
+    requires { ⌜ LinesFit (length (now lines)) (filterAt filters) rows places first count ⌝ }
+    ensures { λ _. ⌜ now (lines .exit) ≡ linesPassed (filterAt filters) rows places first count (now (lines .entry)) ⌝ }
+{
+    let mut done = 0;
+    while done < count {
+        let pass = first + done;
+        let filter = filters[pass];
+        let window = Window {
+            stride: ROW,
+            top: 0,
+            left: plan::ORDER_LIMIT,
+            height: rows,
+            width: places,
+        };
+        filter::run_pass(lines, window, 2 + pass % 2, plan::ORDER_LIMIT, filter);
+        done += 1;
+    }
+}
+
+// Puts the unit history j beside line j, for each j below the order.
+fn unit_lines(lines: &mut [u64], pass: usize, places: usize, order: usize)
+    requires { ⌜ (order ≤ orderLimit) × ((places ≤ 32) × (bufferWords ≤ length (now lines))) ⌝ }
+    ensures { λ _. ⌜ now (lines .exit) ≡ unitLines (directionOf pass) places order (now (lines .entry)) ⌝ }
+{
+    let mut line = 0;
+    while line < order {
+        let column = margin(pass, places, line);
+        lines[line * ROW + column] = 1;
+        line += 1;
+    }
+}
+
+// What each line has in a column.
+fn square_row(lines: &[u64], column: usize) -> [u64; plan::ORDER_LIMIT]
+    requires { ⌜ (column < rowWords) × (bufferWords ≤ length (now lines)) ⌝ }
+    ensures { λ r. ⌜ ((line : ℕ) → line < orderLimit → wordAt r line ≡ wordAt (now (lines .entry)) (line * rowWords + column)) ⌝ }
+{
+    let mut row = [0; plan::ORDER_LIMIT];
+    let mut line = 0;
+    while line < plan::ORDER_LIMIT {
+        row[line] = lines[line * ROW + column];
+        line += 1;
+    }
+    row
+}
+
+// What each line has in the columns from `from` on.
+fn square_from(lines: &[u64], from: usize) -> [[u64; plan::ORDER_LIMIT]; plan::ORDER_LIMIT]
+    requires { ⌜ (from + orderLimit ≤ rowWords) × (bufferWords ≤ length (now lines)) ⌝ }
+    ensures { λ r. ⌜ ((place line : ℕ) → place < orderLimit → line < orderLimit → wordAt (getD r place []) line ≡ wordAt (now (lines .entry)) (line * rowWords + (from + place))) ⌝ }
+{
+    let mut square = [[0; plan::ORDER_LIMIT]; plan::ORDER_LIMIT];
+    let mut place = 0;
+    while place < plan::ORDER_LIMIT {
+        square[place] = square_row(lines, from + place);
+        place += 1;
+    }
+    square
+}
+
+// The square of a pass: what the places of its history count, after this pass and those up to `count` from it on, at the
+// places of a line from column `from` on.
+pub fn link_square(
+    filters: [FilterWords; 4],
+    places: usize,
+    from: usize,
+    pass: usize,
+    count: usize,
+) -> [[u64; plan::ORDER_LIMIT]; plan::ORDER_LIMIT]
+    requires { ⌜ SquareFits (filterAt filters) places from pass count ⌝ }
+    ensures { λ r. ⌜ Square (filterAt filters) places from pass count r ⌝ }
+{
+    let filter = filters[pass];
+    let order = filter.order;
+    if order == 0 {
+        return [[0; plan::ORDER_LIMIT]; plan::ORDER_LIMIT];
+    }
+    let mut lines = [0; BUFFER];
+    unit_lines(&mut lines, pass, places, order);
+    run_lines(&mut lines, order, places, filters, pass, count);
+    square_from(&lines, from)
+}
