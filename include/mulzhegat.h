@@ -1,0 +1,138 @@
+/* mulzhegat.h: block-wise recursive filters and summed-area tables for height maps.
+ *
+ * A map has rows x columns heights, row after row. Four passes run over it, one after the other: down, up, right, left.
+ * Each has a gain g, an order r from 0 to 4 and coefficients d1 to dr, and subtracts its own earlier outputs:
+ *
+ *     y[i] = g * x[i] - d1 * y[i-1] - ... - dr * y[i-r]
+ *
+ * Outputs outside the map count as 0, and all words are taken modulo 2^64. The passes run over the whole map in one call
+ * (mzg_serial), or block by block in any order that respects the needs of the tasks (mzg_start, mzg_task, mzg_report).
+ *
+ * Answers. Every function answers 0 where the call is accepted, else number * 2^32 + place:
+ *
+ *     answer >> 32          number   cause                                                     answer & 0xFFFFFFFF
+ *                              1     plan words end too early                                number of words
+ *                              2     another kind of word is due here                        place of the word
+ *                              3     payload or order out of range, or wrong pass            place of the word
+ *                              4     the block side is below an order                        1
+ *                              5     words after the end word                                place of the first
+ *                              6     the plan record breaks a rule (see mzg_plan)            0
+ *                              7     a lent buffer is too short                              0
+ *                              8     no such block, or the block has no such task            0
+ *                              9     a mark looked at has a wrong kind or a spare bit        the least such block
+ *                             10     the task is already marked                              0
+ *                             11     a need of the task is not marked yet                    0
+ *                             12     top >= bottom, left >= right, bottom > rows
+ *                                    or right > columns                                      0
+ *
+ * Where several causes hold, a plan reader's call is refused by the first of 1, 2, 3 from left to right (2 before 3 at one
+ * word), then 5, then 4; every other call by the least number.
+ *
+ * Buffers. A buffer is lent as a pointer and its length in words; words past the needed length are never altered. A refused
+ * call leaves every lent buffer as it was. What a call answers beside its number (plan, sizes, progress, sum) is written
+ * whole on every call: all zeros beside a refusal. Pointers must not be null and buffers must not overlap; where no strip
+ * word is needed (all orders 0), lend the address of any word with length 0.
+ *
+ * The functions keep no state between calls. Calls that share no buffer that one of them writes may run at the same time.
+ */
+#ifndef MULZHEGAT_H
+#define MULZHEGAT_H
+
+#include <stddef.h>
+#include <stdint.h>
+
+#ifdef __cplusplus
+extern "C" {
+#endif
+
+/* A plan record: 27 words of 64 bits, in this order. The rules:
+ *   rows, columns            1 to 4,096
+ *   side                     1 to 32, at least the largest order; the block side b
+ *   passes                   down, up, right, left
+ *   order                    0 to 4; order 0 is multiplication by the gain
+ *   gain, coefficients       -134217728 to 134217727 (signed 28 bits)
+ *   coefficients             d1 to d4; the places past the order are 0
+ * A summed-area table has order 1, gain 1, coefficient -1 for down and right, and order 0, gain 1 for up and left. */
+typedef struct {
+    int64_t rows, columns, side;
+    struct { int64_t order, gain, coefficients[4]; } passes[4];
+} mzg_plan;
+
+/* The lengths that a plan needs. */
+typedef struct {
+    uint64_t words;          /* plan words that mzg_plan_write writes, 11 to 27 */
+    uint64_t block_rows;     /* M: rows / side, rounded up */
+    uint64_t block_columns;  /* N: columns / side, rounded up */
+    uint64_t marks;          /* M * N */
+    uint64_t strips;         /* M * N * side * (sum of the four orders) */
+    uint64_t pixels;         /* rows * columns: the length of map, output and table */
+    uint64_t tasks;          /* all tasks of a job: 6 * M * N - 2 * M - 2 * N */
+} mzg_sizes;
+
+/* How far a job is. */
+typedef struct {
+    uint64_t marked;         /* tasks done */
+    uint64_t tally;          /* pixels collected plus pixels finished */
+    uint64_t ready;          /* 1 if task and block name a ready task, 0 if none is ready */
+    uint64_t task, block;    /* the ready task with the least number, then the least block; 0 and 0 if none */
+} mzg_progress;
+
+/* Reads a plan from 11 to 27 words. The top four bits of a word are its kind, the low 28 its payload:
+ *   1 size          rows in bits 13 to 25, columns in bits 0 to 12
+ *   2 block         the block side
+ *   3 pass          order in bits 0 to 3, pass in bits 4 and 5 (0 down, 1 up, 2 right, 3 left)
+ *   4 gain          signed 28 bits, two's complement
+ *   5 coefficient   as gain, one word for each of d1 to dr
+ *   6 end           0
+ * in this order, with 3, 4 and 5 repeated for the four passes; all other bits are zero.
+ * Refused: 1, 2, 3, 5, 4; the record is then all zeros. */
+uint64_t mzg_plan_read(const uint32_t *words, size_t words_len, mzg_plan *plan);
+
+/* Writes the words of a plan. Needs sizes.words words. Refused: 6, 7. */
+uint64_t mzg_plan_write(const mzg_plan *plan, uint32_t *words, size_t words_len);
+
+/* Gives the lengths that the plan needs. Refused: 6; the sizes are then all zeros. */
+uint64_t mzg_plan_sizes(const mzg_plan *plan, mzg_sizes *sizes);
+
+/* Starts a job: the needed marks become 0x70000000 (kind 7, nothing done) and the needed strip words 0.
+ * Needs sizes.marks marks and sizes.strips strip words. Refused: 6, 7. */
+uint64_t mzg_start(const mzg_plan *plan, uint32_t *marks, size_t marks_len, uint64_t *strips, size_t strips_len);
+
+/* Performs one task on one block. Blocks are numbered row by row: block = m * N + n, with m < M and n < N. The tasks:
+ *
+ *     task           exists       needs done before
+ *     0 collect      always       nothing
+ *     1 down link    m < M - 1    own 0; 1 of above
+ *     2 up link      m > 0        own 0; 1 of above, 2 of below
+ *     3 right link   n < N - 1    own 0; 1 of above, 2 of below, 3 of left
+ *     4 left link    n > 0        own 0; 1 of above, 2 of below, 3 of left, 4 of right
+ *     5 finish       always       own 0; 1 of above, 2 of below, 3 of left, 4 of right
+ *
+ * A need on a neighbour beyond the map falls away. Collect and the links write in the block's slot of the strips, finish
+ * writes the block's output words; an accepted task also sets bit `task` of the block's mark, and nothing else changes.
+ * When all tasks are done, the output is that of mzg_serial.
+ * Needs, for every task: sizes.pixels map and output words, sizes.marks marks, sizes.strips strip words.
+ * Refused: 6, 7, 8, 9 (the marks of the block and of the neighbours in its needs are looked at), 10, 11. After 11 the same
+ * call is accepted later, once the needs are done. */
+uint64_t mzg_task(const mzg_plan *plan, size_t task, size_t block, const int32_t *map, size_t map_len,
+                  uint32_t *marks, size_t marks_len, uint64_t *strips, size_t strips_len,
+                  uint64_t *output, size_t output_len);
+
+/* Reports how far a job is and names a ready task: one that exists, is not marked and has all its needs marked.
+ * Needs sizes.marks marks and looks at all of them. Refused: 6, 7, 9; the progress is then all zeros. */
+uint64_t mzg_report(const mzg_plan *plan, const uint32_t *marks, size_t marks_len, mzg_progress *progress);
+
+/* Runs the four passes over the whole map. Needs sizes.pixels map and output words. Refused: 6, 7. */
+uint64_t mzg_serial(const mzg_plan *plan, const int32_t *map, size_t map_len, uint64_t *output, size_t output_len);
+
+/* Gives the sum over rows top to bottom - 1 and columns left to right - 1 from a finished summed-area table, modulo 2^64:
+ * S(bottom-1, right-1) - S(top-1, right-1) - S(bottom-1, left-1) + S(top-1, left-1), a row or column of -1 counting as 0.
+ * Needs sizes.pixels table words. Refused: 6, 7, 12; the sum is then 0. */
+uint64_t mzg_rectangle(const mzg_plan *plan, size_t top, size_t left, size_t bottom, size_t right,
+                       const uint64_t *table, size_t table_len, uint64_t *sum);
+
+#ifdef __cplusplus
+}
+#endif
+
+#endif
