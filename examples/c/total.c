@@ -1,0 +1,141 @@
+/* Sums the heights in a rectangle of a map through a summed-area table that is made block by block.
+ *
+ * Build and run, from the root of the repository, with target/staticlib/libmulzhegat.a there:
+ *
+ *     gcc -std=c99 -O2 -Wall -Wextra -Werror -Iinclude examples/c/total.c -o target/total target/staticlib/libmulzhegat.a
+ *     target/total
+ *
+ * Its output is examples/c/expected.txt. */
+#include <inttypes.h>
+#include <stdio.h>
+#include <stdlib.h>
+
+#include "mulzhegat.h"
+
+/* 5 rows, 7 columns, blocks of side 2; down and right add up (order 1, gain 1, d1 = -1), up and left change nothing. */
+static const uint32_t plan_words[] = {
+    0x1000A007,                         /* size: 5 in bits 13 to 25, 7 in bits 0 to 12 */
+    0x20000002,                         /* block side */
+    0x30000001, 0x40000001, 0x5FFFFFFF, /* down: order 1, gain 1, d1 = -1 in 28 bits */
+    0x30000010, 0x40000001,             /* up: order 0, gain 1 */
+    0x30000021, 0x40000001, 0x5FFFFFFF, /* right, as down */
+    0x30000030, 0x40000001,             /* left, as up */
+    0x60000000                          /* end */
+};
+
+static const int32_t map[5 * 7] = {
+     3, -1,  4,  1, -5,  9,  2,
+     6,  5, -3,  5,  8, -9,  7,
+    -9,  3,  2,  3,  8,  4, -6,
+     2,  6,  4, -3,  3,  8,  3,
+     2, -7,  9,  5,  0,  2, -8
+};
+
+enum { REFUSED_NO_SUCH_TASK = 8, REFUSED_NEED_UNMARKED = 11 };
+
+/* Ends the program where a call that should be accepted is refused. */
+static void accept(const char *call, uint64_t answer)
+{
+    if (answer != 0) {
+        fprintf(stderr, "%s: refused %" PRIu64 " at %" PRIu64 "\n", call, answer >> 32, answer & 0xFFFFFFFF);
+        exit(1);
+    }
+}
+
+/* Lends at least one word, so that the pointer is never null. */
+static void *allocate(uint64_t words, size_t word_size)
+{
+    void *buffer = calloc(words > 0 ? (size_t)words : 1, word_size);
+    if (buffer == NULL) {
+        fprintf(stderr, "out of memory\n");
+        exit(1);
+    }
+    return buffer;
+}
+
+/* A linear congruential generator: the same shuffle on every machine. */
+static size_t random_below(size_t limit)
+{
+    static uint64_t state = 1;
+    state = state * 6364136223846793005u + 1442695040888963407u;
+    return (size_t)((state >> 33) % limit);
+}
+
+static void shuffle(size_t *list, size_t length)
+{
+    for (size_t i = length; i > 1; i--) {
+        size_t j = random_below(i);
+        size_t kept = list[i - 1];
+        list[i - 1] = list[j];
+        list[j] = kept;
+    }
+}
+
+int main(void)
+{
+    /* The plan, and the lengths that it needs. */
+    mzg_plan plan;
+    mzg_sizes sizes;
+    accept("plan_read", mzg_plan_read(plan_words, sizeof plan_words / sizeof plan_words[0], &plan));
+    accept("plan_sizes", mzg_plan_sizes(&plan, &sizes));
+    printf("%" PRId64 " rows, %" PRId64 " columns, side %" PRId64 ": %" PRIu64 " blocks, %" PRIu64 " tasks\n",
+           plan.rows, plan.columns, plan.side, sizes.marks, sizes.tasks);
+
+    /* The buffers. Start writes marks and strips; finish writes every word of the output. */
+    uint32_t *marks = allocate(sizes.marks, sizeof *marks);
+    uint64_t *strips = allocate(sizes.strips, sizeof *strips);
+    uint64_t *output = allocate(sizes.pixels, sizeof *output);
+    accept("start", mzg_start(&plan, marks, (size_t)sizes.marks, strips, (size_t)sizes.strips));
+
+    /* All pairs of a task and a block, shuffled, each as 6 * block + task. */
+    size_t waiting = 6 * (size_t)sizes.marks;
+    size_t *pairs = allocate(waiting, sizeof *pairs);
+    for (size_t i = 0; i < waiting; i++)
+        pairs[i] = i;
+    shuffle(pairs, waiting);
+
+    /* Round after round over the pairs that are left: refused 11 means try again in the next round, refused 8 that the
+     * block has no such task. The report names none once all tasks are done. */
+    unsigned rounds = 0, early = 0;
+    mzg_progress progress;
+    accept("report", mzg_report(&plan, marks, (size_t)sizes.marks, &progress));
+    while (progress.ready) {
+        size_t left = 0;
+        for (size_t i = 0; i < waiting; i++) {
+            uint64_t answer = mzg_task(&plan, pairs[i] % 6, pairs[i] / 6, map, sizeof map / sizeof map[0],
+                                       marks, (size_t)sizes.marks, strips, (size_t)sizes.strips,
+                                       output, (size_t)sizes.pixels);
+            if (answer >> 32 == REFUSED_NEED_UNMARKED) {
+                pairs[left++] = pairs[i];
+                early++;
+            } else if (answer >> 32 != REFUSED_NO_SUCH_TASK) {
+                accept("task", answer);
+            }
+        }
+        waiting = left;
+        rounds++;
+        accept("report", mzg_report(&plan, marks, (size_t)sizes.marks, &progress));
+    }
+    printf("%" PRIu64 " tasks done in %u rounds, %u calls came too early, tally %" PRIu64 "\n",
+           progress.marked, rounds, early, progress.tally);
+
+    /* The total over rows 1 to 3 and columns 2 to 5, and the same heights added one by one. Totals are modulo 2^64, so
+     * read as signed they show negative ones too. */
+    uint64_t total;
+    accept("rectangle", mzg_rectangle(&plan, 1, 2, 4, 6, output, (size_t)sizes.pixels, &total));
+    int64_t added = 0;
+    for (size_t row = 1; row < 4; row++)
+        for (size_t column = 2; column < 6; column++)
+            added += map[row * 7 + column];
+    printf("total %" PRId64 ", added one by one %" PRId64 "\n", (int64_t)total, added);
+
+    /* A refused call says why: this rectangle has no rows. */
+    uint64_t answer = mzg_rectangle(&plan, 2, 2, 2, 6, output, (size_t)sizes.pixels, &total);
+    printf("an empty rectangle: refused %" PRIu64 " at %" PRIu64 "\n", answer >> 32, answer & 0xFFFFFFFF);
+
+    free(pairs);
+    free(output);
+    free(strips);
+    free(marks);
+    return 0;
+}

@@ -1,0 +1,83 @@
+//! Jobs: start, tasks, report.
+
+use crate::{Plan, Progress, Refusal};
+
+extern "C" {
+    fn mzg_start(plan: *const Plan, marks: *mut u32, marks_len: usize, strips: *mut u64, strips_len: usize) -> u64;
+    fn mzg_task(
+        plan: *const Plan,
+        task: usize,
+        block: usize,
+        map: *const i32,
+        map_len: usize,
+        marks: *mut u32,
+        marks_len: usize,
+        strips: *mut u64,
+        strips_len: usize,
+        output: *mut u64,
+        output_len: usize,
+    ) -> u64;
+    fn mzg_report(plan: *const Plan, marks: *const u32, marks_len: usize, progress: *mut Progress) -> u64;
+}
+
+/// Starts a job: no task is marked, and the strips are 0.
+pub fn start(plan: &Plan, marks: &mut [u32], strips: &mut [u64]) -> Result<(), Refusal> {
+    // SAFETY: the record is readable and both slices are writable for their lengths.
+    Refusal::check(unsafe { mzg_start(plan, marks.as_mut_ptr(), marks.len(), strips.as_mut_ptr(), strips.len()) })
+}
+
+/// Performs one task on one block.
+///
+/// ```
+/// use mulzhegat::{job, plan, Plan};
+/// let plan = Plan::summed(2, 3, 2);
+/// let sizes = plan::sizes(&plan).unwrap();
+/// let mut marks = vec![0; sizes.marks as usize];
+/// let mut strips = vec![0; sizes.strips as usize];
+/// let mut output = vec![0; sizes.pixels as usize];
+/// job::start(&plan, &mut marks, &mut strips).unwrap();
+/// while let Some((task, block)) = job::report(&plan, &marks).unwrap().ready_task() {
+///     job::perform(&plan, task.number(), block, &[1, 2, 3, 4, 5, 6], &mut marks, &mut strips, &mut output).unwrap();
+/// }
+/// assert_eq!(output, [1, 3, 6, 5, 12, 21]);
+/// ```
+pub fn perform(
+    plan: &Plan,
+    task: usize,
+    block: usize,
+    map: &[i32],
+    marks: &mut [u32],
+    strips: &mut [u64],
+    output: &mut [u64],
+) -> Result<(), Refusal> {
+    // SAFETY: the record and the map are readable and the other slices are writable, each for its length; they do not
+    // overlap, since three of them are borrowed mutably.
+    Refusal::check(unsafe {
+        mzg_task(
+            plan,
+            task,
+            block,
+            map.as_ptr(),
+            map.len(),
+            marks.as_mut_ptr(),
+            marks.len(),
+            strips.as_mut_ptr(),
+            strips.len(),
+            output.as_mut_ptr(),
+            output.len(),
+        )
+    })
+}
+
+/// Reports how far a job is and names a ready task, or none.
+pub fn report(plan: &Plan, marks: &[u32]) -> Result<Progress, Refusal> {
+    let mut progress = Progress::default();
+    report_into(plan, marks, &mut progress)?;
+    Ok(progress)
+}
+
+/// Reports in a record, which is all zeros beside a refusal.
+pub fn report_into(plan: &Plan, marks: &[u32], progress: &mut Progress) -> Result<(), Refusal> {
+    // SAFETY: the record and the marks are readable, the marks for their length, and the progress is writable.
+    Refusal::check(unsafe { mzg_report(plan, marks.as_ptr(), marks.len(), progress) })
+}

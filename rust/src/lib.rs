@@ -1,0 +1,26 @@
+//! Safe calls into `libmulzhegat.a`, a verified library that runs recursive filters over height maps block by block.
+//!
+//! - [`plan`]: plan words to a plan record and back, and the buffer lengths that a plan needs.
+//! - [`serial`] (feature `serial`): the four passes over a whole map, and the sum over a rectangle of a summed-area table.
+//! - [`job`] (feature `job`): start a job, perform its tasks in any order that respects their needs, report progress.
+//!
+//! Slices go in and `Result<_, Refusal>` comes out. A refused call leaves every lent slice as it was; words past the needed
+//! length are never altered. `include/mulzhegat.h` has the same calls for C.
+//!
+//! Two modules do not call the library and serve its tests: [`reference`](mod@reference) is a second serial program, and
+//! [`model`] a slow model of all calls. Both are written from the paper that defines the calls, not from the library.
+
+pub mod model;
+pub mod plan;
+pub mod random;
+pub mod reference;
+mod refusal;
+mod types;
+
+#[cfg(feature = "job")]
+pub mod job;
+#[cfg(feature = "serial")]
+pub mod serial;
+
+pub use refusal::Refusal;
+pub use types::{Pass, Plan, Progress, Sizes, Task, DOWN, LEFT, MAX_ORDER, RIGHT, UP};

@@ -1,0 +1,121 @@
+//! The refusals of all calls, with their numbers and places.
+
+use std::fmt;
+
+/// Why a call was refused.
+#[derive(Clone, Copy, Debug, PartialEq, Eq)]
+pub enum Refusal {
+    /// 1: plan words end too early; the number of words.
+    WordsEnd(u32),
+    /// 2: another kind is due at this word.
+    OtherKindDue(u32),
+    /// 3: payload or order out of range, or wrong pass, at this word.
+    OutOfRange(u32),
+    /// 4, at place 1: the block side is below an order.
+    SideBelowOrder,
+    /// 5: words after the end word; the first of them.
+    WordsAfterEnd(u32),
+    /// 6: the plan record breaks a rule.
+    BrokenRecord,
+    /// 7: a lent buffer is too short.
+    ShortBuffer,
+    /// 8: no such block or task there.
+    NoSuchTask,
+    /// 9: a mark looked at has a wrong kind or a spare bit; the least such block.
+    ForeignMark(u32),
+    /// 10: the task is already marked.
+    AlreadyMarked,
+    /// 11: a need is unmarked.
+    NeedUnmarked,
+    /// 12: the rectangle is empty or leaves the map.
+    BadRectangle,
+    /// An answer with a number, or a place beside its number, that no call gives.
+    Unknown(u64),
+}
+
+impl Refusal {
+    /// Reads an answer of the library: 0, or number * 2^32 + place.
+    pub fn check(answer: u64) -> Result<(), Refusal> {
+        let place = answer as u32;
+        Err(match (answer >> 32, place) {
+            (0, 0) => return Ok(()),
+            (1, _) => Refusal::WordsEnd(place),
+            (2, _) => Refusal::OtherKindDue(place),
+            (3, _) => Refusal::OutOfRange(place),
+            (4, 1) => Refusal::SideBelowOrder,
+            (5, _) => Refusal::WordsAfterEnd(place),
+            (6, 0) => Refusal::BrokenRecord,
+            (7, 0) => Refusal::ShortBuffer,
+            (8, 0) => Refusal::NoSuchTask,
+            (9, _) => Refusal::ForeignMark(place),
+            (10, 0) => Refusal::AlreadyMarked,
+            (11, 0) => Refusal::NeedUnmarked,
+            (12, 0) => Refusal::BadRectangle,
+            _ => Refusal::Unknown(answer),
+        })
+    }
+
+    /// The number of the cause, 1 to 12.
+    pub fn number(self) -> u32 {
+        match self {
+            Refusal::WordsEnd(_) => 1,
+            Refusal::OtherKindDue(_) => 2,
+            Refusal::OutOfRange(_) => 3,
+            Refusal::SideBelowOrder => 4,
+            Refusal::WordsAfterEnd(_) => 5,
+            Refusal::BrokenRecord => 6,
+            Refusal::ShortBuffer => 7,
+            Refusal::NoSuchTask => 8,
+            Refusal::ForeignMark(_) => 9,
+            Refusal::AlreadyMarked => 10,
+            Refusal::NeedUnmarked => 11,
+            Refusal::BadRectangle => 12,
+            Refusal::Unknown(answer) => (answer >> 32) as u32,
+        }
+    }
+
+    /// The place beside the number.
+    pub fn place(self) -> u32 {
+        match self {
+            Refusal::WordsEnd(place)
+            | Refusal::OtherKindDue(place)
+            | Refusal::OutOfRange(place)
+            | Refusal::WordsAfterEnd(place)
+            | Refusal::ForeignMark(place) => place,
+            Refusal::SideBelowOrder => 1,
+            Refusal::Unknown(answer) => answer as u32,
+            _ => 0,
+        }
+    }
+}
+
+impl fmt::Display for Refusal {
+    fn fmt(&self, f: &mut fmt::Formatter<'_>) -> fmt::Result {
+        write!(f, "refused {} at {}", self.number(), self.place())
+    }
+}
+
+impl std::error::Error for Refusal {}
+
+#[cfg(test)]
+mod tests {
+    use super::Refusal;
+
+    #[test]
+    fn answers_are_read_and_written_back() {
+        assert_eq!(Refusal::check(0), Ok(()));
+        for number in 0..15u64 {
+            for place in [0u64, 1, 2, 4096, u64::from(u32::MAX)] {
+                let answer = number << 32 | place;
+                if answer == 0 {
+                    continue;
+                }
+                let refusal = Refusal::check(answer).expect_err("only 0 is accepted");
+                assert_eq!(u64::from(refusal.number()) << 32 | u64::from(refusal.place()), answer);
+                let place_is_free = matches!(number, 1 | 2 | 3 | 5 | 9);
+                let known = (1..=12).contains(&number) && (place_is_free || place == u64::from(number == 4));
+                assert_eq!(refusal == Refusal::Unknown(answer), !known, "{refusal}");
+            }
+        }
+    }
+}

@@ -1,0 +1,64 @@
+//! The four passes over a whole map, and sums over rectangles.
+
+use crate::{Plan, Refusal};
+
+extern "C" {
+    fn mzg_serial(plan: *const Plan, map: *const i32, map_len: usize, output: *mut u64, output_len: usize) -> u64;
+    fn mzg_rectangle(
+        plan: *const Plan,
+        top: usize,
+        left: usize,
+        bottom: usize,
+        right: usize,
+        table: *const u64,
+        table_len: usize,
+        sum: *mut u64,
+    ) -> u64;
+}
+
+/// Runs the four passes over the whole map. Map and output need rows * columns words.
+///
+/// ```
+/// use mulzhegat::{serial, Plan};
+/// let mut output = [0; 6];
+/// serial::run(&Plan::summed(2, 3, 2), &[1, 2, 3, 4, 5, 6], &mut output).unwrap();
+/// assert_eq!(output, [1, 3, 6, 5, 12, 21]);
+/// ```
+pub fn run(plan: &Plan, map: &[i32], output: &mut [u64]) -> Result<(), Refusal> {
+    // SAFETY: the record and the map are readable, the output is writable, each for its length.
+    Refusal::check(unsafe { mzg_serial(plan, map.as_ptr(), map.len(), output.as_mut_ptr(), output.len()) })
+}
+
+/// A rectangle of the map: rows `top` to `bottom - 1`, columns `left` to `right - 1`.
+#[derive(Clone, Copy, Debug, PartialEq, Eq)]
+pub struct Rectangle {
+    /// The first row.
+    pub top: usize,
+    /// The first column.
+    pub left: usize,
+    /// The row after the last.
+    pub bottom: usize,
+    /// The column after the last.
+    pub right: usize,
+}
+
+impl Rectangle {
+    /// The rectangle with these four numbers, in the order in which calls take them.
+    pub fn new(top: usize, left: usize, bottom: usize, right: usize) -> Rectangle {
+        Rectangle { top, left, bottom, right }
+    }
+}
+
+/// Gives the sum over a rectangle of a finished summed-area table, modulo 2^64.
+pub fn rectangle(plan: &Plan, rectangle: Rectangle, table: &[u64]) -> Result<u64, Refusal> {
+    let mut sum = 0;
+    rectangle_into(plan, rectangle, table, &mut sum)?;
+    Ok(sum)
+}
+
+/// Gives the sum over a rectangle in a word, which is 0 beside a refusal.
+pub fn rectangle_into(plan: &Plan, rectangle: Rectangle, table: &[u64], sum: &mut u64) -> Result<(), Refusal> {
+    let Rectangle { top, left, bottom, right } = rectangle;
+    // SAFETY: the record and the table are readable, the table for its length, and the sum is writable.
+    Refusal::check(unsafe { mzg_rectangle(plan, top, left, bottom, right, table.as_ptr(), table.len(), sum) })
+}

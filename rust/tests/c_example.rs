@@ -1,0 +1,75 @@
+//! The C header and the C example: compiled with all warnings as errors, run, and run under valgrind.
+
+use std::path::{Path, PathBuf};
+use std::process::{Command, Output};
+
+/// The root of the repository.
+fn root() -> PathBuf {
+    Path::new(env!("CARGO_MANIFEST_DIR")).join("..")
+}
+
+/// A path of this test's own in cargo's folder for temporary files.
+fn scratch(name: &str) -> PathBuf {
+    Path::new(env!("CARGO_TARGET_TMPDIR")).join(name)
+}
+
+/// Runs a command and expects it to succeed.
+fn run(command: &mut Command) -> Output {
+    let output = command.output().unwrap_or_else(|error| panic!("{command:?} does not run: {error}"));
+    assert!(output.status.success(), "{command:?} failed:\n{}", String::from_utf8_lossy(&output.stderr));
+    output
+}
+
+fn compiler(name: &str, standard: &str) -> Command {
+    let mut command = Command::new(name);
+    command.arg(format!("-std={standard}")).args(["-O2", "-Wall", "-Wextra", "-Werror", "-pedantic", "-I"]);
+    command.arg(root().join("include"));
+    command
+}
+
+/// Builds the example by the line at its top.
+fn example(name: &str) -> PathBuf {
+    let program = scratch(name);
+    let archive = Path::new(env!("MULZHEGAT_LINKED_DIR")).join("libmulzhegat.a");
+    run(compiler("gcc", "c99").arg(root().join("examples/c/total.c")).arg("-o").arg(&program).arg(archive));
+    program
+}
+
+#[test]
+fn c_and_cpp_take_the_header_without_warnings() {
+    // The record layouts that the library and this crate count on.
+    let text = "#include \"mulzhegat.h\"\n\
+        typedef char plan_is_27_words[sizeof(mzg_plan) == 27 * 8 ? 1 : -1];\n\
+        typedef char passes_follow_the_side[offsetof(mzg_plan, passes) == 3 * 8 ? 1 : -1];\n\
+        typedef char pass_is_6_words[sizeof(((mzg_plan *)0)->passes[0]) == 6 * 8 ? 1 : -1];\n\
+        typedef char sizes_are_7_words[sizeof(mzg_sizes) == 7 * 8 ? 1 : -1];\n\
+        typedef char tasks_are_the_last_size[offsetof(mzg_sizes, tasks) == 6 * 8 ? 1 : -1];\n\
+        typedef char progress_is_5_words[sizeof(mzg_progress) == 5 * 8 ? 1 : -1];\n\
+        typedef char ready_is_word_2[offsetof(mzg_progress, ready) == 2 * 8 ? 1 : -1];\n";
+    for (name, standard, extension) in
+        [("gcc", "c99", "c"), ("gcc", "c11", "c"), ("g++", "c++11", "cpp"), ("g++", "c++17", "cpp")]
+    {
+        let source = scratch(&format!("header_{standard}.{extension}"));
+        std::fs::write(&source, text).unwrap();
+        run(compiler(name, standard).arg("-fsyntax-only").arg(&source));
+    }
+    assert_eq!(size_of::<mulzhegat::Plan>(), 27 * 8);
+    assert_eq!(size_of::<mulzhegat::Sizes>(), 7 * 8);
+    assert_eq!(size_of::<mulzhegat::Progress>(), 5 * 8);
+}
+
+#[test]
+fn the_c_example_prints_what_is_expected() {
+    let expected = std::fs::read_to_string(root().join("examples/c/expected.txt")).unwrap();
+    let output = run(&mut Command::new(example("total")));
+    assert_eq!(String::from_utf8(output.stdout).unwrap(), expected);
+}
+
+#[test]
+fn the_c_example_runs_clean_under_valgrind() {
+    let expected = std::fs::read_to_string(root().join("examples/c/expected.txt")).unwrap();
+    let valgrind = ["--quiet", "--error-exitcode=9", "--leak-check=full"];
+    let output = run(Command::new("valgrind").args(valgrind).arg(example("total_for_valgrind")));
+    assert_eq!(String::from_utf8(output.stdout).unwrap(), expected);
+    assert_eq!(String::from_utf8_lossy(&output.stderr), "");
+}

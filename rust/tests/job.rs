@@ -1,0 +1,787 @@
+//! Start, tasks and report: the examples of the paper, and the library against the model of the calls.
+
+mod common;
+
+use common::{all_orders, broken_record, Lent};
+use mulzhegat::model::{self, Job, NOTHING_DONE};
+use mulzhegat::random::{self, Random};
+use mulzhegat::{job, plan, reference, Pass, Plan, Progress, Refusal, DOWN, LEFT, RIGHT, UP};
+
+/// The three buffers that calls may write, with the words around them.
+#[derive(Clone, PartialEq)]
+struct Buffers {
+    marks: Lent<u32>,
+    strips: Lent<u64>,
+    output: Lent<u64>,
+}
+
+/// One job run by the library and by the model side by side.
+struct Trial<'a> {
+    plan: &'a Plan,
+    job: Job<'a>,
+    map: Lent<i32>,
+    map_before: Lent<i32>,
+    library: Buffers,
+    model: Buffers,
+    calls: usize,
+}
+
+impl<'a> Trial<'a> {
+    /// Lends buffers of any words, often longer than needed. No job is started.
+    fn new(plan: &'a Plan, random: &mut Random) -> Trial<'a> {
+        let job = Job::of(plan).expect("the plan keeps the rules");
+        let lengths = [job.pixels(), job.marks(), job.strips(), job.pixels()];
+        let [map, marks, strips, output] = lengths.map(|length| length + random.pick(&[0, 0, 1, 2, 7]));
+        let map = Lent::new(map, || random.height());
+        let library = Buffers {
+            marks: Lent::new(marks, || random.word() as u32),
+            strips: Lent::new(strips, || random.word()),
+            output: Lent::new(output, || random.word()),
+        };
+        Trial { plan, job, map_before: map.clone(), map, model: library.clone(), library, calls: 0 }
+    }
+
+    fn start(&mut self) {
+        let answer = job::start(self.plan, self.library.marks.get_mut(), self.library.strips.get_mut());
+        let expected = model::start(self.plan, self.model.marks.get_mut(), self.model.strips.get_mut());
+        assert_eq!(answer, expected, "start of {:?}", self.plan);
+        self.calls += 1;
+    }
+
+    /// Performs a task on both sides and compares the answers.
+    fn perform(&mut self, task: usize, block: usize) -> Result<(), Refusal> {
+        let Trial { plan, map, library, model, .. } = self;
+        let Buffers { marks, strips, output } = library;
+        let answer = job::perform(plan, task, block, map.get(), marks.get_mut(), strips.get_mut(), output.get_mut());
+        let Buffers { marks, strips, output } = model;
+        let expected =
+            model::perform(plan, task, block, map.get(), marks.get_mut(), strips.get_mut(), output.get_mut());
+        assert_eq!(answer, expected, "task {task} of block {block} of {:?}", self.plan);
+        self.calls += 1;
+        answer
+    }
+
+    /// Reports on both sides, compares, and gives the library's report.
+    fn report(&mut self) -> Progress {
+        let progress = report_and_compare(self.plan, self.library.marks.get()).expect("the marks are right");
+        self.calls += 1;
+        progress
+    }
+
+    /// Compares all words of all buffers.
+    fn compare(&self) {
+        let Buffers { marks, strips, output } = &self.library;
+        assert_eq!(marks, &self.model.marks, "marks of {:?}", self.plan);
+        assert!(strips == &self.model.strips, "the strips differ for {:?}", self.plan);
+        assert!(output == &self.model.output, "the output differs for {:?}", self.plan);
+        assert!(self.map == self.map_before, "the map changed for {:?}", self.plan);
+    }
+
+    /// A call that may be refused: a task that may not exist there, may be early or done, or numbers out of range.
+    fn perform_anything(&mut self, random: &mut Random) -> Result<(), Refusal> {
+        let blocks = self.job.marks();
+        let out_of_range = [blocks, blocks + 1, 4096 * 4096, 1 << 32, 1 << 63, usize::MAX - 1, usize::MAX];
+        let (task, block) = match random.below(6) {
+            0 => (random.below(6), random.pick(&out_of_range)),
+            1 => (random.pick(&[6, 7, 8, 28, 32, 64, 1 << 32, 1 << 63, usize::MAX]), random.below(blocks)),
+            2 => (random.pick(&[6, usize::MAX]), random.pick(&out_of_range)),
+            _ => (random.below(6), random.below(blocks)),
+        };
+        self.perform(task, block)
+    }
+}
+
+/// Reports and compares answer and record with the model.
+fn report_and_compare(plan: &Plan, marks: &[u32]) -> Result<Progress, Refusal> {
+    let mut progress = Progress { marked: 77, tally: 77, ready: 77, task: 77, block: 77 };
+    let answer = job::report_into(plan, marks, &mut progress);
+    let expected = model::report(plan, marks);
+    assert_eq!(answer, expected.map(|_| ()), "marks {marks:x?} of {plan:?}");
+    assert_eq!(progress, expected.unwrap_or_default(), "marks {marks:x?} of {plan:?}");
+    expected
+}
+
+/// Keeps the ready tasks of a job that begins with nothing done.
+struct Ready {
+    tasks: Vec<(usize, usize)>,
+    listed: Vec<u8>,
+}
+
+impl Ready {
+    fn new(job: &Job) -> Ready {
+        Ready { tasks: (0..job.marks()).map(|block| (0, block)).collect(), listed: vec![1; job.marks()] }
+    }
+
+    /// Takes a ready task.
+    fn take(&mut self, random: &mut Random) -> Option<(usize, usize)> {
+        match self.tasks.len() {
+            0 => None,
+            length => Some(self.tasks.swap_remove(random.below(length))),
+        }
+    }
+
+    /// Lists what became ready when a task of this block was marked; tasks that a call in between has done are listed
+    /// too, so that what became ready by them follows.
+    fn renew(&mut self, job: &Job, marks: &[u32], block: usize) {
+        let block = job.block(block);
+        let around = (0..4).filter_map(|pass| job.neighbour_before(&block, pass));
+        for block in around.chain([block]) {
+            for task in 1..6 {
+                let is_listed = self.listed[block.number] >> task & 1 == 1;
+                if !is_listed && (model::is_marked(marks[block.number], task) || job.is_ready(marks, &block, task)) {
+                    self.listed[block.number] |= 1 << task;
+                    self.tasks.push((task, block.number));
+                }
+            }
+        }
+    }
+}
+
+/// Starts a job and performs tasks in random order until `limit` are done or none is left; `between` runs before each.
+fn perform_in_random_order(
+    trial: &mut Trial,
+    random: &mut Random,
+    limit: usize,
+    mut between: impl FnMut(&mut Trial, &mut Random),
+) -> usize {
+    trial.start();
+    trial.compare();
+    let mut ready = Ready::new(&trial.job);
+    let mut done = 0;
+    while done < limit {
+        between(trial, random);
+        let Some((task, block)) = ready.take(random) else { break };
+        // A call in between may have done it already.
+        if !model::is_marked(trial.model.marks.get()[block], task) {
+            assert_eq!(trial.perform(task, block), Ok(()));
+            done += 1;
+        }
+        ready.renew(&trial.job, trial.model.marks.get(), block);
+    }
+    done
+}
+
+/// What a list of calls promises as a whole: the tasks done give the strips and the output of the serial passes, all other
+/// output words are as they were before, and the report counts them. `done` holds the tasks done, one bit each.
+fn check_the_list(trial: &mut Trial, done: &[u32], output_before: &Lent<u64>) {
+    let results = reference::results(trial.plan, trial.map.get());
+    let mut expected_output = output_before.clone();
+    let (mut marked, mut tally) = (0, 0);
+    for block in trial.job.blocks() {
+        let bits = done[block.number];
+        assert_eq!(trial.library.marks.get()[block.number], NOTHING_DONE | bits);
+        marked += u64::from(bits.count_ones());
+        tally += (block.height * block.width) as u64 * u64::from((bits & 1) + (bits >> 5 & 1));
+        for pass in (0..4).filter(|pass| bits >> (pass + 1) & 1 == 1) {
+            for (place, word) in trial.job.matching_strip(&block, pass, &results) {
+                assert_eq!(
+                    trial.library.strips.get()[place],
+                    word,
+                    "block {} pass {pass} of {:?}",
+                    block.number,
+                    trial.plan
+                );
+            }
+        }
+        if bits >> 5 & 1 == 1 {
+            for row in block.top..block.top + block.height {
+                let start = row * trial.job.columns + block.left;
+                let range = start..start + block.width;
+                expected_output.get_mut()[range.clone()].copy_from_slice(&results[LEFT][range]);
+            }
+        }
+    }
+    assert!(trial.library.output == expected_output, "the output differs for {:?}", trial.plan);
+    let progress = trial.report();
+    assert_eq!((progress.marked, progress.tally), (marked, tally));
+}
+
+/// The bits of the tasks done, from the model's marks.
+fn done_by(trial: &Trial) -> Vec<u32> {
+    trial.model.marks.get()[..trial.job.marks()].iter().map(|mark| mark & 0x3F).collect()
+}
+
+/// Performs what the report names until none, and gives the last report and the output.
+fn perform_what_the_report_names(plan: &Plan, map: &[i32]) -> (Progress, Vec<u64>) {
+    let sizes = plan::sizes(plan).unwrap();
+    let (mut marks, mut strips) = (vec![0; sizes.marks as usize], vec![9; sizes.strips as usize]);
+    let mut output = vec![9; sizes.pixels as usize];
+    job::start(plan, &mut marks, &mut strips).unwrap();
+    for _ in 0..sizes.tasks {
+        let (task, block) = job::report(plan, &marks).unwrap().ready_task().expect("a task is left");
+        job::perform(plan, task.number(), block, map, &mut marks, &mut strips, &mut output).unwrap();
+    }
+    let progress = job::report(plan, &marks).unwrap();
+    assert_eq!(progress.ready_task(), None);
+    (progress, output)
+}
+
+fn modulo(words: &[i64]) -> Vec<u64> {
+    words.iter().map(|&word| word as u64).collect()
+}
+
+#[test]
+fn example_job_of_the_program() {
+    let (progress, output) = perform_what_the_report_names(&Plan::summed(2, 3, 2), &[1, 2, 3, 4, 5, 6]);
+    assert_eq!(output, [1, 3, 6, 5, 12, 21]);
+    assert_eq!(progress, Progress { marked: 6, tally: 12, ready: 0, task: 0, block: 0 });
+}
+
+#[test]
+fn example_column_in_blocks_of_two() {
+    for side in [1, 2, 3] {
+        let down = Plan::plain(3, 1, side).with(DOWN, 6, &[2]);
+        assert_eq!(perform_what_the_report_names(&down, &[1, 0, 0]).1, modulo(&[6, -12, 24]));
+        let (_, output) = perform_what_the_report_names(&down.with(UP, -1, &[2]), &[1, 0, 0]);
+        assert_eq!(output, modulo(&[-126, 60, -24]));
+    }
+}
+
+#[test]
+fn example_row_in_blocks() {
+    for side in [1, 2, 3] {
+        let plan = Plan::plain(1, 3, side).with(RIGHT, 1, &[-1]).with(LEFT, 1, &[-1]);
+        assert_eq!(perform_what_the_report_names(&plan, &[1, 0, 0]).1, [3, 2, 1]);
+    }
+}
+
+#[test]
+fn example_single_heights_as_jobs() {
+    let gains = |gains: [i64; 4]| Plan { passes: gains.map(|gain| Pass::new(gain, &[])), ..Plan::plain(1, 1, 1) };
+    assert_eq!(perform_what_the_report_names(&gains([1; 4]), &[-1]).1, [18446744073709551615]);
+    assert_eq!(perform_what_the_report_names(&gains([65536; 4]), &[1]).1, [0]);
+    let least = gains([1, 1, -134217728, 1]);
+    assert_eq!(perform_what_the_report_names(&least, &[-2147483648]).1, [288230376151711744]);
+}
+
+#[test]
+fn example_one_block_has_two_tasks() {
+    for plan in [Plan::plain(1, 1, 1), Plan::summed(2, 3, 3)] {
+        let map = [-1, 0, 0, 0, 0, 0];
+        let (progress, output) = perform_what_the_report_names(&plan, &map);
+        assert_eq!((progress.marked, output[0]), (2, 18446744073709551615));
+        let mut trial = Trial::new(&plan, &mut Random::new(1));
+        trial.start();
+        let exist = (0..6).filter(|&task| trial.perform(task, 0) != Err(Refusal::NoSuchTask)).collect::<Vec<_>>();
+        assert_eq!(exist, [0, 5]);
+    }
+}
+
+#[test]
+fn example_2_by_3_with_side_2_has_six_tasks() {
+    let (plan, mut random) = (Plan::summed(2, 3, 2), Random::new(2));
+    let mut trial = Trial::new(&plan, &mut random);
+    trial.start();
+    let mut done = Vec::new();
+    for block in [0, 1] {
+        for task in [0, 1, 2, 3, 4] {
+            if trial.perform(task, block).is_ok() {
+                done.push((task, block));
+            }
+        }
+    }
+    assert_eq!(done, [(0, 0), (3, 0), (0, 1), (4, 1)]);
+    assert_eq!(trial.perform(5, 0), Ok(()));
+    assert_eq!(trial.perform(5, 1), Ok(()));
+    assert_eq!(trial.report().marked, 6);
+}
+
+#[test]
+fn wrong_turn_of_running_into_rows_past_the_map() {
+    // The strip of block 1 holds the one row that it has, -24 and not -120, and 0 for the row past the map.
+    let plan = Plan::plain(3, 1, 2).with(DOWN, 6, &[2]).with(UP, -1, &[2, 0]);
+    let mut random = Random::new(3);
+    let mut trial = Trial::new(&plan, &mut random);
+    trial.map = Lent::of(&[1, 0, 0], || 0);
+    trial.map_before = trial.map.clone();
+    trial.start();
+    for (task, block) in [(0, 1), (0, 0), (1, 0), (2, 1)] {
+        assert_eq!(trial.perform(task, block), Ok(()));
+    }
+    // Slots of 2 x 3 words: a row of down, two rows of up.
+    let up_strip = &trial.library.strips.get()[6 + 2..6 + 6];
+    assert_eq!(up_strip, modulo(&[-24, 0, 0, 0]));
+    assert_eq!(trial.perform(5, 1), Ok(()));
+    assert_eq!(trial.library.output.get()[2], -24i64 as u64);
+    trial.compare();
+}
+
+#[test]
+fn start_sets_the_needed_words_and_no_others() {
+    let mut random = random::of_test("start_sets_the_needed_words_and_no_others");
+    for _ in 0..500 * random::rounds() {
+        let plan = random.small_plan(200);
+        let mut trial = Trial::new(&plan, &mut random);
+        let (marks, strips) = (trial.job.marks(), trial.job.strips());
+        trial.start();
+        trial.compare();
+        assert!(trial.library.marks.get()[..marks].iter().all(|&mark| mark == 0x70000000));
+        assert!(trial.library.strips.get()[..strips].iter().all(|&word| word == 0));
+    }
+}
+
+#[test]
+fn random_jobs_with_early_repeated_and_foreign_calls() {
+    let mut random = random::of_test("random_jobs_with_early_repeated_and_foreign_calls");
+    let (mut calls, mut seen) = (0, [0usize; 13]);
+    for _ in 0..2_000 * random::rounds() {
+        let plan = random.small_plan(400);
+        let mut trial = Trial::new(&plan, &mut random);
+        let output_before = trial.library.output.clone();
+        perform_in_random_order(&mut trial, &mut random, usize::MAX, |trial, random| {
+            trial.compare();
+            for _ in 0..random.below(3) {
+                match trial.perform_anything(random) {
+                    Ok(()) => seen[0] += 1,
+                    Err(refusal) => seen[refusal.number() as usize] += 1,
+                }
+                trial.compare();
+            }
+            if random.once_in(4) {
+                trial.report();
+            }
+        });
+        trial.compare();
+        let progress = trial.report();
+        assert_eq!((progress.ready, progress.marked), (0, plan::sizes(&plan).unwrap().tasks));
+        let done = done_by(&trial);
+        check_the_list(&mut trial, &done, &output_before);
+        for _ in 0..5 {
+            assert!(trial.perform_anything(&mut random).is_err());
+        }
+        trial.compare();
+        calls += trial.calls;
+    }
+    assert!(calls >= 100_000, "{calls} calls");
+    assert!([0, 8, 10, 11].iter().all(|&number| seen[number] > 100), "answers seen: {seen:?}");
+}
+
+#[test]
+fn broken_off_jobs_leave_unfinished_blocks_untouched() {
+    let mut random = random::of_test("broken_off_jobs_leave_unfinished_blocks_untouched");
+    for _ in 0..600 * random::rounds() {
+        let plan = random.small_plan(500);
+        let mut trial = Trial::new(&plan, &mut random);
+        let output_before = trial.library.output.clone();
+        let limit = random.below(plan::sizes(&plan).unwrap().tasks as usize);
+        let done = perform_in_random_order(&mut trial, &mut random, limit, |_, _| ());
+        assert_eq!(done, limit);
+        trial.compare();
+        let done = done_by(&trial);
+        check_the_list(&mut trial, &done, &output_before);
+        assert_eq!(trial.report().ready, 1);
+        // Another job begins in the same buffers.
+        let output_before = trial.library.output.clone();
+        perform_in_random_order(&mut trial, &mut random, usize::MAX, |_, _| ());
+        trial.compare();
+        let done = done_by(&trial);
+        check_the_list(&mut trial, &done, &output_before);
+    }
+}
+
+#[test]
+fn lists_of_calls_do_what_the_table_of_needs_says() {
+    let mut random = random::of_test("lists_of_calls_do_what_the_table_of_needs_says");
+    // The table, told again without the model: which neighbour (row, column) must have done which task.
+    let needs: [&[(isize, isize, u32)]; 6] = [
+        &[],
+        &[(0, 0, 0), (-1, 0, 1)],
+        &[(0, 0, 0), (-1, 0, 1), (1, 0, 2)],
+        &[(0, 0, 0), (-1, 0, 1), (1, 0, 2), (0, -1, 3)],
+        &[(0, 0, 0), (-1, 0, 1), (1, 0, 2), (0, -1, 3), (0, 1, 4)],
+        &[(0, 0, 0), (-1, 0, 1), (1, 0, 2), (0, -1, 3), (0, 1, 4)],
+    ];
+    for _ in 0..400 * random::rounds() {
+        let plan = random.small_plan(60);
+        let mut trial = Trial::new(&plan, &mut random);
+        let output_before = trial.library.output.clone();
+        let (m, n) = (trial.job.block_rows as isize, trial.job.block_columns as isize);
+        let mut done = vec![0u32; (m * n) as usize];
+        trial.start();
+        for _ in 0..random.below(60 * (m * n) as usize) {
+            let (task, row, column) =
+                (random.below(6), random.below(m as usize) as isize, random.below(n as usize) as isize);
+            let block = (row * n + column) as usize;
+            let exists = [true, row < m - 1, row > 0, column < n - 1, column > 0, true][task];
+            let has_needs = needs[task].iter().all(|&(down, right, need)| {
+                let (row, column) = (row + down, column + right);
+                let beyond = row < 0 || row >= m || column < 0 || column >= n;
+                beyond || done[(row * n + column) as usize] >> need & 1 == 1
+            });
+            let accepted = exists && done[block] >> task & 1 == 0 && has_needs;
+            assert_eq!(trial.perform(task, block).is_ok(), accepted);
+            done[block] |= u32::from(accepted) << task;
+        }
+        check_the_list(&mut trial, &done, &output_before);
+    }
+}
+
+#[test]
+fn tasks_on_any_strips_and_marks() {
+    // Strips of any words, also in the places that are read as 0, and any marks: finish uses strips true or not.
+    let mut random = random::of_test("tasks_on_any_strips_and_marks");
+    let mut accepted = [0usize; 6];
+    for _ in 0..6_000 * random::rounds() {
+        let plan = random.small_plan(300);
+        let mut trial = Trial::new(&plan, &mut random);
+        let all_done: Vec<u32> = trial.job.blocks().map(|block| tasks_of(&trial.job, block.number)).collect();
+        for (block, may) in all_done.iter().enumerate() {
+            let mark = NOTHING_DONE | may & if random.once_in(4) { random.word() as u32 } else { 0x3F };
+            set_mark(&mut trial, block, mark);
+        }
+        for _ in 0..4 {
+            let (task, block) = (random.below(6), random.below(trial.job.marks()));
+            let mark = trial.library.marks.get()[block] & !(1 << task);
+            set_mark(&mut trial, block, mark);
+            if trial.perform(task, block).is_ok() {
+                accepted[task] += 1;
+            }
+            trial.compare();
+        }
+    }
+    assert!(accepted.iter().all(|&times| times > 500), "accepted: {accepted:?}");
+}
+
+/// The bits of all tasks that a block has.
+fn tasks_of(job: &Job, block: usize) -> u32 {
+    (0..6).filter(|&task| job.has_task(&job.block(block), task)).map(|task| 1 << task).sum()
+}
+
+fn set_mark(trial: &mut Trial, block: usize, mark: u32) {
+    trial.library.marks.get_mut()[block] = mark;
+    trial.model.marks.get_mut()[block] = mark;
+}
+
+#[test]
+fn places_read_as_0_and_written_as_0() {
+    // All places outside the blocks and on the border hold garbage; the job comes out as if they held 0.
+    let mut random = random::of_test("places_read_as_0_and_written_as_0");
+    let mut unused_places = 0;
+    for _ in 0..400 * random::rounds() {
+        let plan = random.small_plan(300);
+        let mut trial = Trial::new(&plan, &mut random);
+        let output_before = trial.library.output.clone();
+        let orders = plan.passes.map(|pass| pass.order as usize);
+        let job = Job::of(&plan).unwrap();
+        let unused: Vec<usize> = job
+            .blocks()
+            .flat_map(|block| (0..4).map(move |pass| (block, pass)))
+            .flat_map(|(block, pass)| (1..=orders[pass]).map(move |distance| (block, pass, distance)))
+            .flat_map(|(block, pass, distance)| (0..plan.side as usize).map(move |line| (block, pass, distance, line)))
+            .filter(|(block, pass, distance, line)| !job.is_strip_place_used(block, *pass, *distance, *line))
+            .map(|(block, pass, distance, line)| job.strip_place(block.number, pass, distance, line))
+            .collect();
+        unused_places += unused.len();
+        perform_in_random_order(&mut trial, &mut random, usize::MAX, |trial, random| {
+            for &place in &unused {
+                let word = random.word();
+                trial.library.strips.get_mut()[place] = word;
+                trial.model.strips.get_mut()[place] = word;
+            }
+        });
+        trial.compare();
+        assert!(trial.library.output.get()[..job.pixels()] == reference::serial(&plan, trial.map.get()), "{plan:?}");
+        assert!(trial.library.output.get()[job.pixels()..] == output_before.get()[job.pixels()..]);
+    }
+    assert!(unused_places > 10_000);
+}
+
+#[test]
+fn sides_1_to_32_and_all_orders() {
+    let mut random = random::of_test("sides_1_to_32_and_all_orders");
+    let mut jobs = 0;
+    for (number, orders) in all_orders().enumerate() {
+        let least = (*orders.iter().max().unwrap()).max(1);
+        let side = least + number % (33 - least);
+        let (rows, columns) = (random.between(1, 2 * side + 5), random.between(1, 2 * side + 5));
+        whole_job_in_random_order(&random.plan(rows, columns, side, orders), &mut random);
+        jobs += 1;
+    }
+    for side in 1..=32 {
+        for (rows, columns) in [(side, side), (2 * side, side + 1), (side + 1, 3 * side), (3 * side - 1, 2 * side + 1)]
+        {
+            let orders = random.orders(side);
+            whole_job_in_random_order(&random.plan(rows, columns, side, orders), &mut random);
+            jobs += 1;
+        }
+    }
+    assert_eq!(jobs, 625 + 128);
+}
+
+/// A whole job in random order, compared at random moments and at the end.
+fn whole_job_in_random_order(plan: &Plan, random: &mut Random) {
+    let mut trial = Trial::new(plan, random);
+    let output_before = trial.library.output.clone();
+    let tasks = plan::sizes(plan).unwrap().tasks as usize;
+    let done = perform_in_random_order(&mut trial, random, usize::MAX, |trial, random| {
+        if random.once_in(tasks / 8 + 1) {
+            trial.compare();
+            trial.report();
+        }
+    });
+    assert_eq!(done, tasks);
+    trial.compare();
+    let done = done_by(&trial);
+    check_the_list(&mut trial, &done, &output_before);
+}
+
+#[test]
+fn jobs_of_4096_rows_or_columns() {
+    let mut random = random::of_test("jobs_of_4096_rows_or_columns");
+    for side in [1, 2, 3, 4, 7, 31, 32] {
+        for (rows, columns) in [(4096, 1), (1, 4096)] {
+            let orders = random.orders(side);
+            whole_job_in_random_order(&random.plan(rows, columns, side, orders), &mut random);
+            let least = side.min(4);
+            whole_job_in_random_order(&random.plan(rows, columns, side, [least; 4]), &mut random);
+        }
+    }
+    for (rows, columns, side) in [(4096, 3, 2), (2, 4096, 5), (4095, 9, 32), (40, 4096, 32)] {
+        let orders = random.orders(side);
+        whole_job_in_random_order(&random.plan(rows, columns, side, orders), &mut random);
+    }
+}
+
+#[test]
+fn all_marks_of_small_jobs_are_reported() {
+    let mut random = random::of_test("all_marks_of_small_jobs_are_reported");
+    let mut calls = 0;
+    for (block_rows, block_columns) in [(2, 2), (1, 1), (1, 2), (2, 1), (1, 3), (3, 1), (1, 4), (4, 1)] {
+        let side = random.between(2, 5);
+        let (rows, columns) = (block_rows * side - 1, block_columns * side - 1);
+        let orders = random.orders(side);
+        let plan = random.plan(rows, columns, side, orders);
+        let job = Job::of(&plan).unwrap();
+        assert_eq!((job.block_rows, job.block_columns), (block_rows, block_columns));
+        let bits: Vec<(usize, usize)> = job
+            .blocks()
+            .flat_map(|block| (0..6).map(move |task| (block.number, task)))
+            .filter(|&(block, task)| job.has_task(&job.block(block), task))
+            .collect();
+        for choice in 0..1u32 << bits.len() {
+            let mut marks = vec![NOTHING_DONE; job.marks()];
+            for (place, &(block, task)) in bits.iter().enumerate() {
+                marks[block] |= (choice >> place & 1) << task;
+            }
+            report_and_compare(&plan, &marks).expect("the marks are right");
+            calls += 1;
+        }
+    }
+    assert!(calls >= 1 << 16, "{calls} calls");
+}
+
+#[test]
+fn report_of_random_marks() {
+    let mut random = random::of_test("report_of_random_marks");
+    let (mut none, mut named) = (0, [0usize; 6]);
+    for _ in 0..4_000 * random::rounds() {
+        let plan = random.small_plan(200);
+        let job = Job::of(&plan).unwrap();
+        let density = random.between(1, 8);
+        let marks: Vec<u32> = (0..job.marks())
+            .map(|block| {
+                let bits = (0..6).filter(|_| !random.once_in(density * density)).map(|task| 1 << task).sum::<u32>();
+                NOTHING_DONE | bits & tasks_of(&job, block)
+            })
+            .collect();
+        let spare = random.below(3);
+        let mut lent = Lent::new(marks.len() + spare, || random.word() as u32);
+        lent.get_mut()[..marks.len()].copy_from_slice(&marks);
+        match report_and_compare(&plan, lent.get()).unwrap().ready_task() {
+            Some((task, _)) => named[task.number()] += 1,
+            None => none += 1,
+        }
+    }
+    assert!(none > 20 && named.iter().all(|&times| times > 20), "none {none}, named {named:?}");
+}
+
+#[test]
+fn foreign_marks_are_refused_9_with_the_least_block_looked_at() {
+    let mut random = random::of_test("foreign_marks_are_refused_9_with_the_least_block_looked_at");
+    let (mut refused, mut not_looked_at) = (0, 0);
+    for _ in 0..5_000 * random::rounds() {
+        let side = random.between(1, 4);
+        let (rows, columns) = (random.between(1, 4 * side), random.between(1, 4 * side));
+        let orders = random.orders(side);
+        let plan = random.plan(rows, columns, side, orders);
+        let mut trial = Trial::new(&plan, &mut random);
+        for block in 0..trial.job.marks() {
+            let mark = NOTHING_DONE
+                | tasks_of(&trial.job, block) & if random.once_in(3) { random.word() as u32 } else { 0x3F };
+            set_mark(&mut trial, block, mark);
+        }
+        let mut foreign = Vec::new();
+        for _ in 0..random.between(1, 3) {
+            let block = random.below(trial.job.marks());
+            let right = NOTHING_DONE | tasks_of(&trial.job, block);
+            let spare = (0..28).map(|bit| 1 << bit).filter(|bit| right & bit == 0).collect::<Vec<u32>>();
+            let mark = match random.below(3) {
+                0 => right & 0xFFFFFFF | random.pick(&[0, 1, 2, 3, 4, 5, 6, 8, 9, 10, 11, 12, 13, 14, 15]) << 28,
+                _ => right | random.pick(&spare),
+            };
+            set_mark(&mut trial, block, mark);
+            foreign.push(block);
+        }
+        let least = *foreign.iter().min().unwrap();
+        assert_eq!(report_and_compare(&plan, trial.library.marks.get()), Err(Refusal::ForeignMark(least as u32)));
+        for _ in 0..6 {
+            let (task, block) = (random.below(6), random.below(trial.job.marks()));
+            match trial.perform(task, block) {
+                Err(Refusal::ForeignMark(_)) => refused += 1,
+                Ok(()) => not_looked_at += 1,
+                Err(_) => (),
+            }
+            trial.compare();
+        }
+    }
+    assert!(refused > 1_000 && not_looked_at > 300, "{refused} refused 9, {not_looked_at} accepted");
+}
+
+#[test]
+fn every_spare_bit_and_kind_is_foreign() {
+    // Four blocks in a square and three in a line: every bit of every mark, seen by the report and by the block's tasks.
+    for plan in [Plan::summed(4, 4, 2), Plan::summed(1, 6, 2), Plan::summed(6, 1, 2), Plan::summed(2, 2, 2)] {
+        let job = Job::of(&plan).unwrap();
+        for block in 0..job.marks() {
+            for mark in (0..32).map(|bit| NOTHING_DONE ^ 1 << bit).chain((0..16).map(|kind| kind << 28)) {
+                let mut marks = vec![NOTHING_DONE; job.marks()];
+                marks[block] = mark;
+                let right = mark >> 28 == 7 && mark & 0xFFFFFFF & !tasks_of(&job, block) == 0;
+                let answer = report_and_compare(&plan, &marks).map(|_| ());
+                assert_eq!(answer, if right { Ok(()) } else { Err(Refusal::ForeignMark(block as u32)) });
+                let (mut strips, mut output) = (vec![0; job.strips()], vec![0; job.pixels()]);
+                let map = vec![1; job.pixels()];
+                let answer = job::perform(&plan, 0, block, &map, &mut marks, &mut strips, &mut output);
+                let expected = match (right, mark & 1) {
+                    (false, _) => Err(Refusal::ForeignMark(block as u32)),
+                    (true, 1) => Err(Refusal::AlreadyMarked),
+                    (true, _) => Ok(()),
+                };
+                assert_eq!(answer, expected);
+                assert_eq!(marks[block], if expected.is_ok() { mark | 1 } else { mark });
+            }
+        }
+    }
+}
+
+#[test]
+fn short_buffers_of_every_kind_are_refused_7() {
+    let mut random = random::of_test("short_buffers_of_every_kind_are_refused_7");
+    let mut short_calls = 0;
+    for _ in 0..300 * random::rounds() {
+        let plan = random.small_plan(150);
+        let broken = broken_record(&mut random, &plan);
+        let mut trial = Trial::new(&plan, &mut random);
+        trial.start();
+        let needed = [trial.job.pixels(), trial.job.marks(), trial.job.strips(), trial.job.pixels()];
+        let Buffers { marks, strips, output } = &trial.library;
+        for choice in 0..81 {
+            // Each buffer as long as needed, one word short, or without words.
+            let lengths = [0, 1, 2, 3].map(|buffer| match choice / 3usize.pow(buffer as u32) % 3 {
+                0 => needed[buffer],
+                1 => needed[buffer].saturating_sub(1),
+                _ => 0,
+            });
+            let is_short = |buffer: usize| lengths[buffer] < needed[buffer];
+            let map = trial.map.shortened(lengths[0]);
+            let before = Buffers {
+                marks: marks.shortened(lengths[1]),
+                strips: strips.shortened(lengths[2]),
+                output: output.shortened(lengths[3]),
+            };
+            let mut lent = before.clone();
+            let mut check = |lent: &Buffers, answer: Result<(), Refusal>, expected: Refusal| {
+                assert_eq!(answer, Err(expected), "lengths {lengths:?} of {plan:?}");
+                assert!(lent == &before, "a refused call wrote, lengths {lengths:?} of {plan:?}");
+                short_calls += 1;
+            };
+            // The record comes before the lengths, and the lengths before the task and the block.
+            for (task, block) in
+                [(0, 0), (1, 0), (2, 0), (3, 0), (4, 0), (5, 0), (6, 0), (0, needed[1]), (usize::MAX, usize::MAX)]
+            {
+                let perform = |plan: &Plan, lent: &mut Buffers| {
+                    let Buffers { marks, strips, output } = lent;
+                    job::perform(plan, task, block, map.get(), marks.get_mut(), strips.get_mut(), output.get_mut())
+                };
+                let answer = perform(&broken, &mut lent);
+                check(&lent, answer, Refusal::BrokenRecord);
+                if (0..4).any(is_short) {
+                    let answer = perform(&plan, &mut lent);
+                    check(&lent, answer, Refusal::ShortBuffer);
+                }
+            }
+            let answer = job::start(&broken, lent.marks.get_mut(), lent.strips.get_mut());
+            check(&lent, answer, Refusal::BrokenRecord);
+            if is_short(1) || is_short(2) {
+                let answer = job::start(&plan, lent.marks.get_mut(), lent.strips.get_mut());
+                check(&lent, answer, Refusal::ShortBuffer);
+            }
+            assert_eq!(report_and_compare(&broken, lent.marks.get()), Err(Refusal::BrokenRecord));
+            if is_short(1) {
+                assert_eq!(report_and_compare(&plan, lent.marks.get()), Err(Refusal::ShortBuffer));
+            } else {
+                report_and_compare(&plan, lent.marks.get()).expect("the marks are enough");
+            }
+        }
+    }
+    assert!(short_calls > 100_000);
+}
+
+#[test]
+fn plans_without_strips_need_no_strip_word() {
+    let mut random = random::of_test("plans_without_strips_need_no_strip_word");
+    let plan = random.plan(5, 5, 2, [0; 4]);
+    let map = random.heights(25);
+    assert_eq!(plan::sizes(&plan).unwrap().strips, 0);
+    let (progress, output) = perform_what_the_report_names(&plan, &map);
+    assert_eq!((progress.marked, output), (6 * 9 - 2 * 3 - 2 * 3, reference::serial(&plan, &map)));
+}
+
+#[test]
+fn the_least_refusal_number_comes_first() {
+    let mut random = random::of_test("the_least_refusal_number_comes_first");
+    let plan = Plan::summed(6, 6, 2);
+    let mut trial = Trial::new(&plan, &mut random);
+    trial.start();
+    // Block 4 is in the middle; its task 0 is marked, and above, left, right and below are foreign.
+    for block in [1, 3, 5, 7] {
+        set_mark(&mut trial, block, 0);
+    }
+    set_mark(&mut trial, 4, NOTHING_DONE | 0x3F);
+    assert_eq!(trial.perform(6, 4), Err(Refusal::NoSuchTask));
+    assert_eq!(trial.perform(0, 4), Err(Refusal::AlreadyMarked));
+    for (task, foreign) in [(1, 1), (2, 1), (3, 1), (4, 1), (5, 1)] {
+        assert_eq!(trial.perform(task, 4), Err(Refusal::ForeignMark(foreign)));
+    }
+    // With the one above put right, the next one looked at is named: below for up, left for right, left and finish.
+    set_mark(&mut trial, 1, NOTHING_DONE);
+    for (task, answer) in [
+        (1, Refusal::AlreadyMarked),
+        (2, Refusal::ForeignMark(7)),
+        (3, Refusal::ForeignMark(3)),
+        (4, Refusal::ForeignMark(3)),
+        (5, Refusal::ForeignMark(3)),
+    ] {
+        assert_eq!(trial.perform(task, 4), Err(answer));
+    }
+    set_mark(&mut trial, 3, NOTHING_DONE);
+    for (task, foreign) in [(2, 7), (3, 7), (4, 5), (5, 5)] {
+        assert_eq!(trial.perform(task, 4), Err(Refusal::ForeignMark(foreign)));
+    }
+    // All right, and the needs unmarked: marked tasks are refused 10, the others 11.
+    set_mark(&mut trial, 5, NOTHING_DONE);
+    set_mark(&mut trial, 7, NOTHING_DONE);
+    for task in 0..6 {
+        assert_eq!(trial.perform(task, 4), Err(Refusal::AlreadyMarked));
+    }
+    set_mark(&mut trial, 4, NOTHING_DONE);
+    for task in 1..6 {
+        assert_eq!(trial.perform(task, 4), Err(Refusal::NeedUnmarked));
+    }
+    // A border block has no link over the border, whatever its mark.
+    set_mark(&mut trial, 0, 0);
+    assert_eq!(trial.perform(2, 0), Err(Refusal::NoSuchTask));
+    assert_eq!(trial.perform(4, 0), Err(Refusal::NoSuchTask));
+    assert_eq!(trial.perform(1, 0), Err(Refusal::ForeignMark(0)));
+    trial.compare();
+}

@@ -1,0 +1,44 @@
+//! Every refusal number of the library, each with its place.
+
+use mulzhegat::serial::Rectangle;
+use mulzhegat::{job, model, plan, serial, Plan, Refusal, DOWN};
+use std::collections::BTreeMap;
+
+#[test]
+fn every_refusal_number_from_1_to_12_is_seen() {
+    let mut seen = BTreeMap::new();
+    let mut note = |refusal: Refusal| {
+        assert_eq!(seen.insert(refusal.number(), refusal.place()), None, "{refusal} is seen once");
+    };
+    let valid = Plan::plain(6, 6, 2).with(DOWN, 3, &[1, 2]);
+    let words = model::words_of(&valid);
+    let changed = |place: usize, word: u32| {
+        let mut words = words.clone();
+        words[place] = word;
+        words
+    };
+
+    note(plan::read(&words[..9]).unwrap_err());
+    note(plan::read(&changed(4, 0x40000001)).unwrap_err());
+    note(plan::read(&changed(6, 0x30000000)).unwrap_err());
+    note(plan::read(&changed(1, 0x20000001)).unwrap_err());
+    note(plan::read(&[words.clone(), vec![0]].concat()).unwrap_err());
+    note(plan::sizes(&Plan { side: 1, ..valid }).unwrap_err());
+    note(serial::run(&valid, &[0; 36], &mut [0; 35]).unwrap_err());
+
+    let (map, mut marks, mut strips, mut output) = ([1; 36], [0; 9], [0; 9 * 2 * 2], [0; 36]);
+    job::start(&valid, &mut marks, &mut strips).unwrap();
+    let mut perform =
+        |task, block, marks: &mut [u32]| job::perform(&valid, task, block, &map, marks, &mut strips, &mut output);
+    note(perform(2, 0, &mut marks).unwrap_err());
+    marks[5] |= 1 << 3;
+    note(perform(5, 4, &mut marks).unwrap_err());
+    marks[5] = model::NOTHING_DONE;
+    perform(0, 4, &mut marks).unwrap();
+    note(perform(0, 4, &mut marks).unwrap_err());
+    note(perform(5, 4, &mut marks).unwrap_err());
+    note(serial::rectangle(&valid, Rectangle::new(2, 0, 2, 1), &output).unwrap_err());
+
+    let expected = [(1, 9), (2, 4), (3, 6), (4, 1), (5, 13), (6, 0), (7, 0), (8, 0), (9, 5), (10, 0), (11, 0), (12, 0)];
+    assert_eq!(seen.into_iter().collect::<Vec<_>>(), expected);
+}

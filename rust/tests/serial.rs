@@ -1,0 +1,246 @@
+//! The serial passes and the rectangle sum: the examples of the paper, and the library against the second program.
+
+mod common;
+
+use common::{all_orders, broken_record, Lent};
+use mulzhegat::random::{self, Random};
+use mulzhegat::serial::{self, Rectangle};
+use mulzhegat::{model, reference, Pass, Plan, Refusal, DOWN, LEFT, RIGHT, UP};
+
+fn run(plan: &Plan, map: &[i32]) -> Vec<u64> {
+    let mut output = vec![0x5555; map.len()];
+    serial::run(plan, map, &mut output).unwrap();
+    output
+}
+
+fn modulo(words: &[i64]) -> Vec<u64> {
+    words.iter().map(|&word| word as u64).collect()
+}
+
+#[test]
+fn example_summed_table_of_six_heights() {
+    assert_eq!(run(&Plan::summed(2, 3, 2), &[1, 2, 3, 4, 5, 6]), [1, 3, 6, 5, 12, 21]);
+}
+
+#[test]
+fn example_rectangles_of_the_summed_table() {
+    let (plan, table) = (Plan::summed(2, 3, 2), [1, 3, 6, 5, 12, 21]);
+    assert_eq!(serial::rectangle(&plan, Rectangle::new(0, 1, 2, 3), &table), Ok(16));
+    assert_eq!(serial::rectangle(&plan, Rectangle::new(1, 0, 2, 1), &table), Ok(4));
+}
+
+#[test]
+fn example_empty_rectangle_is_refused_12() {
+    let mut sum = 77;
+    let answer =
+        serial::rectangle_into(&Plan::summed(2, 3, 2), Rectangle::new(0, 0, 0, 3), &[1, 3, 6, 5, 12, 21], &mut sum);
+    let refusal = answer.unwrap_err();
+    assert_eq!((refusal.number(), refusal.place(), sum), (12, 0, 0));
+}
+
+#[test]
+fn example_column_down_with_gain_6() {
+    assert_eq!(run(&Plan::plain(3, 1, 1).with(DOWN, 6, &[2]), &[1, 0, 0]), modulo(&[6, -12, 24]));
+}
+
+#[test]
+fn example_column_down_then_up() {
+    for side in [1, 2, 3] {
+        let plan = Plan::plain(3, 1, side).with(DOWN, 6, &[2]).with(UP, -1, &[2]);
+        assert_eq!(run(&plan, &[1, 0, 0]), modulo(&[-126, 60, -24]));
+    }
+}
+
+#[test]
+fn example_row_right_and_left() {
+    let plan = Plan::plain(1, 3, 1).with(RIGHT, 1, &[-1]).with(LEFT, 1, &[-1]);
+    assert_eq!(run(&plan, &[1, 0, 0]), [3, 2, 1]);
+}
+
+#[test]
+fn example_one_height_of_minus_one() {
+    assert_eq!(run(&Plan::plain(1, 1, 1), &[-1]), [18446744073709551615]);
+}
+
+#[test]
+fn example_four_gains_of_65536() {
+    let plan = Plan { passes: [Pass::new(65536, &[]); 4], ..Plan::plain(1, 1, 1) };
+    assert_eq!(run(&plan, &[1]), [0]);
+}
+
+#[test]
+fn example_least_height_and_least_gain() {
+    for pass in [DOWN, UP, RIGHT, LEFT] {
+        assert_eq!(run(&Plan::plain(1, 1, 1).with(pass, -134217728, &[]), &[-2147483648]), [288230376151711744]);
+    }
+}
+
+/// Runs a plan over random heights, with words around the buffers and past the needed lengths watched.
+fn run_and_compare(plan: &Plan, random: &mut Random) {
+    let pixels = (plan.rows * plan.columns) as usize;
+    let spare = random.below(3);
+    let map = Lent::new(pixels + spare, || random.height());
+    let spare = random.below(3);
+    let mut library = Lent::new(pixels + spare, || random.word());
+    let (mut modelled, map_before) = (library.clone(), map.clone());
+    assert_eq!(serial::run(plan, map.get(), library.get_mut()), Ok(()), "{plan:?}");
+    modelled.get_mut()[..pixels].copy_from_slice(&reference::serial(plan, map.get()));
+    assert!(library == modelled, "the output differs for {plan:?}");
+    assert!(map == map_before, "the map changed for {plan:?}");
+}
+
+#[test]
+fn random_maps_against_the_second_program() {
+    let mut random = random::of_test("random_maps_against_the_second_program");
+    for _ in 0..4_000 * random::rounds() {
+        let plan = random.small_plan(600);
+        run_and_compare(&plan, &mut random);
+    }
+}
+
+#[test]
+fn all_orders_against_the_second_program() {
+    let mut random = random::of_test("all_orders_against_the_second_program");
+    for orders in all_orders() {
+        // Fewer, as many and more lines than the order, and than a few lines worked on together.
+        for (rows, columns) in
+            [(1, 1), (2, 3), (3, 2), (5, 9), (9, 5), (17, 13), (random.between(1, 40), random.between(1, 40))]
+        {
+            let plan = random.plan(rows, columns, 4, orders);
+            run_and_compare(&plan, &mut random);
+        }
+    }
+}
+
+#[test]
+fn maps_of_4096_rows_or_columns() {
+    let mut random = random::of_test("maps_of_4096_rows_or_columns");
+    for orders in all_orders().step_by(3) {
+        for (rows, columns) in [(4096, 1), (1, 4096)] {
+            let plan = random.plan(rows, columns, 4, orders);
+            run_and_compare(&plan, &mut random);
+        }
+    }
+    for (rows, columns) in [(4096, 2), (2, 4096), (4096, 33), (35, 4096), (700, 900)] {
+        let orders = random.orders(4);
+        let plan = random.plan(rows, columns, 32, orders);
+        run_and_compare(&plan, &mut random);
+    }
+}
+
+#[test]
+fn short_buffers_are_refused_7_and_broken_records_6_before() {
+    let mut random = random::of_test("short_buffers_are_refused_7_and_broken_records_6_before");
+    for _ in 0..500 * random::rounds() {
+        let plan = random.small_plan(100);
+        let pixels = (plan.rows * plan.columns) as usize;
+        let map = Lent::new(pixels, || random.height());
+        let output = Lent::new(pixels, || random.word());
+        let broken = broken_record(&mut random, &plan);
+        for (map_length, output_length) in
+            [(pixels, pixels), (pixels - 1, pixels), (pixels, pixels - 1), (0, pixels), (pixels, 0), (0, 0)]
+        {
+            let (map, before) = (map.shortened(map_length), output.shortened(output_length));
+            let mut lent = before.clone();
+            assert_eq!(serial::run(&broken, map.get(), lent.get_mut()), Err(Refusal::BrokenRecord), "{broken:?}");
+            assert!(lent == before);
+            if map_length < pixels || output_length < pixels {
+                assert_eq!(serial::run(&plan, map.get(), lent.get_mut()), Err(Refusal::ShortBuffer), "{plan:?}");
+                assert!(lent == before);
+            }
+        }
+    }
+}
+
+/// Sums over a rectangle and compares with the model.
+fn sum_and_compare(plan: &Plan, corners: [usize; 4], table: &[u64]) -> Result<u64, Refusal> {
+    let [top, left, bottom, right] = corners;
+    let mut sum = 0x7777;
+    let answer = serial::rectangle_into(plan, Rectangle::new(top, left, bottom, right), table, &mut sum);
+    let expected = model::rectangle(plan, corners, table);
+    assert_eq!(answer, expected.map(|_| ()), "{corners:?} of {plan:?}");
+    assert_eq!(sum, expected.unwrap_or(0), "{corners:?} of {plan:?}");
+    expected
+}
+
+#[test]
+fn all_rectangles_of_small_tables() {
+    let mut random = random::of_test("all_rectangles_of_small_tables");
+    let (mut calls, mut accepted) = (0, 0);
+    for (rows, columns) in [(1, 1), (1, 4), (4, 1), (3, 4), (4, 3)] {
+        let plan = random.plan(rows, columns, 4, [1, 0, 2, 4]);
+        let table = random.words(rows * columns + 1);
+        for number in 0..(rows + 3).pow(2) * (columns + 3).pow(2) {
+            let (rest, top) = (number / (rows + 3), number % (rows + 3));
+            let (rest, bottom) = (rest / (rows + 3), rest % (rows + 3));
+            let (right, left) = (rest / (columns + 3), rest % (columns + 3));
+            accepted += usize::from(sum_and_compare(&plan, [top, left, bottom, right], &table).is_ok());
+            calls += 1;
+        }
+    }
+    let expected = [(1, 1), (1, 4), (4, 1), (3, 4), (4, 3)]
+        .iter()
+        .map(|(h, w)| h * (h + 1) / 2 * (w * (w + 1) / 2))
+        .sum::<usize>();
+    assert_eq!(accepted, expected);
+    assert!(calls > 4_000);
+}
+
+#[test]
+fn rectangles_of_summed_tables_are_sums_of_heights() {
+    let mut random = random::of_test("rectangles_of_summed_tables_are_sums_of_heights");
+    for _ in 0..300 * random::rounds() {
+        let (rows, columns) = (random.between(1, 40), random.between(1, 40));
+        let plan = Plan::summed(rows, columns, random.between(1, 32));
+        let map = random.heights(rows * columns);
+        let table = run(&plan, &map);
+        for _ in 0..20 {
+            let (top, left) = (random.below(rows), random.below(columns));
+            let (bottom, right) = (random.between(top + 1, rows), random.between(left + 1, columns));
+            let heights = (top..bottom).flat_map(|row| &map[row * columns..][left..right]);
+            let expected: i64 = heights.map(|&height| i64::from(height)).sum();
+            assert_eq!(sum_and_compare(&plan, [top, left, bottom, right], &table), Ok(expected as u64));
+        }
+    }
+}
+
+#[test]
+fn rectangles_with_huge_numbers_are_refused_12() {
+    let mut random = random::of_test("rectangles_with_huge_numbers_are_refused_12");
+    let plan = Plan::summed(4, 5, 2);
+    let table = random.words(20);
+    let huge = [usize::MAX, usize::MAX - 3, 1 << 63, (1 << 63) + 2, 1 << 32, (1 << 32) + 3, 4096, 4097, 65536 + 3];
+    for number in huge {
+        for place in 0..4 {
+            let mut corners = [1, 2, 3, 4];
+            corners[place] = number;
+            assert_eq!(sum_and_compare(&plan, corners, &table), Err(Refusal::BadRectangle));
+        }
+        for _ in 0..200 {
+            let corners = [0; 4].map(|_| if random.once_in(2) { random.pick(&huge) } else { random.below(5) });
+            let _ = sum_and_compare(&plan, corners, &table);
+        }
+    }
+}
+
+#[test]
+fn rectangle_refuses_6_then_7_then_12() {
+    let mut random = random::of_test("rectangle_refuses_6_then_7_then_12");
+    for _ in 0..1_000 * random::rounds() {
+        let plan = random.small_plan(60);
+        let pixels = (plan.rows * plan.columns) as usize;
+        let table = random.words(pixels);
+        let broken = broken_record(&mut random, &plan);
+        let (good, bad) = ([0, 0, plan.rows as usize, plan.columns as usize], [1, 0, 1, 1]);
+        for corners in [good, bad] {
+            for length in [0, pixels - 1, pixels] {
+                assert_eq!(sum_and_compare(&broken, corners, &table[..length]), Err(Refusal::BrokenRecord));
+            }
+            for length in [0, pixels - 1] {
+                assert_eq!(sum_and_compare(&plan, corners, &table[..length]), Err(Refusal::ShortBuffer));
+            }
+        }
+        assert_eq!(sum_and_compare(&plan, bad, &table), Err(Refusal::BadRectangle));
+        assert_eq!(sum_and_compare(&plan, good, &table), Ok(table[pixels - 1]));
+    }
+}
