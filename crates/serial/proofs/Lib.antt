@@ -1,0 +1,4 @@
+pub mod Stages
+pub mod Lists
+pub mod Serial
+pub mod Answers
