@@ -1,8 +1,7 @@
 -- What the call answers and leaves in the lent words, by the sizes that the plan has or is refused. Assumes nothing.
-use mathlib.Core.Path.{_≡_, refl, ap}
-use mathlib.Core.Bool.{Bool, true, false}
+use mathlib.Core.Path.{_≡_, ap}
+use mathlib.Core.Bool.{true, false}
 use mathlib.Core.List.{List}
-use mathlib.Core.Logic.{_⊎_, inl, inr, ⊎-elim}
 use Prim.Native.Nat.{ℕ, _<_, _≤_}
 use native.Mathlib.Omega.{arith}
 use lib.Dec.{ltb}
@@ -16,40 +15,28 @@ use Rattle.plan.specs.declared.Sizes.{Sizes}
 use Rattle.plan.specs.declared.PlanSizes.the-variants as sized
 use Rattle.plan.specs.Rules.{keepsRules}
 use Rattle.plan.specs.Sizes.{wordCount, sizesOf, planSizes}
+use Rattle.plan.proofs.Known.{refused-broken, refused-reason, known-kept, known-sizes}
 use Rattle.plan_writer.specs.declared.PlanWritten.the-variants.{Words, Refused}
 use Rattle.plan_writer.specs.Writing.{wordsOf, writeAnswer, writtenWords}
 use Rattle.plan_writer.proofs.Words.{words-in-front}
 
-true-or-false : (b : Bool) → (b ≡ true) ⊎ (b ≡ false)
-true-or-false true = inl refl
-true-or-false false = inr refl
-
 module _ (plan : Plan) (words : List ℕ) where
   module _ (refusal : Refusal) (e : planSizes plan ≡ sized.Refused refusal) where
-    rules-broken : keepsRules plan ≡ false
-    unfolding planSizes
-    rules-broken = ⊎-elim (λ t. let g = rw t at e in cc) (λ f. f) (true-or-false (keepsRules plan))
-
     pub refused-answer : Refused refusal ≡ writeAnswer plan (length words)
-    unfolding planSizes writeAnswer
-    refused-answer = let g = rw rules-broken at e in simp rules-broken (cc)
+    unfolding writeAnswer
+    refused-answer = simp (refused-broken plan refusal e, refused-reason plan refusal e)
 
     pub refused-words : words ≡ writtenWords plan words
     unfolding writtenWords
-    refused-words = simp rules-broken
+    refused-words = simp (refused-broken plan refusal e)
 
   module _ (sizes : Sizes) (e : planSizes plan ≡ sized.Known sizes) where
     pub rules-kept : keepsRules plan ≡ true
-    unfolding planSizes
-    rules-kept = ⊎-elim (λ t. t) (λ f. let g = rw f at e in cc) (true-or-false (keepsRules plan))
-
-    known-sizes : sizes ≡ sizesOf plan
-    unfolding planSizes
-    known-sizes = let g = rw rules-kept at e in cc
+    rules-kept = known-kept plan sizes e
 
     pub known-count : sizes .words ≡ wordCount plan
     unfolding sizesOf
-    known-count = ap (λ (s : Sizes). s .words) known-sizes
+    known-count = ap (λ (s : Sizes). s .words) (known-sizes plan sizes e)
 
     module _ (short : length words < sizes .words) where
       too-short : ltb (length words) (wordCount plan) ≡ true
