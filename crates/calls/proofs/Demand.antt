@@ -3,54 +3,39 @@
 use mathlib.Core.Path.{_≡_, refl, ap, ap₂, sym, _∙_}
 use mathlib.Core.Bool.{Bool, true, false, _||_, cond, false≢true}
 use mathlib.Core.List.{List, [], _∷_}
-use Prim.Native.Nat.{ℕ, zero, suc, _+_, _*_, _/_, _%_, _≤_, _<_}
+use Prim.Native.Nat.{ℕ, _/_, _%_, _≤_, _<_}
 use native.Mathlib.Omega.{arith}
 use lib.IntN.{ℤ}
 use lib.Dec.{ltb}
 use lib.ListN.{length}
 use borrow.Author.Tests.{ltb-false, le-ltb}
 use Rattle.refusal.specs.declared.Refusal.the-variants.{RecordBreaksRule, BufferTooShort}
-use Rattle.refusal.specs.declared.Outcome.{Outcome}
 use Rattle.refusal.specs.declared.Outcome.the-variants.{Accepted, Refused}
 use Rattle.plan.specs.declared.Plan.{Plan}
 use Rattle.plan.specs.Rules.{keepsRules}
 use Rattle.plan.specs.Sizes.{blockRows, blockColumns, neededMarks, neededStrips, neededPixels, taskCount}
 use Rattle.plan.proofs.Needed.{bounds}
 use Rattle.filter.specs.Buffer.{wordAt}
-use Rattle.tasks.specs.Tasks.{BlockTask, hasTask, exists, ready, nothingDone, alsoDone}
+use Rattle.tasks.specs.Tasks.{BlockTask, hasTask, ready, nothingDone, alsoDone}
 use Rattle.tasks.specs.Counts.{doneCount}
 use Rattle.tasks.specs.Marks.{markOf}
-use Rattle.tasks.specs.Verdict.{verdict, verdictOf}
+use Rattle.tasks.specs.Verdict.{verdictOf}
 use Rattle.tasks.proofs.Places.{has-exists, exists-block}
 use Rattle.tasks.proofs.Counting.{Only, task-count, all-of-count}
-use Rattle.tasks.proofs.Verdicts.{verdict-shown, accepted-ready, ready-accepted}
+use Rattle.tasks.proofs.Verdicts.{verdict-shown, ready-accepted}
 use Rattle.tasks.proofs.Progress.{Sound, sound-nothing}
 use Rattle.report.specs.Report.{progressOf}
 use Rattle.report.proofs.Claims.{told, reported}
 use Rattle.blocks.specs.Writes.{mapOf}
 use Rattle.blocks.specs.Matching.{serialResult}
 use Rattle.blocks.proofs.Written.{written-length, written-other, written-at}
-use Rattle.blocks.proofs.Geometry.{SideFits, side-fits}
+use Rattle.blocks.proofs.Geometry.{side-fits}
 use Rattle.blocks.proofs.Strips.{strip-place-below}
-use Rattle.calls.specs.Calls.{
-  Buffers,
-  startOutcome,
-  unmarked,
-  cleared,
-  marksAfterStart,
-  stripsAfterStart,
-  started,
-  tooShort,
-  taskOutcome,
-  performed,
-  ifAccepted,
-  afterTask,
-  afterCalls,
-  outcomesOf,
-}
+use Rattle.calls.specs.Calls.{Buffers, startOutcome, unmarked, cleared, marksAfterStart, stripsAfterStart, started, tooShort, taskOutcome, performed, afterTask, afterCalls, outcomesOf}
 use Rattle.calls.specs.Demand.{doneBy, doneFrom, doneAfter, dueFrom, Finished, Demand3}
+use Rattle.calls.proofs.Answers.{by-ready}
 use Rattle.calls.proofs.Cover.{pixel-of}
-use Rattle.calls.proofs.Invariant.{MarksKept, StripsKept, OutputKept, Kept, LongEnough}
+use Rattle.calls.proofs.Invariant.{OutputKept, Kept, LongEnough}
 use Rattle.calls.proofs.Step.{step}
 
 -- ---- one call
@@ -83,27 +68,22 @@ module _ (plan : Plan) (heights : List ℤ) (before : Buffers) (enough : LongEno
       → Kept plan heights before (doneBy plan done call) (afterTask plan heights (call .task) (call .block) now)
   unfolding doneBy afterTask
   call-kept done now kept call =
-      rw (answered done now kept (call .task) (call .block))
-      (by (ready (blockRows plan) (blockColumns plan) done (call .task) (call .block)) refl
-      (verdictOf (blockRows plan) (blockColumns plan) done (call .task) (call .block)) refl)
+      rw (
+        answered done now kept (call .task) (call .block),
+        by-ready (blockRows plan) (blockColumns plan) done (call .task) (call .block)
+            (performed plan heights (call .task) (call .block) now) now,
+      )
+      (by (ready (blockRows plan) (blockColumns plan) done (call .task) (call .block)) refl)
     where
       by : (test : Bool) → ready (blockRows plan) (blockColumns plan) done (call .task) (call .block) ≡ test
-          → (outcome : Outcome)
-          → verdictOf (blockRows plan) (blockColumns plan) done (call .task) (call .block) ≡ outcome
           → Kept plan heights before (cond test (alsoDone done (call .task) (call .block)) done)
-          (ifAccepted outcome (performed plan heights (call .task) (call .block) now) now)
-      by true r Accepted v =
+          (cond test (performed plan heights (call .task) (call .block) now) now)
+      by true r =
           step plan (side-fits plan (enough .rules)) heights before now done kept
           (rw (kept .marks-kept .long) (enough .marks-long))
           (rw (kept .strips-kept .long) (enough .strips-long))
           (rw (kept .output-kept .long) (enough .output-long)) (call .task) (call .block) r
-      by true r (Refused refusal) v =
-          let accepted = ready-accepted (blockRows plan) (blockColumns plan) done (call .task) (call .block) r in
-          let z : _≡_ {A = ℕ} 0 1 = cc in
-          absurd (omega arith)
-      by false r Accepted v =
-          absurd (false≢true (sym r ∙ accepted-ready (blockRows plan) (blockColumns plan) done (call .task) (call .block) v))
-      by false r (Refused refusal) v = kept
+      by false r = kept
 
   -- ---- a list of calls
 

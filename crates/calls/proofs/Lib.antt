@@ -1,5 +1,7 @@
+pub mod Answers
 pub mod Cover
 pub mod Tables
 pub mod Invariant
 pub mod Step
 pub mod Demand
+pub mod Accepted

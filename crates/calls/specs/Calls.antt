@@ -24,6 +24,10 @@ pub record Buffers : Type 0 where
   pub strips : List ℕ
   pub output : List ℕ
 
+-- Marks, strips and output as lent to a call.
+abbrev pub lists : List ℕ → List ℕ → List ℕ → Buffers
+lists marks strips output = record { marks = marks; strips = strips; output = output }
+
 -- Of two values, that of an accepted call or that of a refused one.
 abbrev pub ifAccepted : {A : Type 0} → Outcome → A → A → A
 ifAccepted Accepted accepted refused = accepted

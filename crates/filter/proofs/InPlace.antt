@@ -1,5 +1,5 @@
--- The fold that the kernel is, is the filter: at each place the word of the definition, elsewhere the word that was there.
--- Assumes nothing.
+-- The fold that the kernel is, is the filter: at each place the word of the definition, elsewhere the word that was
+-- there. Assumes nothing.
 use mathlib.Core.Path.{_≡_, refl, sym, ap, _∙_}
 use mathlib.Core.List.{List}
 use mathlib.Core.Logic.{_≢_, ⊎-elim}
@@ -20,6 +20,7 @@ use Rattle.filter.specs.Kernel.{
   tapPlace,
   outputAt,
   outputsAt,
+  outputsAtTime,
   leadPlace,
   linePlace,
   firstTaps,
@@ -134,20 +135,26 @@ module _ (L : Lines) (f : Filter) (q places : ℕ) (a : List ℕ) (fits : LinesF
       let x : ℕ → ℕ = λ i. wordAt a (place (q + i)) in
       let old : ℕ → ℕ = wordsBefore (λ k. 0) (λ t. wordAt a (place t)) q in
       let taps : ℕ → ℕ = λ i. wordAt b (tapPlace (L .forth) (L .back) (place t) i) in
+      let none : ℕ → ℕ = λ k. 0 in
+      let new : ℕ → ℕ = λ i. y (q + i) in
       let here : y t ≡ wordAt a (place t) =
       u .elsewhere (place t) (λ j i g c z. absurd (omega (arith, apart l j t (q + i) e g h (omega arith) z .1))) in
       let before : (i : ℕ) → i < q → y i ≡ wordAt a (place i) =
-      λ i c. u .elsewhere (place i) (λ j o g v z. absurd (omega (arith, apart l j i (q + o) e g (omega arith) (omega arith) z .1))) in
-      let past : (i : ℕ) → wordsBefore (λ k. 0) y t i ≡ history (filterStep f) old x n i =
-      λ i. wordsBefore-split (λ k. 0) y q n i
-      ∙ wordsBefore-reads _ old (λ i. y (q + i)) (λ i. y (q + i)) n (wordsBefore-reads (λ k. 0) (λ k. 0) y _ q (λ k. refl) before) (λ i c. refl) i
-      ∙ wordsBefore-history (filterStep f) old x (λ i. y (q + i)) n (λ i c. u .at l i e c) i in
+      λ i c.
+      u .elsewhere (place i)
+      (λ j o g v z. absurd (omega (arith, apart l j i (q + o) e g (omega arith) (omega arith) z .1))) in
+      let past : (i : ℕ) → wordsBefore none y t i ≡ history (filterStep f) old x n i =
+      λ i.
+      wordsBefore-split none y q n i
+      ∙ wordsBefore-reads _ old new new n (wordsBefore-reads none none y _ q (λ k. refl) before) (λ i c. refl) i
+      ∙ wordsBefore-history (filterStep f) old x new n (λ i c. u .at l i e c) i in
       ap (λ v. filterStep (firstTaps t f) v taps) here
-      ∙ filterStep-reads (firstTaps t f) (wordAt a (place t)) taps (wordsBefore (λ k. 0) y t)
-      (λ i c. let z : i < t = omega arith in
-      ap (wordAt b) (tap-is L t i (l * L .apart) (fits .low t h) z) ∙ sym (wordsBefore-inside (λ k. 0) y t i z))
-      ∙ first-taps-step f t (wordAt a (place t)) (wordsBefore (λ k. 0) y t) (λ i c. wordsBefore-past (λ k. 0) y t i c)
-      ∙ filterStep-reads f (wordAt a (place t)) (wordsBefore (λ k. 0) y t) (history (filterStep f) old x n) (λ i c. past i)
+      ∙ filterStep-reads (firstTaps t f) (wordAt a (place t)) taps (wordsBefore none y t)
+      (λ i c.
+      let z : i < t = omega arith in
+      ap (wordAt b) (tap-is L t i (l * L .apart) (fits .low t h) z) ∙ sym (wordsBefore-inside none y t i z))
+      ∙ first-taps-step f t (wordAt a (place t)) (wordsBefore none y t) (wordsBefore-past none y t)
+      ∙ filterStep-reads f (wordAt a (place t)) (wordsBefore none y t) (history (filterStep f) old x n) (λ i c. past i)
 
   pub filtered : (n : ℕ) → q + n ≤ places → Filtered L f q a n (filterInPlace L f q n a)
   unfolding filterInPlace
@@ -163,11 +170,15 @@ module _ (L : Lines) (f : Filter) (q places : ℕ) (a : List ℕ) (fits : LinesF
       let lines : (l j : ℕ) → j < l → l < L .count → p l ≢ p j =
       λ l j c e z. absurd (omega (arith, apart l j t t e (omega arith) lt lt z .0)) in
       let taps : (l j i : ℕ) → j < l → l < L .count → i < k → tapPlace (L .forth) (L .back) (p l) i ≢ p j =
-      λ l j i c e g z. let o : i < t = omega arith in
-      absurd (omega (arith, apart l j (t - suc i) t e (omega arith) (omega arith) lt (sym (tap-is L t i (l * L .apart) (fits .low t lt) o) ∙ z) .0)) in
-      let w : outputsAt (firstTaps t f) (L .forth) (L .back) (L .apart) (leadPlace L t) (L .count) b ≡ written p v (L .count) b =
-      outputsAt-written (firstTaps t f) (L .forth) (L .back) (L .apart) (leadPlace L t) (L .count) b lines taps (L .count) (omega arith) in
-      let inside : (l : ℕ) → l < L .count → p l < length b = λ l e. rw (u .length-kept) (omega (arith, fits .high l t e lt)) in
+      λ l j i c e g z.
+      let o : i < t = omega arith in
+      let y : linePlace L l (t - suc i) ≡ p j = sym (tap-is L t i (l * L .apart) (fits .low t lt) o) ∙ z in
+      absurd (omega (arith, apart l j (t - suc i) t e (omega arith) (omega arith) lt y .0)) in
+      let w : outputsAtTime L (firstTaps t f) t b ≡ written p v (L .count) b =
+      outputsAt-written (firstTaps t f) (L .forth) (L .back) (L .apart) (leadPlace L t) (L .count) b lines taps
+      (L .count) (omega arith) in
+      let inside : (l : ℕ) → l < L .count → p l < length b =
+      λ l e. rw (u .length-kept) (omega (arith, fits .high l t e lt)) in
       rw w record {
         length-kept = written-length p v (L .count) b ∙ u .length-kept;
         at = λ l i e c.
@@ -176,9 +187,11 @@ module _ (L : Lines) (f : Filter) (q places : ℕ) (a : List ℕ) (fits : LinesF
             let j : i ≡ n = omega arith in
             rw j (written-at p v (L .count) b lines inside l e ∙ next-output n b lt u l e))
             (λ (z : suc i < suc n).
-            written-other p v (L .count) b (linePlace L l (q + i)) (λ j g y. absurd (omega (arith, apart l j (q + i) t e g (omega arith) lt y .1)))
+            written-other p v (L .count) b (linePlace L l (q + i))
+            (λ j g y. absurd (omega (arith, apart l j (q + i) t e g (omega arith) lt y .1)))
             ∙ u .at l i e (omega arith))
             (eq-or-lt-of-le c);
         elsewhere = λ z e.
-            written-other p v (L .count) b z (λ j g. e j n g (omega arith)) ∙ u .elsewhere z (λ l i g c. e l i g (omega arith));
+            written-other p v (L .count) b z (λ j g. e j n g (omega arith))
+            ∙ u .elsewhere z (λ l i g c. e l i g (omega arith));
       }

@@ -1,7 +1,7 @@
 -- One turn of each loop of the kernel, and what fits. Assumes nothing.
 use mathlib.Core.Path.{_≡_}
 use mathlib.Core.List.{List}
-use Prim.Native.Nat.{ℕ, suc, _+_, _*_, _<_, _≤_, min}
+use Prim.Native.Nat.{ℕ, suc, _+_, _-_, _*_, _<_, _≤_, min}
 use native.Mathlib.Nat.{mul-le-mul-right}
 use native.Mathlib.Numerals.{add-one}
 use native.Mathlib.Omega.{arith}
@@ -67,15 +67,39 @@ places-fit {n} {L} h t k l e =
       high = λ x f. let y : L .first + t * L .forth + x * L .apart < n = h .high x t f l in omega arith;
     }
 
--- What the arithmetic of one turn wants.
-pub record TimeFits (n : ℕ) (L : Lines) (t : ℕ) : Type 0 where
-  pub time : t < n
-  pub low : t * L .back ≤ L .first
-  pub high : L .first + t * L .forth < n
+pub lines-fit-fewer : {n : ℕ} {L : Lines} {places : ℕ} → LinesFit n L places → (p : ℕ) → p ≤ places → LinesFit n L p
+lines-fit-fewer h p l =
+    record {
+      some = h .some;
+      one-way = h .one-way;
+      enough = omega (arith, h .enough);
+      low = λ t e. h .low t (omega arith);
+      high = λ x t f e. h .high x t f (omega arith);
+    }
 
-pub time-fits : {n : ℕ} {L : Lines} {places : ℕ} → LinesFit n L places → (t : ℕ) → t < places → TimeFits n L t
-time-fits h t l =
-    record { time = omega (arith, h .enough); low = h .low t l; high = omega (arith, h .high 0 t (h .some) l) }
+-- One place in a forward pass, where nothing lies back, and in a backward pass, where nothing lies forth.
+module _ (L : Lines) (t : ℕ) where
+  lead-forward : L .back ≡ 0 → leadPlace L t ≡ L .first + t * L .forth
+  lead-forward e = rw e (omega arith)
+
+  lead-backward : L .forth ≡ 0 → leadPlace L t ≡ L .first - t * L .back
+  lead-backward e = rw e (omega arith)
+
+  pub forward-fits : {n places : ℕ} → LinesFit n L places → (k : ℕ) → t < places → k ≤ t → L .back ≡ 0
+      → PlacesFit n (L .first + t * L .forth) (L .forth) 0 (L .apart) (L .count) k
+  forward-fits h k l e z = rw (lead-forward z, z) at (places-fit h t k l e)
+
+  pub backward-fits : {n places : ℕ} → LinesFit n L places → (k : ℕ) → t < places → k ≤ t → L .forth ≡ 0
+      → PlacesFit n (L .first - t * L .back) 0 (L .back) (L .apart) (L .count) k
+  backward-fits h k l e z = rw (lead-backward z, z) at (places-fit h t k l e)
+
+  pub forward-outputs : (f : Filter) (a : List ℕ) {b : List ℕ} → L .back ≡ 0
+      → b ≡ outputsAt f (L .forth) 0 (L .apart) (L .first + t * L .forth) (L .count) a → b ≡ outputsAtTime L f t a
+  forward-outputs f a z e = rw (lead-forward z, z) e
+
+  pub backward-outputs : (f : Filter) (a : List ℕ) {b : List ℕ} → L .forth ≡ 0
+      → b ≡ outputsAt f 0 (L .back) (L .apart) (L .first - t * L .back) (L .count) a → b ≡ outputsAtTime L f t a
+  backward-outputs f a z e = rw (lead-backward z, z) e
 
 pub place-more : (L : Lines) (f : Filter) (q n : ℕ) (a b : List ℕ) {e : List ℕ}
     → b ≡ filterInPlace L f q n a → e ≡ outputsAtTime L (firstTaps (q + n) f) (q + n) b

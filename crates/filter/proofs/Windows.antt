@@ -146,22 +146,30 @@ pub some-lines : {n : ℕ} (a : Axis) (d : Direction) (W : Window) (q : ℕ) →
 some-lines columns d W q fits = (fits .wide, fits .tall)
 some-lines rows d W q fits = (fits .tall, fits .wide)
 
+-- A window has no more rows, and no more columns, than a buffer has places.
 pub few-places : {n : ℕ} (a : Axis) (d : Direction) (W : Window) (q : ℕ) → WindowFits n a d W q
     → q + along a (W .height) (W .width) ≤ n
-few-places columns forward W q fits =
-    omega (arith, fits .start, fits .in-buffer, mul-le-mul-left {m = 1} {n = W .stride} (W .top + W .height + 0) (omega (arith, fits .wide, fits .in-row)))
-few-places columns backward W q fits =
-    omega (arith, fits .in-buffer, mul-le-mul-left {m = 1} {n = W .stride} (W .top + W .height + q) (omega (arith, fits .wide, fits .in-row)))
-few-places rows forward W q fits =
-    omega (arith, fits .start, fits .in-row, fits .in-buffer, mul-le-mul-right {m = 1} {n = W .top + W .height + 0} (W .stride) (omega (arith, fits .tall)))
-few-places rows backward W q fits =
-    omega (arith, fits .in-row, fits .in-buffer, mul-le-mul-right {m = 1} {n = W .top + W .height + 0} (W .stride) (omega (arith, fits .tall)))
+few-places a d W q fits =
+    let bottom : ℕ = W .top + W .height + along a (ifBackward (isBackward d) q) 0 in
+    few a d W q fits (mul-le-mul-left {m = 1} {n = W .stride} bottom (omega (arith, fits .wide, fits .in-row)))
+    (mul-le-mul-right {m = 1} {n = bottom} (W .stride) (omega (arith, fits .tall)))
+  where
+    few : {n : ℕ} (a : Axis) (d : Direction) (W : Window) (q : ℕ) → WindowFits n a d W q
+        → (W .top + W .height + along a (ifBackward (isBackward d) q) 0) * 1
+        ≤ (W .top + W .height + along a (ifBackward (isBackward d) q) 0) * W .stride
+        → 1 * W .stride ≤ (W .top + W .height + along a (ifBackward (isBackward d) q) 0) * W .stride
+        → q + along a (W .height) (W .width) ≤ n
+    few columns forward W q fits h k = omega (arith, fits .start, fits .in-buffer)
+    few columns backward W q fits h k = omega (arith, fits .in-buffer)
+    few rows forward W q fits h k = omega (arith, fits .start, fits .in-row, fits .in-buffer)
+    few rows backward W q fits h k = omega (arith, fits .in-row, fits .in-buffer)
 
 pub lines-fit : {n : ℕ} (a : Axis) (d : Direction) (W : Window) (q : ℕ) → WindowFits n a d W q
     → LinesFit n (windowLines a d W q) (q + along a (W .height) (W .width))
 lines-fit a forward W q fits =
     record {
       some = some-lines a forward W q fits .0;
+      one-way = λ h. absurd (omega arith);
       enough = few-places a forward W q fits;
       low = λ t e. omega arith;
       high = λ l t h e. omega (arith, place-in a forward W q fits l t h e);
@@ -169,8 +177,11 @@ lines-fit a forward W q fits =
 lines-fit a backward W q fits =
     record {
       some = some-lines a backward W q fits .0;
+      one-way = λ h. refl;
       enough = few-places a backward W q fits;
-      low = λ t e. omega (arith, mul-le-mul-right {m = t} {n = (along a (W .height) (W .width) + q) - 1} (along a (W .stride) 1) (omega arith));
+      low = λ t e.
+          let last : ℕ = (along a (W .height) (W .width) + q) - 1 in
+          omega (arith, mul-le-mul-right {m = t} {n = last} (along a (W .stride) 1) (omega arith));
       high = λ l t h e. omega (arith, place-in a backward W q fits l 0 h (omega arith));
     }
 
@@ -178,19 +189,21 @@ lines-fit a backward W q fits =
 
 -- Buffer b has at each pixel of the window the word of the filter over the window's lines, H l standing for the words
 -- beyond line l, and everywhere else the word of buffer a.
-pub record Passed (a : Axis) (d : Direction) (W : Window) (f : Filter) (H : ℕ → ℕ → ℕ) (before after : List ℕ) : Type 0 where
-  pub length-kept : length after ≡ length before
-  pub at : (y x : ℕ) → y < W .height → x < W .width
-      → windowOf W after y x ≡ filterLines a d f (along a (W .height) (W .width)) H (windowOf W before) y x
-  pub elsewhere : (z : ℕ)
-      → ((y x : ℕ) → y < W .height → x < W .width → z ≢ pixelPlace (W .stride) (W .top + y) (W .left + x))
-      → wordAt after z ≡ wordAt before z
+pub record Passed (a : Axis) (d : Direction) (W : Window) (f : Filter) (H : ℕ → ℕ → ℕ) (before after : List ℕ) : Type 0
+  where
+    pub length-kept : length after ≡ length before
+    pub at : (y x : ℕ) → y < W .height → x < W .width
+        → windowOf W after y x ≡ filterLines a d f (along a (W .height) (W .width)) H (windowOf W before) y x
+    pub elsewhere : (z : ℕ)
+        → ((y x : ℕ) → y < W .height → x < W .width → z ≢ pixelPlace (W .stride) (W .top + y) (W .left + x))
+        → wordAt after z ≡ wordAt before z
 
 -- The histories are the words beside the window, q of each line, and 0 past these.
-pub record Histories (a : Axis) (d : Direction) (W : Window) (f : Filter) (q : ℕ) (H : ℕ → ℕ → ℕ) (buffer : List ℕ) : Type 0 where
-  pub near : (l k : ℕ) → l < across a (W .height) (W .width) → k < q → k < f .order
-      → wordsBesideWindow a d W buffer l k ≡ H l k
-  pub far : (l k : ℕ) → l < across a (W .height) (W .width) → q ≤ k → k < f .order → 0 ≡ H l k
+pub record Histories (a : Axis) (d : Direction) (W : Window) (f : Filter) (q : ℕ) (H : ℕ → ℕ → ℕ) (buffer : List ℕ) : Type 0
+  where
+    pub near : (l k : ℕ) → l < across a (W .height) (W .width) → k < q → k < f .order
+        → wordsBesideWindow a d W buffer l k ≡ H l k
+    pub far : (l k : ℕ) → l < across a (W .height) (W .width) → q ≤ k → k < f .order → 0 ≡ H l k
 
 -- What holds of each line holds of each pixel.
 by-line : (a : Axis) (h w : ℕ) (X : ℕ → ℕ → ℕ) (line : ℕ → ℕ → ℕ)
@@ -205,15 +218,18 @@ by-pixel : (a : Axis) (h w : ℕ) (place : ℕ → ℕ → ℕ) (z : ℕ) → ((
 by-pixel columns h w place z e l i p q = e i l q p
 by-pixel rows h w place z e l i p q = e l i p q
 
-window-line : (a : Axis) (W : Window) (buffer : List ℕ) (l i : ℕ)
-    → wordAt buffer (lineOf a (pixelPlace (W .stride)) (lineIn a W l) (along a (W .top) (W .left) + i))
-    ≡ lineOf a (windowOf W buffer) l i
-window-line columns W buffer l i = refl
-window-line rows W buffer l i = refl
+-- A word of a line is a word of a pixel.
+line-word : (a : Axis) (word : ℕ → ℕ) (place : ℕ → ℕ → ℕ) (l i : ℕ)
+    → word (lineOf a place l i) ≡ lineOf a (λ y x. word (place y x)) l i
+line-word columns word place l i = refl
+line-word rows word place l i = refl
+
+-- The place of a pixel of a window.
+abbrev placeIn : Window → ℕ → ℕ → ℕ
+placeIn W y x = pixelPlace (W .stride) (W .top + y) (W .left + x)
 
 line-pixel : (a : Axis) (W : Window) (l i : ℕ)
-    → lineOf a (pixelPlace (W .stride)) (lineIn a W l) (along a (W .top) (W .left) + i)
-    ≡ lineOf a (λ y x. pixelPlace (W .stride) (W .top + y) (W .left + x)) l i
+    → lineOf a (pixelPlace (W .stride)) (lineIn a W l) (along a (W .top) (W .left) + i) ≡ lineOf a (placeIn W) l i
 line-pixel columns W l i = refl
 line-pixel rows W l i = refl
 
@@ -225,13 +241,17 @@ module _ (a : Axis) (d : Direction) (W : Window) (f : Filter) (q : ℕ) (H : ℕ
   abbrev m : ℕ
   m = along a (W .height) (W .width)
 
-  -- The words of a line that the kernel reads, in its order.
-  inside-is : (l j : ℕ) → j < m → wordAt before (linePlace L l (q + j)) ≡ lineOf a (windowOf W before) l (reflect d m j)
-  inside-is l j h =
-      ap (wordAt before)
-      (line-place a d W q fits l (q + j) (omega arith)
-      ∙ ap (lineOf a (pixelPlace (W .stride)) (lineIn a W l)) (index-inside d _ m q j (fits .start) h))
-      ∙ window-line a W before l (reflect d m j)
+  -- The place that the kernel comes to after j others.
+  place-is : (l j : ℕ) → j < m → linePlace L l (q + j) ≡ lineOf a (placeIn W) l (reflect d m j)
+  place-is l j h =
+      line-place a d W q fits l (q + j) (omega arith)
+      ∙ ap (lineOf a (pixelPlace (W .stride)) (lineIn a W l)) (index-inside d _ m q j (fits .start) h)
+      ∙ line-pixel a W l (reflect d m j)
+
+  word-is : (buffer : List ℕ) (l j : ℕ) → j < m
+      → wordAt buffer (linePlace L l (q + j)) ≡ lineOf a (windowOf W buffer) l (reflect d m j)
+  word-is buffer l j h =
+      ap (wordAt buffer) (place-is l j h) ∙ line-word a (wordAt buffer) (placeIn W) l (reflect d m j)
 
   history-is : (l k : ℕ) → l < across a (W .height) (W .width) → k < f .order
       → wordsBefore (λ k. 0) (λ t. wordAt before (linePlace L l t)) q k ≡ H l k
@@ -253,14 +273,11 @@ module _ (a : Axis) (d : Direction) (W : Window) (f : Filter) (q : ℕ) (H : ℕ
   line-is after u l i h e =
       let j : ℕ = reflect d m i in
       let b : j < m = reflect-lt d m i e in
-      sym
-      (ap (wordAt after)
-      (line-place a d W q fits l (q + j) (omega arith)
-      ∙ ap (lineOf a (pixelPlace (W .stride)) (lineIn a W l)) (index-inside d _ m q j (fits .start) b ∙ ap (along a (W .top) (W .left) +_) (reflect-twice d m i e)))
-      ∙ window-line a W after l i)
+      ap (lineOf a (windowOf W after) l) (sym (reflect-twice d m i e))
+      ∙ sym (word-is after l j b)
       ∙ u .at l j h b
       ∙ output-reads (filterStep f) (f .order) (filterStep-reads f) _ (H l) _ _ (λ k c. history-is l k h c) j
-      (λ k c. inside-is l k (omega arith))
+      (λ k c. word-is before l k (omega arith))
 
   passed-at : (after : List ℕ) → Filtered L f q before m after → Passed a d W f H before after
   unfolding filterLines
@@ -268,9 +285,11 @@ module _ (a : Axis) (d : Direction) (W : Window) (f : Filter) (q : ℕ) (H : ℕ
       record {
         length-kept = u .length-kept;
         at = by-line a (W .height) (W .width) (windowOf W after) _ (line-is after u);
-        elsewhere = λ z e. u .elsewhere z (λ l i h c p.
-            by-pixel a (W .height) (W .width) (λ y x. pixelPlace (W .stride) (W .top + y) (W .left + x)) z e l (reflect d m i) h (reflect-lt d m i c)
-            (p ∙ line-place a d W q fits l (q + i) (omega arith) ∙ ap (lineOf a (pixelPlace (W .stride)) (lineIn a W l)) (index-inside d _ m q i (fits .start) c) ∙ line-pixel a W l (reflect d m i)));
+        elsewhere = λ z e.
+            u .elsewhere z
+            (λ l i h c p.
+            by-pixel a (W .height) (W .width) (placeIn W) z e l (reflect d m i) h (reflect-lt d m i c)
+            (p ∙ place-is l i c));
       }
 
 -- A pass over a window is the filter over its lines.

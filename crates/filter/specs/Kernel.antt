@@ -1,4 +1,5 @@
 -- What the kernel computes: the folds that its loops are, and what fits a buffer.
+use mathlib.Core.Path.{_≡_}
 use mathlib.Core.List.{List}
 use Prim.Native.Nat.{ℕ, zero, suc, _+_, _-_, _*_, _<_, _≤_, min}
 use lib.ListN.{set}
@@ -60,9 +61,10 @@ unfoldable pub filterInPlace : Lines → Filter → ℕ → ℕ → List ℕ →
 filterInPlace L f q zero buffer = buffer
 filterInPlace L f q (suc n) buffer = outputsAtTime L (firstTaps (q + n) f) (q + n) (filterInPlace L f q n buffer)
 
--- There are lines, and their first `places` places, no more than n, lie in a buffer of n words.
+-- There are lines, in one direction, and their first `places` places, no more than n, lie in a buffer of n words.
 pub record LinesFit (n : ℕ) (L : Lines) (places : ℕ) : Type 0 where
   pub some : 0 < L .count
+  pub one-way : 0 < L .back → L .forth ≡ 0
   pub enough : places ≤ n
   pub low : (t : ℕ) → t < places → t * L .back ≤ L .first
   pub high : (l t : ℕ) → l < L .count → t < places → L .first + t * L .forth + l * L .apart < n

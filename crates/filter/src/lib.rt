@@ -6,7 +6,7 @@ ghost use Rattle.plan.specs.Rules.{orderLimit};
 ghost use Rattle.passes.specs.Passes.{axisOf, directionOf, along, across};
 ghost use Rattle.passes.specs.Pixel.{pixel};
 ghost use Rattle.filter.specs.Filters.{filterBy, filterWith, filterWords};
-ghost use Rattle.filter.specs.Kernel.{outputAt, TapsFit, outputsAt, PlacesFit, filterInPlace, LinesFit};
+ghost use Rattle.filter.specs.Kernel.{outputAt, TapsFit, outputsAt, PlacesFit, outputsAtTime, filterInPlace, LinesFit};
 ghost use Rattle.filter.specs.Windows.{isBackward, ifForward, ifBackward, windowLines, windowPass, WindowFits};
 
 // A filter: the gain and the coefficients of a pass as residues modulo 2^64.
@@ -117,6 +117,49 @@ pub fn lesser(a: usize, b: usize) -> usize
     if a < b { a } else { b }
 }
 
+// The outputs of all lines at place `time`. Two calls, one for each direction, keep `outputs_at_place` out of line.
+fn outputs_at_time(
+    buffer: &mut [u64],
+    lines: Lines,
+    time: usize,
+    gain: u64,
+    coefficients: &[u64; plan::ORDER_LIMIT],
+    order: usize,
+)
+    requires { ⌜ (order ≤ orderLimit) × (order ≤ time) × LinesFit (length (now buffer)) lines (time + 1) ⌝ }
+    ensures { λ _. ⌜ now (buffer .exit) ≡ outputsAtTime lines (filterBy gain order (now (coefficients .entry))) time (now (buffer .entry)) ⌝ }
+{
+    let apart = lines.apart;
+    let count = lines.count;
+    if lines.back == 0 {
+        let place = lines.first + time * lines.forth;
+        outputs_at_place(
+            buffer,
+            place,
+            lines.forth,
+            0,
+            apart,
+            count,
+            gain,
+            coefficients,
+            order,
+        );
+    } else {
+        let place = lines.first - time * lines.back;
+        outputs_at_place(
+            buffer,
+            place,
+            0,
+            lines.back,
+            apart,
+            count,
+            gain,
+            coefficients,
+            order,
+        );
+    }
+}
+
 // The outputs of many lines at `places` places, after `history` places whose words are their history.
 fn filter_lines(
     buffer: &mut [u64],
@@ -133,19 +176,8 @@ fn filter_lines(
     let mut done = 0;
     while done < places {
         let time = history + done;
-        let place = lines.first + time * lines.forth - time * lines.back;
         let taps = lesser(order, time);
-        outputs_at_place(
-            buffer,
-            place,
-            lines.forth,
-            lines.back,
-            lines.apart,
-            lines.count,
-            gain,
-            coefficients,
-            taps,
-        );
+        outputs_at_time(buffer, lines, time, gain, coefficients, taps);
         done += 1;
     }
 }

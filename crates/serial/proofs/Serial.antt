@@ -80,7 +80,9 @@ module _ (plan : Plan) (heights : List ℤ) where
         record {
           length-same = u .length-kept ∙ same .length-same;
           rest = λ z h.
-              u .elsewhere z (λ y x p q e. absurd (omega (arith, place-below (plan .rows) (plan .columns) (top + y) x (omega arith) q)))
+              u .elsewhere z
+              (λ y x p q e.
+              absurd (omega (arith, place-below (plan .rows) (plan .columns) (top + y) x (omega arith) q)))
               ∙ same .rest z h;
         }
 
@@ -155,7 +157,7 @@ module _ (plan : Plan) (heights : List ℤ) where
           left = λ y c e. stays 2 y (λ j g p. absurd (omega arith)) (u .left y c (omega arith));
         }
 
-    pub steps-are-serial : (output : List ℕ) → neededPixels plan ≤ length output
+    steps-are-serial : (output : List ℕ) → neededPixels plan ≤ length output
         → bandsPassed plan (blockCount (plan .rows) bandRows)
         (rowsPassed plan 0 (plan .rows) 1
         (rowsPassed plan 0 (plan .rows) 0 (pixelsRead (neededPixels plan) heights output)))
@@ -183,3 +185,14 @@ module _ (plan : Plan) (heights : List ℤ) where
         let y : i / w < h = row-below h w i c in
         ap (wordAt left) (sym (div-add-mod' i w)) ∙ u .done (i / w) y (omega arith) (i % w) (column-below h w i c))
         (u .same .rest)
+
+    -- The same of the buffers that the steps leave, one after another.
+    pub steps-reach : (output : List ℕ) → neededPixels plan ≤ length output → {read down up left : List ℕ}
+        → read ≡ pixelsRead (neededPixels plan) heights output → down ≡ rowsPassed plan 0 (plan .rows) 0 read
+        → up ≡ rowsPassed plan 0 (plan .rows) 1 down → left ≡ bandsPassed plan (blockCount (plan .rows) bandRows) up
+        → left ≡ serialWords plan heights ++ drop (neededPixels plan) output
+    steps-reach output long r d u l =
+        l
+        ∙ ap (bandsPassed plan (blockCount (plan .rows) bandRows))
+        (u ∙ ap (rowsPassed plan 0 (plan .rows) 1) (d ∙ ap (rowsPassed plan 0 (plan .rows) 0) r))
+        ∙ steps-are-serial output long

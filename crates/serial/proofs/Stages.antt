@@ -1,5 +1,5 @@
 -- The steps of the serial passes. Assumes nothing.
-use mathlib.Core.Path.{_≡_, sym}
+use mathlib.Core.Path.{_≡_, sym, ap, _∙_}
 use mathlib.Core.Bool.{true}
 use mathlib.Core.List.{List}
 use Prim.Native.Nat.{ℕ, _+_, _-_, _*_, _<_, _≤_, min}
@@ -9,12 +9,15 @@ use native.Mathlib.Omega.{arith}
 use lib.IntN.{ℤ, pos}
 use lib.ListN.{getD, set}
 use Rattle.plan.specs.declared.Plan.{Plan}
-use Rattle.plan.specs.Rules.{keepsRules}
+use Rattle.plan.specs.Rules.{passAt, keepsRules}
 use Rattle.plan.specs.Sizes.{neededPixels}
 use Rattle.plan.proofs.Record.{rules}
 use Rattle.passes.specs.Passes.{Axis, Direction}
 use Rattle.passes.specs.Pixel.{pixel}
-use Rattle.filter.specs.Windows.{WindowFits}
+use Rattle.filter.specs.declared.FilterWords.{FilterWords}
+use Rattle.filter.specs.Filters.{filterWith, filterWords}
+use Rattle.filter.specs.Windows.{windowPass, WindowFits}
+use Rattle.filter.proofs.Filters.{filterWords-filter}
 use Rattle.filter.proofs.Written.{written-none, written-next}
 use Rattle.filter.proofs.Windows.{fits-alone}
 use Rattle.serial.specs.Stages.{pixelsRead, mapRows, rowsPassed, bandRows, bandsPassed}
@@ -45,3 +48,14 @@ rows-fit plan kept n top height tall inside long a d =
     let known = rules plan kept in
     fits-alone a d (mapRows plan top height) tall (omega arith) (omega arith)
     (omega (arith, mul-le-mul-right (plan .columns) inside))
+
+-- With the words of the plan's filter a pass is that of the plan.
+pub rows-passed : (plan : Plan) (top height pass : ℕ) (output : List ℕ) {words : FilterWords} {b : List ℕ}
+    → words ≡ filterWords (passAt plan pass)
+    → b ≡ windowPass pass (mapRows plan top height) 0 (filterWith words) output
+    → b ≡ rowsPassed plan top height pass output
+unfolding rowsPassed
+rows-passed plan top height pass output e f =
+    f
+    ∙ ap (λ z. windowPass pass (mapRows plan top height) 0 z output)
+    (ap filterWith e ∙ filterWords-filter (passAt plan pass))

@@ -80,7 +80,7 @@ pub lines-fit : (n count places pass : ℕ) → 0 < count → count ≤ orderLim
 lines-fit n count places pass a b c d e = rw (row-axis pass) (lines-fit-along n count places _ a b c d e)
 
 -- A pass by another name of its axis and its direction.
-passed-along : {a b : Axis} {d e : Direction} {W : Window} {f : Filter} {before after : List ℕ} → a ≡ b → d ≡ e
+pub passed-along : {a b : Axis} {d e : Direction} {W : Window} {f : Filter} {before after : List ℕ} → a ≡ b → d ≡ e
     → Passed a d W f (wordsBesideWindow a d W before) before after
     → Passed b e W f (wordsBesideWindow b e W before) before after
 passed-along p q passed = rw (← p, ← q) passed

@@ -1,13 +1,11 @@
 -- A slot and the strips in it are small. Assumes nothing.
 use mathlib.Core.Path.{_≡_}
 use mathlib.Core.Bool.{true}
-use Prim.Native.Nat.{ℕ, _+_, _*_, _≤_, _<_, _^_}
-use native.Mathlib.Nat.{mul-le-mul}
+use Prim.Native.Nat.{ℕ, _*_, _<_, _^_}
 use native.Mathlib.Omega.{arith}
 use Rattle.plan.specs.declared.Plan.{Plan}
-use Rattle.plan.specs.Rules.{orderLimit, keepsRules}
+use Rattle.plan.specs.Rules.{keepsRules}
 use Rattle.plan.specs.Sizes.{orderSum, neededMarks}
-use Rattle.plan.proofs.Record.{rules, order-sum-limited}
 use Rattle.plan.proofs.Needed.{bounds}
 use Rattle.blocks.specs.Strips.{slotWords, slotStart, stripStart}
 use Rattle.blocks.proofs.Strips.{slot-in-list, strip-in-list}

@@ -2,7 +2,7 @@
 use plan::Plan;
 ghost use mathlib.Core.Path.{_≡_};
 ghost use mathlib.Core.Bool.{true};
-ghost use Prim.Native.Nat.{_<_, _≤_, min};
+ghost use Prim.Native.Nat.{_<_, _≤_};
 ghost use lib.ListN.{length};
 ghost use Rattle.plan.specs.Rules.{keepsRules};
 ghost use Rattle.plan.specs.Sizes.{neededMarks, orderSum};
@@ -138,12 +138,6 @@ pub fn strip_start(plan: Plan, k: usize, pass: usize) -> usize
     k * slot + plan.side * order_sum(plan, pass)
 }
 
-fn lesser(a: usize, b: usize) -> usize
-    ensures { λ r. ⌜ r ≡ min a b ⌝ }
-{
-    if a < b { a } else { b }
-}
-
 // A strip of `lines` lines, in a block of `extent` places along the pass: its last places where the pass runs forward, its
 // first where it runs backward.
 fn strip_with(
@@ -157,7 +151,7 @@ fn strip_with(
 ) -> Strip
     ensures { λ r. ⌜ r ≡ stripWith (directionOf pass) order extent start «line_step» «place_step» lines ⌝ }
 {
-    let inside = lesser(order, extent);
+    let inside = filter::lesser(order, extent);
     if pass % 2 == 0 {
         Strip {
             start: start,

@@ -6,7 +6,7 @@ use borrow.Author.Needs.{needs}
 use lib.ListN.{length}
 use Rattle.filter.specs.Filters.{filterBy}
 use Rattle.filter.specs.Kernel.{filterInPlace}
-use Rattle.filter.proofs.Turns.{TimeFits, time-fits, places-fit, place-more}
+use Rattle.filter.proofs.Turns.{lines-fit-fewer, place-more}
 use Rattle.filter.proofs.filter_lines.Statement.{statement}
 use Rattle.filter.proofs.filter_lines.Tie as tie
 
@@ -14,48 +14,31 @@ abbrev Inv-loop : tie.InvT-loop
 Inv-loop buffer₀ lines history places gain coefficients order done₀ buffer done =
     (done ≤ places)
     × (length buffer ≡ length buffer₀)
-    × (buffer
-    ≡ filterInPlace lines (filterBy gain order coefficients) history done buffer₀)
+    × (buffer ≡ filterInPlace lines (filterBy gain order coefficients) history done buffer₀)
 
 abbrev μ-loop : tie.MeasureT-loop
 μ-loop buffer₀ lines history places gain coefficients order done₀ buffer done = places - done
-
--- The place of this turn is in the buffer.
-here : (c : tie.In-loop Inv-loop μ-loop)
-    → let a = c .before .before .before .args in
-    TimeFits (length (a .buffer .now)) (a .lines)
-    (a .history + c .before .loop .done)
-here c = time-fits (c .before .before .before .pre .1) _ (omega arith)
 
 loop-holds : tie.Need-loop-holds Inv-loop μ-loop
 unfolding filterInPlace
 loop-holds c = (omega arith, refl, refl)
 
 add-time : tie.Need-add-time Inv-loop μ-loop
-add-time c = let h = here c in omega arith
-
-mul-place : tie.Need-mul-place Inv-loop μ-loop
-mul-place c = let h = here (c .before) in omega arith
-
-add-place : tie.Need-add-place Inv-loop μ-loop
-add-place c = let h = here (c .before .before) in omega arith
-
-mul-place-2 : tie.Need-mul-place-2 Inv-loop μ-loop
-mul-place-2 c = let h = here (c .before .before .before) in omega arith
-
-sub-place : tie.Need-sub-place Inv-loop μ-loop
-sub-place c = let h = here (c .before .before .before) in omega arith
+add-time c = omega (arith, c .before .before .before .pre .1 .enough)
 
 lesser-requires : tie.Need-lesser-requires Inv-loop μ-loop
 lesser-requires c κs = search needs
 
-outputs-at-place-requires : tie.Need-outputs-at-place-requires Inv-loop μ-loop
-outputs-at-place-requires c κs =
-    let l = c .before .before .before .before .before .before in
+outputs-at-time-requires : tie.Need-outputs-at-time-requires Inv-loop μ-loop
+outputs-at-time-requires c κs =
+    let f = c .before in
+    let l = f .before .before in
     let s = l .before .before in
-    let t = s .args .history + l .loop .done in
-    let e : length (l .loop .buffer) ≡ length (s .args .buffer .now) = l .loop .inv .1 in
-    (omega (arith, c .before .lesser .ensures), rw e (places-fit (s .pre .1) t (c .before .lesser .result) (omega arith) (omega (arith, c .before .lesser .ensures))))
+    let e : length (l .loop .buffer) ≡ length (s .args .buffer .now) = l .loop .inv .1 in (
+      omega (arith, f .lesser .ensures),
+      omega (arith, f .lesser .ensures),
+      rw e (lines-fit-fewer (s .pre .1) (s .args .history + l .loop .done + 1) (omega arith)),
+    )
 
 add-done : tie.Need-add-done Inv-loop μ-loop
 add-done c = search needs
@@ -66,11 +49,11 @@ loop-less c = search needs
 loop-again : tie.Need-loop-again Inv-loop μ-loop
 loop-again c =
     let f = c .before .before in
-    let l = f .before .before .before .before .before .before .before in (
+    let l = f .before .before .before .before in (
       omega arith,
-      omega (arith, f .outputs-at-place .kept, l .loop .inv .1),
+      omega (arith, f .outputs-at-time .kept, l .loop .inv .1),
       place-more _ _ _ (l .loop .done) _ (l .loop .buffer) (l .loop .inv .2)
-          (rw (f .before .before .lesser .ensures) at (f .outputs-at-place .ensures)),
+          (rw (f .before .before .lesser .ensures) at (f .outputs-at-time .ensures)),
     )
 
 same-length : tie.Need-same-length Inv-loop μ-loop
@@ -89,12 +72,8 @@ filter-lines-spec =
     μ-loop
     loop-holds
     add-time
-    mul-place
-    add-place
-    mul-place-2
-    sub-place
     lesser-requires
-    outputs-at-place-requires
+    outputs-at-time-requires
     add-done
     loop-less
     loop-again

@@ -1,6 +1,6 @@
 -- `outputs_at_place` has stored the outputs of the lines passed so far.
 use mathlib.Core.Path.{_≡_, refl, _∙_}
-use Prim.Native.Nat.{_-_, _≤_}
+use Prim.Native.Nat.{_+_, _-_, _*_, _<_, _≤_}
 use native.Mathlib.Omega.{arith}
 use borrow.Author.Needs.{needs}
 use lib.ListN.{length, length-set}
@@ -19,28 +19,31 @@ Inv-loop buffer₀ place forth back apart lines gain coefficients order line₀ 
 abbrev μ-loop : tie.MeasureT-loop
 μ-loop buffer₀ place forth back apart lines gain coefficients order line₀ buffer line = lines - line
 
+-- The place of this turn, and the words that it reads, are in the buffer.
+here : (c : tie.In-loop Inv-loop μ-loop)
+    → let a = c .before .before .before .args in
+    a .place + c .before .loop .line * a .apart + a .order * a .back < length (a .buffer .now)
+here c = c .before .before .before .pre .1 .high (c .before .loop .line) (omega arith)
+
 loop-holds : tie.Need-loop-holds Inv-loop μ-loop
 unfolding outputsAt
 loop-holds c = (omega arith, refl, refl)
 
 mul-here : tie.Need-mul-here Inv-loop μ-loop
-mul-here c = omega (arith, c .before .before .before .pre .1 .high (c .before .loop .line) (omega arith))
+mul-here c = omega (arith, here c)
 
 add-here : tie.Need-add-here Inv-loop μ-loop
-add-here c = omega (arith, c .before .before .before .pre .1 .high (c .before .loop .line) (omega arith))
+add-here c = omega (arith, here c)
 
 output-at-requires : tie.Need-output-at-requires Inv-loop μ-loop
 output-at-requires c κs =
-    let h = c .before .before .before .before .pre .1 .high (c .before .before .loop .line) (omega arith) in
-    (omega arith, record { low = omega arith; high = omega arith })
+    let h = here (c .before) in (omega arith, record { low = omega arith; high = omega arith })
 
 mul-buffer : tie.Need-mul-buffer Inv-loop μ-loop
-mul-buffer c =
-    omega (arith, c .before .before .before .before .before .pre .1 .high (c .before .before .before .loop .line) (omega arith))
+mul-buffer c = omega (arith, here (c .before .before))
 
 slice-write-buffer : tie.Need-slice-write-buffer Inv-loop μ-loop
-slice-write-buffer c =
-    omega (arith, c .before .before .before .before .before .pre .1 .high (c .before .before .before .loop .line) (omega arith))
+slice-write-buffer c = omega (arith, here (c .before .before))
 
 add-line : tie.Need-add-line Inv-loop μ-loop
 add-line c = search needs

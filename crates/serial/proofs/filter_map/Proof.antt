@@ -1,11 +1,8 @@
 -- `filter_map` goes the steps of the serial passes.
-use mathlib.Core.Path.{ap, _∙_}
 use native.Mathlib.Omega.{arith}
 use borrow.Author.Needs.{needs}
 use Rattle.plan.proofs.Record.{rules}
-use Rattle.plan.specs.Sizes.{blockCount}
-use Rattle.serial.specs.Stages.{rowsPassed, bandRows, bandsPassed}
-use Rattle.serial.proofs.Serial.{steps-are-serial}
+use Rattle.serial.proofs.Serial.{steps-reach}
 use Rattle.serial.proofs.filter_map.Statement.{statement}
 use Rattle.serial.proofs.filter_map.Tie as tie
 
@@ -51,13 +48,8 @@ returns c =
     let d = u .before .before .before .before in
     let r = d .before .before .before .before in
     let s = r .before .before .before .before in
-    let plan = s .args .plan in
-    b .pass-over-bands .ensures
-    ∙ ap (bandsPassed plan (blockCount (plan .rows) bandRows))
-    (u .pass-over-rows2 .ensures
-    ∙ ap (rowsPassed plan 0 (plan .rows) 1)
-    (d .pass-over-rows .ensures ∙ ap (rowsPassed plan 0 (plan .rows) 0) (r .read-map .ensures)))
-    ∙ steps-are-serial plan (s .args .map .now) (s .pre .0) (s .args .output .now) (s .pre .2)
+    steps-reach (s .args .plan) (s .args .map .now) (s .pre .0) (s .args .output .now) (s .pre .2)
+    (r .read-map .ensures) (d .pass-over-rows .ensures) (u .pass-over-rows2 .ensures) (b .pass-over-bands .ensures)
 
 pub filter-map-spec : {M : Type 1} → statement M
 filter-map-spec =

@@ -1,14 +1,9 @@
 -- `pass_over_rows` is the pass over the window of those rows with the plan's filter.
-use mathlib.Core.Path.{ap, _∙_}
 use borrow.Author.Needs.{needs}
 use lib.ListN.{length}
-use Rattle.plan.specs.Rules.{passAt}
 use Rattle.plan.proofs.Record.{order-limited-at}
-use Rattle.filter.specs.Filters.{filterWith, filterWords}
-use Rattle.filter.specs.Windows.{windowPass}
-use Rattle.filter.proofs.Filters.{filterWords-filter}
-use Rattle.serial.specs.Stages.{mapRows, rowsPassed}
-use Rattle.serial.proofs.Stages.{rows-fit}
+use Rattle.filter.specs.Filters.{filterWords}
+use Rattle.serial.proofs.Stages.{rows-fit, rows-passed}
 use Rattle.serial.proofs.pass_over_rows.Statement.{statement}
 use Rattle.serial.proofs.pass_over_rows.Tie as tie
 
@@ -34,14 +29,12 @@ same-length : tie.Need-same-length
 same-length c = search needs
 
 returns : tie.Need-returns
-unfolding rowsPassed
 returns c =
     let r = c .before .before in
     let f = r .before .before in
     let a = f .before .before .before .args in
-    r .run-pass .ensures
-    ∙ ap (λ f. windowPass (a .pass) (mapRows (a .t1) (a .top) (a .height)) 0 f (a .output .now))
-    (ap filterWith (f .filter-words .ensures) ∙ filterWords-filter (passAt (a .t1) (a .pass)))
+    rows-passed (a .t1) (a .top) (a .height) (a .pass) (a .output .now) (f .filter-words .ensures)
+    (r .run-pass .ensures)
 
 pub pass-over-rows-spec : {M : Type 1} → statement M
 pass-over-rows-spec =

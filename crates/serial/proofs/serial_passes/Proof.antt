@@ -29,7 +29,8 @@ mul-needed c =
 returns-2 : tie.Need-returns-2
 returns-2 c =
     let a = c .before .before .before .before .before .args in
-    refused (a .plan) (a .map .now) (a .output .now) _ (map-short (a .plan) _ _ (kept (c .before .before)) (c .if2 .taken))
+    refused (a .plan) (a .map .now) (a .output .now) _
+    (map-short (a .plan) _ _ (kept (c .before .before)) (c .if2 .taken))
 
 returns-3 : tie.Need-returns-3
 returns-3 c =

@@ -22,7 +22,7 @@ slice-aggregate-unit-lines c = search needs
 unit-lines-requires : tie.Need-unit-lines-requires
 unit-lines-requires c κs =
     let a = c .before .before .before in
-    (a .pre .orders .order-limited (a .args .pass) (omega arith), (a .pre .few-places, omega arith))
+    (a .pre .orders .order-limited (a .args .pass) (omega arith), (omega (arith, a .pre .few-places), omega arith))
 
 slice-aggregate-run-lines : tie.Need-slice-aggregate-run-lines
 slice-aggregate-run-lines c = search needs

@@ -1,8 +1,6 @@
 -- `block_shape` is where block k lies.
 use native.Mathlib.Omega.{arith}
 use borrow.Author.Needs.{needs}
-use mathlib.Core.Path.{_≡_, sym}
-use Prim.Native.Nat.{_*_, _/_, _%_}
 use Rattle.blocks.specs.Geometry.{blockRow, blockColumn}
 use Rattle.strips.proofs.Positions.{Located, located, shape-is}
 use Rattle.strips.proofs.block_shape.Statement.{statement}

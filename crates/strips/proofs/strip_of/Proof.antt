@@ -1,5 +1,4 @@
 -- `strip_of` is block k's strip of the pass.
-use native.Mathlib.Omega.{arith}
 use borrow.Author.Needs.{needs}
 use Rattle.strips.proofs.Reading.{strip-of-columns, strip-of-rows}
 use Rattle.strips.proofs.strip_of.Statement.{statement}

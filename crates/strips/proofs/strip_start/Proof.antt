@@ -1,7 +1,7 @@
 -- `strip_start` is the first word of the strip.
 use native.Mathlib.Omega.{arith}
 use borrow.Author.Needs.{needs}
-use mathlib.Core.Path.{_≡_, ap₂}
+use mathlib.Core.Path.{ap₂}
 use Prim.Native.Nat.{_+_, _*_}
 use Rattle.strips.proofs.Slots.{start-fits}
 use Rattle.strips.proofs.strip_start.Statement.{statement}

@@ -1,0 +1,142 @@
+-- `collect` has written the strips of the passes so far; the work array holds the block filtered alone.
+use mathlib.Core.Path.{_≡_, refl, sym, _∙_}
+use Prim.Native.Nat.{_-_, _≤_}
+use native.Mathlib.Omega.{arith}
+use borrow.Author.Needs.{needs}
+use lib.ListN.{length}
+use Rattle.blocks.specs.Geometry.{partOf}
+use Rattle.blocks.specs.Strips.{slotWritten}
+use Rattle.blocks.specs.Writes.{mapOf, aloneWord, collected}
+use Rattle.blocks.proofs.Strips.{slot-none}
+use Rattle.block.proofs.Work.{shape-in-work, block-in-work, block-in-map, corner-in-map}
+use Rattle.block.proofs.Passes.{Alone, alone-turn}
+use Rattle.block.proofs.Edges.{slot-more}
+use Rattle.block.proofs.Images.{alone-start}
+use Rattle.block.proofs.collect.Statement.{statement}
+use Rattle.block.proofs.collect.Tie as tie
+
+abbrev Inv-loop : tie.InvT-loop
+Inv-loop plan k map strips₀ shape corner work₀ pass₀ strips work pass =
+    (pass ≤ 4)
+    × (length strips ≡ length strips₀)
+    × Alone plan k (partOf plan k (mapOf plan map)) pass work
+    × (strips ≡ slotWritten plan k (aloneWord plan (mapOf plan map) k) pass strips₀)
+
+abbrev μ-loop : tie.MeasureT-loop
+μ-loop plan k map strips₀ shape corner work₀ pass₀ strips work pass = 4 - pass
+
+block-shape-requires : tie.Need-block-shape-requires Inv-loop μ-loop
+block-shape-requires c κs = search needs
+
+mul-corner : tie.Need-mul-corner Inv-loop μ-loop
+mul-corner c =
+    let s = c .before .before .before .before in
+    omega (arith, corner-in-map (s .args .plan) (s .args .k) _ _ (c .before .before .block-shape .ensures) (s .pre .0) (s .pre .1) (s .pre .2))
+
+add-corner : tie.Need-add-corner Inv-loop μ-loop
+add-corner c =
+    let s = c .before .before .before .before .before in
+    omega (arith, corner-in-map (s .args .plan) (s .args .k) _ _ (c .before .before .before .block-shape .ensures) (s .pre .0) (s .pre .1) (s .pre .2))
+
+slice-aggregate-read-block : tie.Need-slice-aggregate-read-block Inv-loop μ-loop
+slice-aggregate-read-block c = search needs
+
+read-block-requires : tie.Need-read-block-requires Inv-loop μ-loop
+read-block-requires c κs =
+    let s = c .before .before .before .before .before .before in
+    let shaped = c .before .before .before .before .block-shape .ensures in (
+      block-in-map (s .args .plan) (s .args .k) _ _ shaped (s .pre .0) (s .pre .1) (s .pre .2),
+      block-in-work (s .args .plan) (s .args .k) _ _ shaped (s .pre .0) (s .pre .1) refl,
+    )
+
+loop-holds : tie.Need-loop-holds Inv-loop μ-loop
+loop-holds c =
+    let s = c .before .before .before .before .before .before .before .before in
+    let shaped = c .before .before .before .before .before .before .block-shape .ensures in (
+      omega arith,
+      refl,
+      alone-start (s .args .plan) (s .args .k) (s .pre .0) (s .pre .1) (s .args .map .now) _ _ shaped (c .before .read-block .ensures),
+      sym (slot-none (s .args .plan) (s .args .k) _ _),
+    )
+
+slice-aggregate-run-block-pass : tie.Need-slice-aggregate-run-block-pass Inv-loop μ-loop
+slice-aggregate-run-block-pass c = search needs
+
+run-block-pass-requires : tie.Need-run-block-pass-requires Inv-loop μ-loop
+run-block-pass-requires c κs =
+    let s = c .before .before .before .before .before .before .before .before .before .before .before in
+    let l = c .before .before in (
+      s .pre .0,
+      shape-in-work (s .args .plan) (s .args .k) 0 _ (c .before .before .before .before .before .before .before .before .before .block-shape .ensures) (s .pre .0) (s .pre .1),
+      omega arith,
+      l .loop .inv .2 .block .sized,
+    )
+
+slice-aggregate-write-strip : tie.Need-slice-aggregate-write-strip Inv-loop μ-loop
+slice-aggregate-write-strip c = search needs
+
+write-strip-requires : tie.Need-write-strip-requires Inv-loop μ-loop
+write-strip-requires c κs =
+    let s = c .before .before .before .before .before .before .before .before .before .before .before .before .before .before .before in
+    let l = c .before .before .before .before .before .before in (
+      s .pre .0,
+      s .pre .1,
+      omega arith,
+      c .before .before .before .before .before .before .before .before .before .before .before .before .before .block-shape .ensures,
+      c .before .before .before .run-block-pass .kept .1 .1 .1 .0 ∙ l .loop .inv .2 .block .sized,
+      omega (arith, l .loop .inv .1, s .pre .3),
+    )
+
+add-pass : tie.Need-add-pass Inv-loop μ-loop
+add-pass c = search needs
+
+loop-less : tie.Need-loop-less Inv-loop μ-loop
+loop-less c = search needs
+
+loop-again : tie.Need-loop-again Inv-loop μ-loop
+loop-again c =
+    let s = c .before .before .before .before .before .before .before .before .before .before .before .before .before .before .before .before .before .before in
+    let l = c .before .before .before .before .before .before .before .before .before in
+    let kept = s .pre .0 in
+    let here = s .pre .1 in
+    let counted = c .before .before .before .before .before .before .before .before .loop-test .taken in
+    let shaped = c .before .before .before .before .before .before .before .before .before .before .before .before .before .before .before .before .block-shape .ensures in
+    let alone = alone-turn (s .args .plan) (s .args .k) kept here _ (l .loop .pass) counted _ _ _ shaped (c .before .before .before .before .before .before .run-block-pass .ensures) (l .loop .inv .2) in (
+      omega arith,
+      omega (arith, c .before .before .write-strip .kept, l .loop .inv .1),
+      alone,
+      slot-more (s .args .plan) (s .args .k) kept here (mapOf (s .args .plan) (s .args .map .now)) (l .loop .pass) counted _ alone (s .args .strips .now)
+          (l .loop .strips) _ (l .loop .inv .3) (c .before .before .write-strip .ensures),
+    )
+
+same-length : tie.Need-same-length Inv-loop μ-loop
+same-length c = search needs
+
+returns : tie.Need-returns Inv-loop μ-loop
+unfolding collected
+returns c =
+    let l = c .before in
+    let e : l .loop .pass ≡ 4 = omega arith in
+    rw e at (l .loop .inv .3)
+
+pub collect-spec : {M : Type 1} → statement M
+collect-spec =
+    tie.close
+    (tie.spec
+    Inv-loop
+    μ-loop
+    block-shape-requires
+    mul-corner
+    add-corner
+    slice-aggregate-read-block
+    read-block-requires
+    loop-holds
+    slice-aggregate-run-block-pass
+    run-block-pass-requires
+    slice-aggregate-write-strip
+    write-strip-requires
+    add-pass
+    loop-less
+    loop-again
+    same-length
+    returns)

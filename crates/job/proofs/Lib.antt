@@ -1,0 +1,4 @@
+pub mod Starting
+pub mod Tasking
+pub mod Running
+pub mod Claimed

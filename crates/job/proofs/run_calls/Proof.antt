@@ -1,0 +1,102 @@
+-- The loop keeps `Running`: what is left of the list gives what the whole list gives.
+use native.Mathlib.Omega.{arith}
+use Prim.Native.Nat.{_-_}
+use mathlib.Core.Path.{_≡_, refl, _∙_}
+use lib.ListN.{length}
+use Rattle.calls.specs.Calls.{lists}
+use Rattle.job.proofs.Running.{Running, running-start, running-next, running-end, one-most}
+use borrow.Author.Needs.{needs}
+use Rattle.job.proofs.run_calls.Statement.{statement}
+use Rattle.job.proofs.run_calls.Tie as tie
+
+abbrev Inv-loop : tie.InvT-loop
+Inv-loop plan tasks blocks map marks₀ strips₀ output₀ count accepted₀ i₀ marks strips output accepted i =
+    Running plan map tasks blocks count (lists marks₀ strips₀ output₀) i accepted (lists marks strips output)
+    × (length marks ≡ length marks₀)
+    × (length strips ≡ length strips₀)
+    × (length output ≡ length output₀)
+
+abbrev μ-loop : tie.MeasureT-loop
+μ-loop plan tasks blocks map marks₀ strips₀ output₀ count accepted₀ i₀ marks strips output accepted i =
+    count - i
+
+smaller-requires : tie.Need-smaller-requires Inv-loop μ-loop
+smaller-requires c κs = search needs
+
+loop-holds : tie.Need-loop-holds Inv-loop μ-loop
+loop-holds c = (running-start _ _ _ _ _ _, refl, refl, refl)
+
+mul-number : tie.Need-mul-number Inv-loop μ-loop
+mul-number c = search needs
+
+shared-slice-read-number : tie.Need-shared-slice-read-number Inv-loop μ-loop
+shared-slice-read-number c = omega (arith, c .before .before .before .smaller .ensures)
+
+mul-block : tie.Need-mul-block Inv-loop μ-loop
+mul-block c = search needs
+
+shared-slice-read-block : tie.Need-shared-slice-read-block Inv-loop μ-loop
+shared-slice-read-block c = omega (arith, c .before .before .before .before .smaller .ensures)
+
+task-requires : tie.Need-task-requires Inv-loop μ-loop
+task-requires c κs = search needs
+
+one-if-accepted-requires : tie.Need-one-if-accepted-requires Inv-loop μ-loop
+one-if-accepted-requires c κs = search needs
+
+add-accepted : tie.Need-add-accepted Inv-loop μ-loop
+add-accepted c =
+    let run = c .before .before .before .before .before .before .before .before .before .before .before .before .before .before .loop .inv .0 in
+    omega (arith, run .few, run .inside, c .one-if-accepted .ensures, one-most (c .before .before .before .before .before .before .before .task .result))
+
+add-i : tie.Need-add-i Inv-loop μ-loop
+add-i c = search needs
+
+loop-less : tie.Need-loop-less Inv-loop μ-loop
+loop-less c = search needs
+
+loop-again : tie.Need-loop-again Inv-loop μ-loop
+loop-again c =
+    let inv = c .before .before .before .before .before .before .before .before .before .before .before .before .before .before .loop .inv in
+    let called = c .before .before .before .before .before .before .before .task .ensures in (
+      running-next _ _ _ _ _ _ _ _ _ (inv .0) (omega arith) _ (called .0) _ (c .one-if-accepted .ensures) _ (called .1),
+      c .before .before .before .before .before .before .marks .given ∙ inv .1,
+      c .before .before .before .before .strips .given ∙ inv .2,
+      c .before .before .output .given ∙ inv .3,
+    )
+
+same-length : tie.Need-same-length Inv-loop μ-loop
+same-length c = c .before .loop .inv .1
+
+same-length-2 : tie.Need-same-length-2 Inv-loop μ-loop
+same-length-2 c = c .before .loop .inv .2
+
+same-length-3 : tie.Need-same-length-3 Inv-loop μ-loop
+same-length-3 c = c .before .loop .inv .3
+
+returns : tie.Need-returns Inv-loop μ-loop
+returns c =
+    rw (← c .before .before .smaller .ensures) (running-end _ _ _ _ _ _ _ _ _ (c .before .loop .inv .0) (omega arith))
+
+pub run-calls-spec : {M : Type 1} → statement M
+run-calls-spec =
+    tie.close
+    (tie.spec
+    Inv-loop
+    μ-loop
+    smaller-requires
+    loop-holds
+    mul-number
+    shared-slice-read-number
+    mul-block
+    shared-slice-read-block
+    task-requires
+    one-if-accepted-requires
+    add-accepted
+    add-i
+    loop-less
+    loop-again
+    same-length
+    same-length-2
+    same-length-3
+    returns)

@@ -1,0 +1,202 @@
+// The calls of a job: the start, one task, and a list of tasks one after another.
+use plan::Plan;
+use plan::PlanSizes;
+use plan::Sizes;
+use refusal::Outcome;
+use refusal::Refusal;
+ghost use mathlib.Core.Path.{_≡_};
+ghost use mathlib.Core.Bool.{_||_};
+ghost use Prim.Native.Nat.{_≤_};
+ghost use lib.Dec.{ltb};
+ghost use lib.ListN.{length};
+ghost use Rattle.refusal.specs.declared.Outcome.the-variants.{Accepted};
+ghost use Rattle.calls.specs.Calls.{lists, ifAccepted, startOutcome, unmarked, cleared, marksAfterStart, stripsAfterStart};
+ghost use Rattle.calls.specs.Calls.{taskOutcome, stripsAfter, outputAfter, performed, afterTask};
+ghost use Rattle.calls.specs.Calls.{afterCalls, outcomesOf, acceptedCount, callsOf};
+ghost use Rattle.job.specs.Fits.{Fits};
+
+// The mark of a block with no task done: kind 7 in the top four bits.
+const UNMARKED: u32 = 0x7000_0000;
+
+// Starts a job: no task is marked, and all needed strip words are 0.
+pub fn start(plan: Plan, marks: &mut [u32], strips: &mut [u64]) -> Outcome
+    ensures answer { λ r. ⌜ r ≡ startOutcome plan (now (marks .entry)) (now (strips .entry)) ⌝ }
+    ensures marked { λ _. ⌜ now (marks .exit) ≡ marksAfterStart plan (now (marks .entry)) (now (strips .entry)) ⌝ }
+    ensures stripped { λ _. ⌜ now (strips .exit) ≡ stripsAfterStart plan (now (marks .entry)) (now (strips .entry)) ⌝ }
+{
+    let known = plan.sizes();
+    match known {
+        PlanSizes::Known(sizes) => {
+            if marks.len() < sizes.marks {
+                return Outcome::Refused(Refusal::BufferTooShort);
+            }
+            if strips.len() < sizes.strips {
+                return Outcome::Refused(Refusal::BufferTooShort);
+            }
+            unmark(marks, sizes.marks);
+            clear(strips, sizes.strips);
+            Outcome::Accepted
+        }
+        PlanSizes::Refused(refusal) => Outcome::Refused(refusal),
+    }
+}
+
+// The first `count` marks have kind 7 and no bit.
+fn unmark(marks: &mut [u32], count: usize)
+    requires { ⌜ count ≤ length (now marks) ⌝ }
+    ensures { λ _. ⌜ now (marks .exit) ≡ unmarked count (now (marks .entry)) ⌝ }
+{
+    let mut block = 0;
+    while block < count {
+        marks[block] = UNMARKED;
+        block += 1;
+    }
+}
+
+// The first `count` words are 0.
+fn clear(words: &mut [u64], count: usize)
+    requires { ⌜ count ≤ length (now words) ⌝ }
+    ensures { λ _. ⌜ now (words .exit) ≡ cleared count (now (words .entry)) ⌝ }
+{
+    let mut place = 0;
+    while place < count {
+        words[place] = 0;
+        place += 1;
+    }
+}
+
+// Calls one task at one block: refused, or its bit is set and its strip or its output is written.
+pub fn task(
+    plan: Plan,
+    task: usize,
+    block: usize,
+    map: &[i32],
+    marks: &mut [u32],
+    strips: &mut [u64],
+    output: &mut [u64],
+) -> Outcome
+    ensures answer { λ r. ⌜ r ≡ taskOutcome plan (now (map .entry)) (lists (now (marks .entry)) (now (strips .entry)) (now (output .entry))) task block ⌝ }
+    ensures written { λ _. ⌜ lists (now (marks .exit)) (now (strips .exit)) (now (output .exit)) ≡ afterTask plan (now (map .entry)) task block (lists (now (marks .entry)) (now (strips .entry)) (now (output .entry))) ⌝ }
+{
+    let outcome = task_outcome(plan, task, block, map, marks, strips, output);
+    match outcome {
+        Outcome::Accepted => {
+            perform(plan, task, block, map, marks, strips, output);
+            Outcome::Accepted
+        }
+        Outcome::Refused(refusal) => Outcome::Refused(refusal),
+    }
+}
+
+// The answer to a call of a task at a block: 6, 7, and then what the marks say.
+fn task_outcome(
+    plan: Plan,
+    task: usize,
+    block: usize,
+    map: &[i32],
+    marks: &[u32],
+    strips: &[u64],
+    output: &[u64],
+) -> Outcome
+    ensures { λ r. ⌜ r ≡ taskOutcome plan (now (map .entry)) (lists (now (marks .entry)) (now (strips .entry)) (now (output .entry))) task block ⌝ }
+{
+    let known = plan.sizes();
+    match known {
+        PlanSizes::Known(sizes) => {
+            if too_short(sizes, map.len(), marks.len(), strips.len(), output.len()) {
+                return Outcome::Refused(Refusal::BufferTooShort);
+            }
+            tasks::verdict(sizes.block_rows, sizes.block_columns, marks, task, block)
+        }
+        PlanSizes::Refused(refusal) => Outcome::Refused(refusal),
+    }
+}
+
+// One of the four lengths is below the needed one.
+fn too_short(sizes: Sizes, map: usize, marks: usize, strips: usize, output: usize) -> bool
+    ensures { λ r. ⌜ r ≡ (ltb map (sizes .pixels) || (ltb marks (sizes .marks) || (ltb strips (sizes .strips) || ltb output (sizes .pixels)))) ⌝ }
+{
+    if map < sizes.pixels {
+        return true;
+    }
+    if marks < sizes.marks {
+        return true;
+    }
+    if strips < sizes.strips {
+        return true;
+    }
+    output < sizes.pixels
+}
+
+// Performs an accepted task.
+fn perform(
+    plan: Plan,
+    task: usize,
+    block: usize,
+    map: &[i32],
+    marks: &mut [u32],
+    strips: &mut [u64],
+    output: &mut [u64],
+)
+    requires { ⌜ taskOutcome plan (now map) (lists (now marks) (now strips) (now output)) task block ≡ Accepted ⌝ }
+    ensures { λ _. ⌜ lists (now (marks .exit)) (now (strips .exit)) (now (output .exit)) ≡ performed plan (now (map .entry)) task block (lists (now (marks .entry)) (now (strips .entry)) (now (output .entry))) ⌝ }
+{
+    tasks::set_bit(marks, task, block);
+    write_block(plan, task, block, map, strips, output);
+}
+
+// Writes what a task writes: collect the block's slot, a link its strip, finish the block's output words.
+fn write_block(
+    plan: Plan,
+    task: usize,
+    block: usize,
+    map: &[i32],
+    strips: &mut [u64],
+    output: &mut [u64],
+)
+    requires { ⌜ Fits plan task block (length (now map)) (length (now strips)) (length (now output)) ⌝ }
+    ensures strip { λ _. ⌜ now (strips .exit) ≡ stripsAfter plan (now (map .entry)) task block (now (strips .entry)) ⌝ }
+    ensures words { λ _. ⌜ now (output .exit) ≡ outputAfter plan (now (map .entry)) task block (now (strips .entry)) (now (output .entry)) ⌝ }
+{
+    match task {
+        0 => block::collect(plan, block, map, strips),
+        5 => block::finish(plan, block, map, strips, output),
+        _ => link::link(plan, block, task - 1, strips),
+    }
+}
+
+// Calls of tasks, one after another: call number i is of task tasks[i] at block blocks[i], as many as the shorter list has. The
+// answer is how many were accepted.
+pub fn run_calls(
+    plan: Plan,
+    tasks: &[usize],
+    blocks: &[usize],
+    map: &[i32],
+    marks: &mut [u32],
+    strips: &mut [u64],
+    output: &mut [u64],
+) -> usize
+    ensures answer { λ r. ⌜ r ≡ acceptedCount (outcomesOf plan (now (map .entry)) (callsOf (now (tasks .entry)) (now (blocks .entry))) (lists (now (marks .entry)) (now (strips .entry)) (now (output .entry)))) ⌝ }
+    ensures written { λ _. ⌜ lists (now (marks .exit)) (now (strips .exit)) (now (output .exit)) ≡ afterCalls plan (now (map .entry)) (callsOf (now (tasks .entry)) (now (blocks .entry))) (lists (now (marks .entry)) (now (strips .entry)) (now (output .entry))) ⌝ }
+{
+    let count = tasks::smaller(tasks.len(), blocks.len());
+    let mut accepted = 0;
+    let mut i = 0;
+    while i < count {
+        let number = tasks[i];
+        let block = blocks[i];
+        let outcome = task(plan, number, block, map, marks, strips, output);
+        accepted += one_if_accepted(outcome);
+        i += 1;
+    }
+    accepted
+}
+
+fn one_if_accepted(outcome: Outcome) -> usize
+    ensures { λ r. ⌜ r ≡ ifAccepted outcome 1 0 ⌝ }
+{
+    match outcome {
+        Outcome::Accepted => 1,
+        Outcome::Refused(_) => 0,
+    }
+}

@@ -1,0 +1,204 @@
+-- The course of a link by the code's tests of its number. Assumes nothing.
+use mathlib.Core.Path.{_≡_, refl, ap, ap₂, sym}
+use mathlib.Core.Bool.{true}
+use mathlib.Core.List.{List}
+use Prim.Native.Nat.{ℕ, zero, suc, _+_, _-_, _%_, _<_, _≤_}
+use native.Mathlib.Omega.{arith}
+use Rattle.plan.proofs.Blocks.{extent-in-side, extent-positive}
+use Rattle.plan.proofs.Record.{rules, order-limited-at}
+use Rattle.plan.specs.Rules.{orderLimit, passAt, keepsRules}
+use Rattle.plan.specs.Sizes.{neededMarks}
+use Rattle.plan.specs.declared.Plan.{Plan}
+use Rattle.passes.specs.Filter.{Filter}
+use Rattle.passes.specs.Passes.{Axis, columns, rows, Direction, forward, backward, axisOf, directionOf, along, across}
+use Rattle.filter.proofs.Filters.{filterWords-filter}
+use Rattle.filter.specs.Filters.{filterOf, filtersOf}
+use Rattle.filter.specs.declared.FilterWords.{FilterWords}
+use Rattle.blocks.proofs.Geometry.{block-row-below, block-column-below}
+use Rattle.blocks.specs.Geometry.{blockRow, blockColumn, rowsOf, columnsOf}
+use Rattle.blocks.specs.Strips.{orderOf, fromEdge, pastEdges}
+use Rattle.strips.proofs.Passes.{even-forward, odd-backward}
+use Rattle.strips.proofs.Reading.{before-fits, past-edges-read}
+use Rattle.strips.specs.Reading.{stripBefore, stripRead, StripFits}
+use Rattle.strips.specs.Shapes.{shapeOf}
+use Rattle.strips.specs.declared.BlockShape.{BlockShape}
+use Rattle.squares.specs.LinePasses.{axisStart, axisPasses}
+use Rattle.squares.specs.Lines.{bufferWords, filterAt, OrdersFit, SquareFits}
+use Rattle.link.specs.Courses.{planFilters, endsFrom, courseAlong, courseOf, CourseFits, LinkFits}
+use Rattle.link.specs.declared.Course.{Course}
+
+one-pass : (pass : ℕ) → pass % 2 ≡ 0 → axisPasses pass ≡ 1
+one-pass zero e = refl
+one-pass (suc zero) e = absurd (omega arith)
+one-pass (suc (suc pass)) e = one-pass pass (omega arith)
+
+two-passes : (pass : ℕ) → (pass % 2 ≡ 0 → ⊥) → axisPasses pass ≡ 2
+two-passes zero e = absurd (e refl)
+two-passes (suc zero) e = refl
+two-passes (suc (suc pass)) e = two-passes pass (λ z. e (omega arith))
+
+pub forward-course : (pass first n lines order : ℕ) → pass % 2 ≡ 0
+    → record { pass = pass; first = first; passes = 1; places = n; lines = lines; from = (orderLimit + n) - order; order = order }
+    ≡ courseAlong pass first n lines order
+forward-course pass first n lines order e =
+    ap₂
+    (λ c f. record { pass = pass; first = first; passes = c; places = n; lines = lines; from = f; order = order })
+    (sym (one-pass pass e)) (ap (λ d. endsFrom d n order) (sym (even-forward pass e)))
+
+pub backward-course : (pass first n lines order : ℕ) → (pass % 2 ≡ 0 → ⊥)
+    → record { pass = pass; first = first; passes = 2; places = n; lines = lines; from = orderLimit; order = order }
+    ≡ courseAlong pass first n lines order
+backward-course pass first n lines order e =
+    ap₂
+    (λ c f. record { pass = pass; first = first; passes = c; places = n; lines = lines; from = f; order = order })
+    (sym (two-passes pass e)) (ap (λ d. endsFrom d n order) (sym (odd-backward pass e)))
+
+-- ---- the course of block k's link
+
+pub columns-course : (plan : Plan) (k pass : ℕ) (shape : BlockShape) → shape ≡ shapeOf plan k → pass < 2
+    → courseAlong pass 0 (shape .rows) (shape .columns) (orderOf plan pass) ≡ courseOf plan k pass
+unfolding courseOf shapeOf
+columns-course plan k zero shape e h = rw e
+columns-course plan k (suc zero) shape e h = rw e
+columns-course plan k (suc (suc pass)) shape e h = absurd (omega arith)
+
+pub rows-course : (plan : Plan) (k pass : ℕ) (shape : BlockShape) → shape ≡ shapeOf plan k → 2 ≤ pass
+    → courseAlong pass 2 (shape .columns) (shape .rows) (orderOf plan pass) ≡ courseOf plan k pass
+unfolding courseOf shapeOf
+rows-course plan k zero shape e h = absurd (omega arith)
+rows-course plan k (suc zero) shape e h = absurd (omega arith)
+rows-course plan k (suc (suc pass)) shape e h = rw e
+
+module _ (plan : Plan) (kept : keepsRules plan ≡ true) where
+  pub few-rows : (k : ℕ) → rowsOf plan k ≤ 32
+  few-rows k = omega (arith, rules plan kept .side-high, extent-in-side (plan .rows) (plan .side) (blockRow plan k))
+
+  pub few-columns : (k : ℕ) → columnsOf plan k ≤ 32
+  few-columns k = omega (arith, rules plan kept .side-high, extent-in-side (plan .columns) (plan .side) (blockColumn plan k))
+
+  pub shape-few : (k : ℕ) (shape : BlockShape) → shape ≡ shapeOf plan k → (shape .rows ≤ 32) × (shape .columns ≤ 32)
+  unfolding shapeOf
+  shape-few k shape e = rw e (few-rows k, few-columns k)
+
+-- Passes of one axis, counted.
+record Counted (pass : ℕ) : Type 0 where
+  pub first-low : axisStart pass ≤ 2
+  pub some-passes : 0 < axisPasses pass
+  pub few-passes : axisPasses pass ≤ 2
+  pub passes-counted : axisStart pass + axisPasses pass ≤ 4
+
+passes-in-axis : (pass : ℕ) → (0 < axisPasses pass) × (axisPasses pass ≤ 2)
+passes-in-axis zero = omega arith
+passes-in-axis (suc zero) = omega arith
+passes-in-axis (suc (suc pass)) = passes-in-axis pass
+
+counted : (pass : ℕ) → Counted pass
+counted pass =
+    let low = by pass in
+    record {
+      first-low = low;
+      some-passes = passes-in-axis pass .0;
+      few-passes = passes-in-axis pass .1;
+      passes-counted = omega (arith, passes-in-axis pass .1);
+    }
+  where
+    by : (pass : ℕ) → axisStart pass ≤ 2
+    by zero = omega arith
+    by (suc zero) = omega arith
+    by (suc (suc pass)) = omega arith
+
+ends-in-line : (d : Direction) (n order : ℕ) → endsFrom d n order ≤ orderLimit + n
+ends-in-line forward n order = omega arith
+ends-in-line backward n order = omega arith
+
+of-axis : (a : Axis) (P : ℕ → Type 0) (h w : ℕ) → P h → P w → P (along a h w) × P (across a h w)
+of-axis columns P h w p q = (p, q)
+of-axis rows P h w p q = (q, p)
+
+-- The course of a link whose order is not 0 fits the buffers.
+pub course-fits : (plan : Plan) (k pass : ℕ) → keepsRules plan ≡ true → k < neededMarks plan → pass < 4
+    → 0 < orderOf plan pass → CourseFits (courseOf plan k pass)
+unfolding courseOf
+course-fits plan k pass kept here h some =
+    let low =
+    of-axis (axisOf pass) (λ z. 0 < z) (rowsOf plan k) (columnsOf plan k)
+    (extent-positive (plan .rows) (plan .side) (blockRow plan k) (block-row-below plan k here))
+    (extent-positive (plan .columns) (plan .side) (blockColumn plan k) (block-column-below plan k here)) in
+    let high =
+    of-axis (axisOf pass) (λ z. z ≤ 32) (rowsOf plan k) (columnsOf plan k) (few-rows plan kept k) (few-columns plan kept k) in
+    let c = counted pass in
+    record {
+      some-places = low .0;
+      few-places = high .0;
+      some-lines = low .1;
+      few-lines = high .1;
+      some-order = some;
+      order-limited = order-limited-at plan kept pass h;
+      inside = ends-in-line (directionOf pass) _ (orderOf plan pass);
+      some-passes = c .some-passes;
+      few-passes = c .few-passes;
+      first-low = c .first-low;
+      passes-counted = c .passes-counted;
+      first-is = refl;
+      passes-are = refl;
+      pass-counted = h;
+    }
+
+-- ---- filters and strips
+
+pub filter-is : (plan : Plan) (pass : ℕ) → pass < 4 → filterAt (planFilters plan) pass ≡ filtersOf plan pass
+unfolding planFilters
+filter-is plan zero h = filterWords-filter (passAt plan 0)
+filter-is plan (suc zero) h = filterWords-filter (passAt plan 1)
+filter-is plan (suc (suc zero)) h = filterWords-filter (passAt plan 2)
+filter-is plan (suc (suc (suc zero))) h = filterWords-filter (passAt plan 3)
+filter-is plan (suc (suc (suc (suc pass)))) h = absurd (omega arith)
+
+module _ {plan : Plan} {k : ℕ} {course : Course} {filters : List FilterWords} {n m : ℕ} (fits : LinkFits plan k course filters n m) where
+  order-is : (pass : ℕ) → pass < 4 → filterAt filters pass .order ≡ orderOf plan pass
+  unfolding filterOf
+  order-is pass h = rw (fits .filters-are) (ap (λ (f : Filter). f .order) (filter-is plan pass h))
+
+  pub link-orders : OrdersFit (filterAt filters)
+  link-orders =
+      record { order-limited = λ pass h. rw (order-is pass h) (order-limited-at plan (fits .kept) pass h) }
+
+  -- What is read at a distance in the strip of the block that a pass comes from.
+  pub past-edges : (strips : List ℕ) (pass : ℕ) → pass < 4 → (line distance : ℕ) → distance < filterAt filters pass .order
+      → stripRead (stripBefore plan k pass) strips line
+      (fromEdge (directionOf pass) (filterAt filters pass .order) distance)
+      ≡ pastEdges plan strips k pass line distance
+  past-edges strips pass h line distance b =
+      let b' : distance < orderOf plan pass = rw (order-is pass h) at b in
+      rw (order-is pass h) (past-edges-read plan strips k pass line distance b')
+
+  pub before-strip-fits : (pass : ℕ) → pass < 4 → StripFits n (stripBefore plan k pass)
+  before-strip-fits pass h = before-fits plan k pass n (fits .counted) h (fits .strips-long)
+
+  -- The buffer keeps its length.
+  pub fits-again : {r : ℕ} → r ≡ bufferWords → LinkFits plan k course filters n r
+  fits-again e =
+      record {
+        kept = fits .kept;
+        counted = fits .counted;
+        course-fits = fits .course-fits;
+        filters-are = fits .filters-are;
+        strips-long = fits .strips-long;
+        responses-long = e;
+      }
+
+  -- The square of a pass of the course.
+  pub square-fits : (pass : ℕ) → course .first ≤ pass → pass < course .first + course .passes
+      → SquareFits (filterAt filters) (course .places) (course .from) pass ((course .first + course .passes) - pass)
+  square-fits pass h b =
+      let counted = fits .course-fits .passes-counted in
+      let few = fits .course-fits .few-passes in
+      record {
+        some-places = fits .course-fits .some-places;
+        few-places = fits .course-fits .few-places;
+        inside = fits .course-fits .inside;
+        some-passes = omega arith;
+        few-passes = omega arith;
+        passes = omega arith;
+        orders = link-orders;
+      }

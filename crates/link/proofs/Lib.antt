@@ -1,0 +1,6 @@
+pub mod Courses
+pub mod Buffers
+pub mod Weights
+pub mod Crossing
+pub mod Carrying
+pub mod Writing

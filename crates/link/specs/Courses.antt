@@ -1,0 +1,86 @@
+-- The course of a link: along which passes and lines its words come.
+use mathlib.Core.Path.{_≡_}
+use mathlib.Core.Bool.{true}
+use mathlib.Core.List.{List, [], _∷_}
+use Prim.Native.Nat.{ℕ, _+_, _-_, _<_, _≤_}
+use Rattle.plan.specs.Rules.{orderLimit, passAt, keepsRules}
+use Rattle.plan.specs.Sizes.{neededMarks, neededStrips}
+use Rattle.plan.specs.declared.Plan.{Plan}
+use Rattle.passes.specs.Passes.{Direction, forward, backward, axisOf, directionOf, along, across}
+use Rattle.filter.specs.Filters.{filterWords}
+use Rattle.filter.specs.declared.FilterWords.{FilterWords}
+use Rattle.blocks.specs.Geometry.{rowsOf, columnsOf}
+use Rattle.blocks.specs.Strips.{orderOf}
+use Rattle.squares.specs.LinePasses.{axisStart, axisPasses}
+use Rattle.squares.specs.Lines.{bufferWords}
+use Rattle.link.specs.declared.Course.{Course}
+
+-- The words of the four filters of a plan.
+unfoldable pub planFilters : Plan → List FilterWords
+planFilters plan =
+    filterWords (passAt plan 0)
+    ∷ filterWords (passAt plan 1)
+    ∷ filterWords (passAt plan 2)
+    ∷ filterWords (passAt plan 3)
+    ∷ []
+
+-- The column, in a row of lines, of the first place of a strip of an order, where the lines have n places: the strip has
+-- the last places of a line where the pass runs forward, the first where it runs backward.
+abbrev pub endsFrom : Direction → (n order : ℕ) → ℕ
+endsFrom forward n order = (orderLimit + n) - order
+endsFrom backward n order = orderLimit
+
+-- The course of a link of a pass along lines of n places.
+abbrev pub courseAlong : (pass first n lines order : ℕ) → Course
+courseAlong pass first n lines order =
+    record {
+      pass = pass;
+      first = first;
+      passes = axisPasses pass;
+      places = n;
+      lines = lines;
+      from = endsFrom (directionOf pass) n order;
+      order = order;
+    }
+
+-- The course of the link of a pass of block k.
+unfoldable pub courseOf : Plan → ℕ → ℕ → Course
+courseOf plan k pass =
+    courseAlong pass (axisStart pass) (along (axisOf pass) (rowsOf plan k) (columnsOf plan k))
+    (across (axisOf pass) (rowsOf plan k) (columnsOf plan k)) (orderOf plan pass)
+
+-- A place of a strip lies in the lines.
+pub record Inside (course : Course) (place : ℕ) : Type 0 where
+  pub below : place < course .order
+  pub low : orderLimit ≤ course .from + place
+  pub high : course .from + place < orderLimit + course .places
+
+-- The index in a line that such a place stands for.
+abbrev pub indexAt : Course → ℕ → ℕ
+indexAt course place = (course .from + place) - orderLimit
+
+-- What the buffers want of a course.
+pub record CourseFits (course : Course) : Type 0 where
+  pub some-places : 0 < course .places
+  pub few-places : course .places ≤ 32
+  pub some-lines : 0 < course .lines
+  pub few-lines : course .lines ≤ 32
+  pub some-order : 0 < course .order
+  pub order-limited : course .order ≤ orderLimit
+  pub inside : course .from ≤ orderLimit + course .places
+  pub some-passes : 0 < course .passes
+  pub few-passes : course .passes ≤ 2
+  pub first-low : course .first ≤ 2
+  pub passes-counted : course .first + course .passes ≤ 4
+  pub first-is : course .first ≡ axisStart (course .pass)
+  pub passes-are : course .passes ≡ axisPasses (course .pass)
+  pub pass-counted : course .pass < 4
+
+-- What a link of block k along a course wants, with strips and responses of so many words: the filters are the plan's.
+pub record LinkFits (plan : Plan) (k : ℕ) (course : Course) (filters : List FilterWords) (strips responses : ℕ) : Type 0 where
+  pub kept : keepsRules plan ≡ true
+  pub counted : k < neededMarks plan
+  pub course-fits : CourseFits course
+  pub filters-are : filters ≡ planFilters plan
+  pub strips-long : neededStrips plan ≤ strips
+  pub responses-long : responses ≡ bufferWords

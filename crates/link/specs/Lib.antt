@@ -1,0 +1,2 @@
+pub mod Courses
+pub mod Words

@@ -1,0 +1,142 @@
+// The C interface: each function takes its arguments apart, calls the Rattle function of the same job, and answers one number:
+// 0 where the call is accepted, else document 01's number of the refusal times 2^32, plus its place.
+use plan::PlanSizes;
+use plan::Sizes;
+use plan_writer::PlanWritten;
+use rectangle::RectangleSum;
+use refusal::Outcome;
+use refusal::Refusal;
+ghost use mathlib.Core.Path.{_≡_};
+ghost use Prim.Native.Nat.{_<_};
+ghost use lib.ListN.{length};
+ghost use Rattle.refusal.specs.Refusals.{placeOf};
+ghost use Rattle.plan.specs.declared.PlanSizes.the-variants.{Known};
+ghost use Rattle.plan.specs.Sizes.{planSizes};
+ghost use Rattle.plan_reader.specs.Reading.{readPlan};
+ghost use Rattle.plan_writer.specs.Writing.{writeAnswer, writtenWords};
+ghost use Rattle.plan_record.specs.Records.{planOfRecord, recordOfPlan};
+ghost use Rattle.serial.specs.Serial.{serialOutcome, serialOutput};
+ghost use Rattle.rectangle.specs.Rectangle.{rectangleAnswer};
+ghost use Rattle.mulzhegat.specs.Codes.{refusalCode, outcomeCode, outcomePlace, writtenCode, sizesCode, sizesRecord, rectangleCode, rectangleWord};
+
+// ---- plans
+
+// Reads a plan from its words; the record is all zeros beside a refusal.
+#[no_mangle]
+pub extern "C" fn mzg_plan_read(words: &[u32], plan: &mut [i64; plan_record::RECORD_LENGTH]) -> u64
+    ensures { λ r. ⌜ (r ≡ outcomeCode (readPlan (now (words .entry)) .outcome)) × (now (plan .exit) ≡ recordOfPlan (readPlan (now (words .entry)) .plan)) ⌝ }
+{
+    let read = plan_reader::read_plan(words);
+    let taken = read.plan;
+    *plan = plan_record::record_of_plan(taken);
+    let outcome = read.outcome;
+    outcome_code(outcome)
+}
+
+// Writes the words of a plan.
+#[no_mangle]
+pub extern "C" fn mzg_plan_write(plan: &[i64; plan_record::RECORD_LENGTH], words: &mut [u32]) -> u64
+    ensures { λ r. ⌜ (r ≡ writtenCode (writeAnswer (planOfRecord (now (plan .entry))) (length (now (words .entry))))) × (now (words .exit) ≡ writtenWords (planOfRecord (now (plan .entry))) (now (words .entry))) ⌝ }
+{
+    let answer = plan_writer::write_plan(plan_record::plan_of_record(plan), words);
+    match answer {
+        PlanWritten::Words(_) => 0,
+        PlanWritten::Refused(refusal) => refusal_code(refusal),
+    }
+}
+
+// Gives the lengths that a plan needs; all zeros beside a refusal.
+#[no_mangle]
+pub extern "C" fn mzg_plan_sizes(
+    plan: &[i64; plan_record::RECORD_LENGTH],
+    sizes: &mut [u64; 7],
+) -> u64
+    ensures { λ r. ⌜ (r ≡ sizesCode (planSizes (planOfRecord (now (plan .entry))))) × (now (sizes .exit) ≡ sizesRecord (planSizes (planOfRecord (now (plan .entry))))) ⌝ }
+{
+    let answer = plan_record::plan_of_record(plan).sizes();
+    match answer {
+        PlanSizes::Known(known) => {
+            *sizes = sizes_record(known);
+            0
+        }
+        PlanSizes::Refused(refusal) => {
+            *sizes = [0; 7];
+            refusal_code(refusal)
+        }
+    }
+}
+
+// ---- whole maps
+
+// Runs the four passes over a whole map.
+#[no_mangle]
+pub extern "C" fn mzg_serial(
+    plan: &[i64; plan_record::RECORD_LENGTH],
+    map: &[i32],
+    output: &mut [u64],
+) -> u64
+    ensures { λ r. ⌜ (r ≡ outcomeCode (serialOutcome (planOfRecord (now (plan .entry))) (length (now (map .entry))) (length (now (output .entry))))) × (now (output .exit) ≡ serialOutput (planOfRecord (now (plan .entry))) (now (map .entry)) (now (output .entry))) ⌝ }
+{
+    let outcome = serial::serial_passes(plan_record::plan_of_record(plan), map, output);
+    outcome_code(outcome)
+}
+
+// Gives the sum over a rectangle of a summed-area table; 0 beside a refusal.
+#[no_mangle]
+pub extern "C" fn mzg_rectangle(
+    plan: &[i64; plan_record::RECORD_LENGTH],
+    top: usize,
+    left: usize,
+    bottom: usize,
+    right: usize,
+    table: &[u64],
+    sum: &mut u64,
+) -> u64
+    ensures { λ r. ⌜ (r ≡ rectangleCode (rectangleAnswer (planOfRecord (now (plan .entry))) (now (table .entry)) top left bottom right)) × (now (sum .exit) ≡ rectangleWord (rectangleAnswer (planOfRecord (now (plan .entry))) (now (table .entry)) top left bottom right)) ⌝ }
+{
+    let taken = plan_record::plan_of_record(plan);
+    let answer = rectangle::rectangle_sum(taken, top, left, bottom, right, table);
+    match answer {
+        RectangleSum::Sum(word) => {
+            *sum = word;
+            0
+        }
+        RectangleSum::Refused(refusal) => {
+            *sum = 0;
+            refusal_code(refusal)
+        }
+    }
+}
+
+// ---- answers
+
+fn outcome_code(outcome: Outcome) -> u64
+    requires { ⌜ outcomePlace outcome < 4294967296 ⌝ }
+    ensures { λ r. ⌜ r ≡ outcomeCode outcome ⌝ }
+{
+    match outcome {
+        Outcome::Accepted => 0,
+        Outcome::Refused(refusal) => refusal_code(refusal),
+    }
+}
+
+fn refusal_code(refusal: Refusal) -> u64
+    requires { ⌜ placeOf refusal < 4294967296 ⌝ }
+    ensures { λ r. ⌜ r ≡ refusalCode refusal ⌝ }
+{
+    (refusal.number() as u64) * 4294967296 + (refusal.place() as u64)
+}
+
+fn sizes_record(known: Sizes) -> [u64; 7]
+    ensures { λ r. ⌜ r ≡ sizesRecord (Known known) ⌝ }
+{
+    [
+        known.words as u64,
+        known.block_rows as u64,
+        known.block_columns as u64,
+        known.marks as u64,
+        known.strips as u64,
+        known.pixels as u64,
+        known.tasks as u64,
+    ]
+}

@@ -1,0 +1,75 @@
+-- `plan_record::coefficients_of_record` meets its contract: the first j places are filled. Assumes nothing.
+use mathlib.Core.Path.{_≡_, refl, sym}
+use Prim.Native.Nat.{_+_, _-_, _≤_}
+use native.Mathlib.Omega.{arith}
+use borrow.Author.Needs.{needs}
+use lib.ListN.{length, take, length-set}
+use Rattle.plan_reader.proofs.Signed.{read-back}
+use Rattle.plan.specs.Rules.{orderLimit}
+use Rattle.plan_reader.specs.Reading.{listOf}
+use Rattle.plan_reader.proofs.Listed.{listed-none, filled-more, filled-all}
+use Rattle.plan_record.specs.Records.{numberAt}
+use Rattle.plan_record.proofs.coefficients_of_record.Statement.{statement}
+use Rattle.plan_record.proofs.coefficients_of_record.Tie as tie
+
+abbrev Inv-loop : tie.InvT-loop
+Inv-loop words place coefficients₀ j₀ coefficients j =
+    (j ≤ orderLimit) × (length coefficients ≡ orderLimit) × (take j coefficients ≡ listOf (λ j. numberAt words (place + 2 + j)) j)
+
+abbrev μ-loop : tie.MeasureT-loop
+μ-loop words place coefficients₀ j₀ coefficients j = orderLimit - j
+
+loop-holds : tie.Need-loop-holds Inv-loop μ-loop
+loop-holds c = (omega arith, search needs, sym (listed-none _))
+
+add-coefficients : tie.Need-add-coefficients Inv-loop μ-loop
+add-coefficients c = search needs
+
+add-coefficients-2 : tie.Need-add-coefficients-2 Inv-loop μ-loop
+add-coefficients-2 c = search needs
+
+mul-coefficients : tie.Need-mul-coefficients Inv-loop μ-loop
+mul-coefficients c = search needs
+
+element-copy-out-coefficients : tie.Need-element-copy-out-coefficients Inv-loop μ-loop
+element-copy-out-coefficients c = search needs
+
+mul-coefficients-2 : tie.Need-mul-coefficients-2 Inv-loop μ-loop
+mul-coefficients-2 c = search needs
+
+array-set-from-coefficients : tie.Need-array-set-from-coefficients Inv-loop μ-loop
+array-set-from-coefficients c = search needs
+
+add-j : tie.Need-add-j Inv-loop μ-loop
+add-j c = search needs
+
+loop-less : tie.Need-loop-less Inv-loop μ-loop
+loop-less c = search needs
+
+loop-again : tie.Need-loop-again Inv-loop μ-loop
+loop-again c =
+    (omega arith, simp length-set (omega arith), filled-more _ _ _ _ (omega arith) (read-back (search needs) refl) (c .before .before .loop .inv .2))
+
+returns : tie.Need-returns Inv-loop μ-loop
+returns c =
+    let l = c .before .loop in
+    let e : l .j ≡ orderLimit = omega arith in
+    filled-all _ _ orderLimit (l .inv .1) (rw e at (l .inv .2))
+
+pub coefficients-of-record-spec : {M : Type 1} → statement M
+coefficients-of-record-spec =
+    tie.close
+    (tie.spec
+    Inv-loop
+    μ-loop
+    loop-holds
+    add-coefficients
+    add-coefficients-2
+    mul-coefficients
+    element-copy-out-coefficients
+    mul-coefficients-2
+    array-set-from-coefficients
+    add-j
+    loop-less
+    loop-again
+    returns)

@@ -1,0 +1,70 @@
+-- The C record of a plan: rows, columns and side, and then of each pass its order, its gain and its coefficients, each a
+-- signed number of 64 bits.
+use mathlib.Core.Bool.{cond}
+use mathlib.Core.List.{List, [], _∷_, _++_}
+use Prim.Native.Nat.{ℕ, zero, suc, _+_, _*_}
+use lib.IntN.{ℤ, pos, negsuc}
+use lib.Dec.{ltb}
+use lib.ListN.{getD}
+use Rattle.plan.specs.declared.Pass.{Pass}
+use Rattle.plan.specs.declared.Plan.{Plan}
+use Rattle.plan.specs.Rules.{orderLimit, passAt}
+use Rattle.plan_reader.specs.Reading.{listOf}
+
+-- The words of a pass in the record: order, gain, and a place for each coefficient.
+abbrev pub passLength : ℕ
+passLength = 2 + orderLimit
+
+-- The words of a record: rows, columns and side, and four passes.
+abbrev pub recordLength : ℕ
+recordLength = 3 + 4 * passLength
+
+-- A word of a record.
+abbrev pub numberAt : List ℤ → ℕ → ℤ
+numberAt words place = getD words place (pos 0)
+
+-- ---- from the C record
+
+-- A size, a side or an order: a number below 0, which none of them can be, is read as 2^64 - 1, which breaks their rules.
+abbrev pub sizeFrom : ℤ → ℕ
+sizeFrom (pos n) = n
+sizeFrom (negsuc n) = 18446744073709551615
+
+-- The pass whose words begin at a place.
+unfoldable pub passOfRecord : List ℤ → ℕ → Pass
+passOfRecord words place =
+    record {
+      order = sizeFrom (numberAt words place);
+      gain = numberAt words (place + 1);
+      coefficients = listOf (λ j. numberAt words (place + 2 + j)) orderLimit;
+    }
+
+-- The plan record that a C record stands for.
+unfoldable pub planOfRecord : List ℤ → Plan
+planOfRecord words =
+    record {
+      rows = sizeFrom (numberAt words 0);
+      columns = sizeFrom (numberAt words 1);
+      side = sizeFrom (numberAt words 2);
+      passes = listOf (λ i. passOfRecord words (3 + i * passLength)) 4;
+    }
+
+-- ---- to the C record
+
+-- A size, a side or an order: one that a signed number of 64 bits cannot hold is written as -1, which breaks their rules.
+abbrev pub numberFrom : ℕ → ℤ
+numberFrom size = cond (ltb size 9223372036854775808) (pos size) (negsuc 0)
+
+-- The words of a pass.
+unfoldable pub recordOfPass : Pass → List ℤ
+recordOfPass pass = numberFrom (pass .order) ∷ pass .gain ∷ pass .coefficients
+
+-- The words of the first `count` passes.
+unfoldable pub recordOfPasses : Plan → ℕ → List ℤ
+recordOfPasses plan zero = []
+recordOfPasses plan (suc count) = recordOfPasses plan count ++ recordOfPass (passAt plan count)
+
+-- The C record of a plan.
+unfoldable pub recordOfPlan : Plan → List ℤ
+recordOfPlan plan =
+    numberFrom (plan .rows) ∷ numberFrom (plan .columns) ∷ numberFrom (plan .side) ∷ recordOfPasses plan 4
