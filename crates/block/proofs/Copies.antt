@@ -8,9 +8,9 @@ use native.Mathlib.Nat.{add-zero, add-suc, div-add-mod'}
 use native.Mathlib.Omega.{arith}
 use lib.ListN.{length, set}
 use Rattle.filter.specs.Buffer.{wordAt}
-use Rattle.blocks.specs.Written.{written}
-use Rattle.blocks.proofs.Written.{written-none, written-next, written-length, written-other, written-at}
-use Rattle.blocks.proofs.RowMajor.{row-of, column-of, place-below, row-below, column-below}
+use Rattle.filter.specs.Written.{written}
+use Rattle.filter.proofs.Written.{written-none, written-next, written-length, written-other, written-at}
+use Rattle.filter.proofs.RowMajor.{row-of, column-of, place-below, row-below, column-below}
 use Rattle.block.specs.Copies.{rowWritten, rectangleWritten}
 
 -- ---- words at places

@@ -16,8 +16,9 @@ use Rattle.filter.specs.Buffer.{wordAt}
 use Rattle.filter.specs.Windows.{pixelPlace}
 use Rattle.blocks.specs.Geometry.{firstRow, firstColumn, rowsOf, columnsOf, blockPixelPlace, partOf}
 use Rattle.blocks.specs.Strips.{pastEdges}
+use Rattle.passes.specs.Pixel.{heightMap}
 use Rattle.blocks.specs.Writes.{mapOf, finishWord, blockWrittenTo, finished}
-use Rattle.blocks.proofs.RowMajor.{row-below, column-below}
+use Rattle.filter.proofs.RowMajor.{row-below, column-below}
 use Rattle.strips.specs.declared.BlockShape.{BlockShape}
 use Rattle.strips.specs.Shapes.{shapeOf}
 use Rattle.block.specs.Copies.{gridPlace, gridWords, gridHeights, gridWritten}
@@ -60,7 +61,7 @@ module _ (plan : Plan) (k : ℕ) (kept : keepsRules plan ≡ true) (here : k < n
     read = gridWritten workCorner workStride w (gridHeights heights corner (plan .columns)) h blank
 
     pixel-is : (y x : ℕ) → gridHeights heights corner (plan .columns) y x ≡ partOf plan k (mapOf plan heights) y x
-    unfolding mapOf
+    unfolding mapOf heightMap
     pixel-is y x = ap (λ z. pixel (getD heights z (pos 0))) (omega arith)
 
     read-at : (y x : ℕ) → y < h → x < w

@@ -15,7 +15,7 @@ use Rattle.passes.specs.Passes.{Axis, columns, rows, Direction, forward, backwa
 use Rattle.filter.specs.Windows.{pixelPlace, isBackward, ifForward, ifBackward, WindowFits}
 use Rattle.blocks.specs.Geometry.{blockRow, blockColumn, firstRow, firstColumn, rowsOf, columnsOf}
 use Rattle.blocks.proofs.Geometry.{block-row-below, block-column-below}
-use Rattle.blocks.proofs.RowMajor.{same-row-column, place-below}
+use Rattle.filter.proofs.RowMajor.{same-row-column, place-below}
 use Rattle.strips.specs.declared.BlockShape.{BlockShape}
 use Rattle.strips.specs.Shapes.{shapeOf}
 use Rattle.block.specs.Copies.{GridFits}

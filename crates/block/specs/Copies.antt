@@ -5,7 +5,7 @@ use lib.IntN.{ℤ, pos}
 use lib.ListN.{getD}
 use Rattle.passes.specs.Pixel.{pixel}
 use Rattle.filter.specs.Buffer.{wordAt}
-use Rattle.blocks.specs.Written.{written}
+use Rattle.filter.specs.Written.{written}
 
 -- ---- one row
 

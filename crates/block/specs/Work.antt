@@ -22,7 +22,7 @@ use Rattle.filter.specs.Filters.{filtersOf}
 use Rattle.filter.specs.Windows.{pixelPlace, windowPass}
 use Rattle.blocks.specs.Geometry.{rowsOf, columnsOf, stripNeeded}
 use Rattle.blocks.specs.Strips.{orderOf}
-use Rattle.blocks.specs.Written.{written}
+use Rattle.filter.specs.Written.{written}
 use Rattle.strips.specs.declared.BlockShape.{BlockShape}
 use Rattle.strips.specs.declared.Strip.{Strip}
 use Rattle.strips.specs.Reading.{stripRead}

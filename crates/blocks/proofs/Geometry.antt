@@ -28,7 +28,7 @@ use Rattle.blocks.specs.Geometry.{
   stripNeeded,
 }
 use Rattle.blocks.specs.Strips.{orderOf}
-use Rattle.blocks.proofs.RowMajor.{row-of, column-of, place-below, same-row-column, row-below, column-below}
+use Rattle.filter.proofs.RowMajor.{row-of, column-of, place-below, same-row-column, row-below, column-below}
 
 -- What the laws ask of a plan: b is at least 1 and at least each order.
 pub record SideFits (plan : Plan) : Type 0 where

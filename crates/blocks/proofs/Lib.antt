@@ -1,5 +1,3 @@
-pub mod Written
-pub mod RowMajor
 pub mod Geometry
 pub mod Grid
 pub mod Strips

@@ -12,7 +12,7 @@ use Rattle.plan.specs.Sizes.{neededPixels}
 use Rattle.filter.specs.Buffer.{wordAt}
 use Rattle.blocks.specs.Geometry.{rowsOf, columnsOf, blockArea, blockPixelPlace}
 use Rattle.blocks.specs.Writes.{blockWrittenTo}
-use Rattle.blocks.proofs.Written.{
+use Rattle.filter.proofs.Written.{
   written-none,
   written-next,
   written-length,
@@ -20,7 +20,7 @@ use Rattle.blocks.proofs.Written.{
   written-other,
   written-at,
 }
-use Rattle.blocks.proofs.RowMajor.{row-of, column-of, place-below, row-below, column-below}
+use Rattle.filter.proofs.RowMajor.{row-of, column-of, place-below, row-below, column-below}
 use Rattle.blocks.proofs.Geometry.{pixel-below, same-pixel}
 
 module _ (plan : Plan) (k : ℕ) (words : ℕ → ℕ → ℕ) where

@@ -27,7 +27,7 @@ use Rattle.blocks.specs.Strips.{
   stripWritten,
   slotWritten,
 }
-use Rattle.blocks.proofs.Written.{
+use Rattle.filter.proofs.Written.{
   written-none,
   written-next,
   written-length,
@@ -35,7 +35,7 @@ use Rattle.blocks.proofs.Written.{
   written-other,
   written-at,
 }
-use Rattle.blocks.proofs.RowMajor.{row-of, column-of, place-below, row-below, column-below}
+use Rattle.filter.proofs.RowMajor.{row-of, column-of, place-below, row-below, column-below}
 
 -- A list holds these words, by line and place, as block k's strip of a pass.
 abbrev pub HoldsStrip : Plan → List ℕ → ℕ → ℕ → (ℕ → ℕ → ℕ) → Type 0

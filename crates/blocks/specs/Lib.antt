@@ -1,5 +1,4 @@
 pub mod Geometry
-pub mod Written
 pub mod Strips
 pub mod Writes
 pub mod Matching

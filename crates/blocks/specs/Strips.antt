@@ -21,7 +21,7 @@ use Rattle.passes.specs.Passes.{
   lineOf,
 }
 use Rattle.filter.specs.Buffer.{wordAt}
-use Rattle.blocks.specs.Written.{written}
+use Rattle.filter.specs.Written.{written}
 use Rattle.blocks.specs.Geometry.{rowsOf, columnsOf, neighbour, orZero}
 
 -- ---- where a strip lies

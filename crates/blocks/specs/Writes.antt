@@ -3,20 +3,19 @@
 use mathlib.Core.Bool.{cond}
 use mathlib.Core.List.{List}
 use Prim.Native.Nat.{ℕ, suc, _+_, _*_, _/_, _%_}
-use lib.IntN.{ℤ, pos}
-use lib.ListN.{getD}
+use lib.IntN.{ℤ}
 use Rattle.word.specs.Word.{_⊕_}
 use Rattle.plan.specs.declared.Plan.{Plan}
 use Rattle.passes.specs.Passes.{passesOver}
-use Rattle.passes.specs.Pixel.{pixel}
+use Rattle.passes.specs.Pixel.{heightMap}
 use Rattle.filter.specs.Filters.{filtersOf}
-use Rattle.blocks.specs.Written.{written}
+use Rattle.filter.specs.Written.{written}
 use Rattle.blocks.specs.Geometry.{rowsOf, columnsOf, blockArea, blockPixelPlace, partOf, stripNeeded}
 use Rattle.blocks.specs.Strips.{edgeWord, stripWord, pastEdges, stripWritten, slotWritten}
 
 -- The map that a row-major list of heights holds.
 unfoldable pub mapOf : Plan → List ℤ → ℕ → ℕ → ℕ
-mapOf plan heights y x = pixel (getD heights (y * plan .columns + x) (pos 0))
+mapOf plan heights = heightMap (plan .columns) heights
 
 -- Block k after the first t passes, with H past its edges, on the words Z.
 abbrev pub blockPasses : Plan → ℕ → (H : ℕ → ℕ → ℕ → ℕ) → (Z : ℕ → ℕ → ℕ) → ℕ → ℕ → ℕ → ℕ

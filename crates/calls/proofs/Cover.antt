@@ -21,7 +21,7 @@ use Rattle.blocks.specs.Strips.{
   placeInLine,
   stripPlace,
 }
-use Rattle.blocks.proofs.RowMajor.{row-below, column-below}
+use Rattle.filter.proofs.RowMajor.{row-below, column-below}
 use Rattle.blocks.proofs.Geometry.{number-below, row-of-number, column-of-number}
 use Rattle.blocks.proofs.Strips.{line-below, line-place-below}
 

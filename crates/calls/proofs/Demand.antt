@@ -28,7 +28,7 @@ use Rattle.report.specs.Report.{progressOf}
 use Rattle.report.proofs.Claims.{told, reported}
 use Rattle.blocks.specs.Writes.{mapOf}
 use Rattle.blocks.specs.Matching.{serialResult}
-use Rattle.blocks.proofs.Written.{written-length, written-other, written-at}
+use Rattle.filter.proofs.Written.{written-length, written-other, written-at}
 use Rattle.blocks.proofs.Geometry.{side-fits}
 use Rattle.blocks.proofs.Strips.{strip-place-below}
 use Rattle.calls.specs.Calls.{Buffers, startOutcome, unmarked, cleared, marksAfterStart, stripsAfterStart, started, tooShort, taskOutcome, performed, afterTask, afterCalls, outcomesOf}

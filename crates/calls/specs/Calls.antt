@@ -15,7 +15,7 @@ use Rattle.plan.specs.Sizes.{blockRows, blockColumns, neededMarks, neededStrips
 use Rattle.tasks.specs.Tasks.{BlockTask, nothingDone}
 use Rattle.tasks.specs.Marks.{markOf, withBit}
 use Rattle.tasks.specs.Verdict.{verdict}
-use Rattle.blocks.specs.Written.{written}
+use Rattle.filter.specs.Written.{written}
 use Rattle.blocks.specs.Writes.{mapOf, collected, linked, finished}
 
 -- The lists that a job's calls write.

@@ -20,7 +20,7 @@ use Rattle.plan.specs.Rules.{keepsRules}
 use Rattle.plan.specs.Sizes.{neededMarks, neededStrips, sizesOf, planSizes}
 use Rattle.plan.proofs.Known.{refused-broken, refused-reason, known-kept, known-sizes}
 use Rattle.tasks.proofs.Marking.{mark-nothing}
-use Rattle.blocks.proofs.Written.{written-none, written-next}
+use Rattle.filter.proofs.Written.{written-none, written-next}
 use Rattle.calls.specs.Calls.{startOutcome, unmarked, cleared, marksAfterStart, stripsAfterStart}
 
 module _ (words : List ℕ) where

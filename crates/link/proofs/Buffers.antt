@@ -11,9 +11,9 @@ use Rattle.plan.specs.Rules.{orderLimit}
 use Rattle.passes.specs.Passes.{Direction}
 use Rattle.filter.specs.Buffer.{wordAt}
 use Rattle.filter.specs.Windows.{beyond}
-use Rattle.blocks.proofs.Written.{written-next, written-length, written-other, written-at}
+use Rattle.filter.proofs.Written.{written-next, written-length, written-other, written-at}
 use Rattle.blocks.specs.Strips.{fromEdge}
-use Rattle.blocks.specs.Written.{written}
+use Rattle.filter.specs.Written.{written}
 use Rattle.strips.specs.Reading.{stripRead}
 use Rattle.strips.specs.declared.Strip.{Strip}
 use Rattle.squares.specs.Lines.{rowWords}

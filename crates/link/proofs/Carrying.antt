@@ -20,7 +20,7 @@ use Rattle.passes.specs.Square.{weightedSum}
 use Rattle.filter.proofs.RowMajor.{same-row-column}
 use Rattle.filter.specs.Buffer.{wordAt}
 use Rattle.filter.specs.declared.FilterWords.{FilterWords}
-use Rattle.blocks.proofs.Written.{written-length, written-other, written-at}
+use Rattle.filter.proofs.Written.{written-length, written-other, written-at}
 use Rattle.blocks.specs.Strips.{fromEdge, pastEdges}
 use Rattle.strips.specs.Reading.{stripBefore, stripRead}
 use Rattle.strips.specs.declared.Strip.{Strip}

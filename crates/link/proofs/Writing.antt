@@ -23,9 +23,9 @@ use Rattle.filter.specs.Buffer.{wordAt}
 use Rattle.filter.specs.Filters.{filtersOf}
 use Rattle.filter.specs.declared.FilterWords.{FilterWords}
 use Rattle.blocks.proofs.Geometry.{lines-in-side}
-use Rattle.blocks.proofs.RowMajor.{row-of, column-of}
+use Rattle.filter.proofs.RowMajor.{row-of, column-of}
 use Rattle.blocks.proofs.Strips.{line-below, line-place-below, strip-in-list}
-use Rattle.blocks.proofs.Written.{written-none, written-same-words}
+use Rattle.filter.proofs.Written.{written-none, written-same-words}
 use Rattle.blocks.specs.Geometry.{rowsOf, columnsOf}
 use Rattle.blocks.specs.Strips.{orderOf, stripStart, placeInStrip, lineInStrip, placeInLine, stripPlace, placeInside, indexOfPlace, insideBlock, edgeWord, stripWord, pastEdges, stripWrittenTo}
 use Rattle.blocks.specs.Writes.{blockPasses, linkWord, linked}

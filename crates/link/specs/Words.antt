@@ -13,7 +13,7 @@ use Rattle.passes.specs.Square.{weightedSum}
 use Rattle.filter.specs.Buffer.{wordAt}
 use Rattle.filter.specs.Windows.{beyond}
 use Rattle.blocks.specs.Strips.{fromEdge, lineInStrip, placeInLine}
-use Rattle.blocks.specs.Written.{written}
+use Rattle.filter.specs.Written.{written}
 use Rattle.strips.specs.Reading.{stripRead}
 use Rattle.strips.specs.declared.Strip.{Strip}
 use Rattle.squares.specs.LinePasses.{passSquare, rowEnd}

@@ -6,12 +6,11 @@ use Rattle.word.specs.Word.{modulus, minusOne, _⊕_, _⊖_, _⊗_, residue}
 use Rattle.passes.specs.Line.{history, output}
 use Rattle.passes.specs.Filter.{lessFeedback, filterStep}
 use Rattle.passes.specs.Passes.{filterLine, filterLines, passesOver, serialPasses}
-use Rattle.passes.specs.Pixel.{pixel}
+use Rattle.passes.specs.Pixel.{pixel, heightMap}
 use Rattle.passes.specs.Table.{cornerOf, rectangleSum}
 use Rattle.passes.specs.Examples.{
   filterOf,
   passesOf,
-  mapOf,
   firstWords,
   passesExample,
   rectangleExample,
@@ -20,6 +19,6 @@ use Rattle.passes.specs.Examples.{
 
 pub examples-hold : map (λ e. e .computed) passesExamples ≡ map (λ e. e .expected) passesExamples
 unfolding modulus minusOne _⊕_ _⊖_ _⊗_ residue history output lessFeedback filterStep filterLine filterLines
-    passesOver serialPasses pixel cornerOf rectangleSum filterOf passesOf mapOf firstWords
+    passesOver serialPasses pixel cornerOf rectangleSum filterOf passesOf heightMap firstWords
     passesExample rectangleExample passesExamples
 examples-hold = refl

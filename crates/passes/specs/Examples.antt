@@ -7,7 +7,7 @@ use lib.IntN.{ℤ, pos, negℤ}
 use Rattle.word.specs.Word.{residue}
 use Rattle.passes.specs.Filter.{Filter}
 use Rattle.passes.specs.Passes.{serialPasses}
-use Rattle.passes.specs.Pixel.{pixel}
+use Rattle.passes.specs.Pixel.{heightMap}
 use Rattle.passes.specs.Table.{unchanged, summedAreaTable, rectangleSum}
 
 -- The words that the definitions compute, and those that the document gives.
@@ -31,10 +31,6 @@ passesOf down up right left (suc zero) = up
 passesOf down up right left (suc (suc zero)) = right
 passesOf down up right left (suc (suc (suc t))) = left
 
--- The map whose heights stand in a list, row after row, w in a row.
-unfoldable pub mapOf : ℕ → List ℤ → ℕ → ℕ → ℕ
-mapOf w heights y x = pixel (getD heights (y * w + x) (pos 0))
-
 -- The first n words of a map with w words in a row, row after row.
 unfoldable pub firstWords : ℕ → ℕ → (ℕ → ℕ → ℕ) → List ℕ
 firstWords w n X = collect n 0
@@ -47,7 +43,7 @@ firstWords w n X = collect n 0
 unfoldable pub passesExample : (ℕ → Filter) → (h w : ℕ) → List ℤ → List ℤ → Example
 passesExample filters h w heights words =
     record {
-      computed = firstWords w (h * w) (serialPasses filters h w (mapOf w heights) 4);
+      computed = firstWords w (h * w) (serialPasses filters h w (heightMap w heights) 4);
       expected = map residue words;
     }
 
@@ -55,7 +51,7 @@ passesExample filters h w heights words =
 unfoldable pub rectangleExample : (h w : ℕ) → List ℤ → (top left bottom right : ℕ) → ℕ → Example
 rectangleExample h w heights top left bottom right sum =
     record {
-      computed = rectangleSum (serialPasses summedAreaTable h w (mapOf w heights) 4) top left bottom right ∷ [];
+      computed = rectangleSum (serialPasses summedAreaTable h w (heightMap w heights) 4) top left bottom right ∷ [];
       expected = sum ∷ [];
     }
 

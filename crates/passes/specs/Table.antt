@@ -4,9 +4,14 @@ use lib.IntN.{ℤ, pos, _+ℤ_}
 use Rattle.word.specs.Word.{minusOne, _⊕_, _⊖_}
 use Rattle.passes.specs.Filter.{Filter}
 
+-- A word at place 0, and 0 at all others.
+abbrev pub firstAlone : ℕ → ℕ → ℕ
+firstAlone word zero = word
+firstAlone word (suc place) = 0
+
 -- Order 1, gain 1, coefficient -1.
 abbrev pub runningSum : Filter
-runningSum = record { gain = 1; order = 1; coefficient = λ k. minusOne }
+runningSum = record { gain = 1; order = 1; coefficient = firstAlone minusOne }
 
 -- Order 0, gain 1.
 abbrev pub unchanged : Filter

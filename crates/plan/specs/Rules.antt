@@ -1,4 +1,4 @@
--- The rules that a plan record keeps.
+-- The rules that a plan record keeps. Document 01, 'Plan words'.
 use mathlib.Core.Bool.{Bool, true, false, _&&_, cond}
 use mathlib.Core.List.{[]}
 use Prim.Native.Nat.{ℕ, zero, suc}

@@ -1,4 +1,4 @@
--- Blocks and needed lengths: what follows from the sizes in a plan record.
+-- Blocks and needed lengths: what follows from the sizes in a plan record. Document 01, 'Blocks, marks and strips'.
 use mathlib.Core.Bool.{cond}
 use Prim.Native.Nat.{ℕ, zero, suc, _+_, _-_, _*_, _/_, min}
 use Rattle.refusal.specs.declared.Refusal.the-variants.{RecordBreaksRule}
@@ -57,7 +57,7 @@ neededPixels plan = plan .rows * plan .columns
 abbrev pub taskCount : Plan → ℕ
 taskCount plan = 6 * (blockRows plan * blockColumns plan) - 2 * blockRows plan - 2 * blockColumns plan
 
--- All of them.
+-- All the sizes of a plan in one record.
 unfoldable pub sizesOf : Plan → Sizes
 sizesOf plan =
     record {

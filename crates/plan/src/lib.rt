@@ -70,7 +70,7 @@ impl Plan {
         block_count(self.columns, self.side)
     }
 
-    // The rows of the blocks in a row of blocks: fewer than the side in the last, none past it.
+    // The rows of the blocks in a row of blocks: the last may have fewer than the side; there are none past it.
     pub fn block_height(self, block_row: usize) -> usize
         ensures { λ r. ⌜ r ≡ blockHeight self «block_row» ⌝ }
     {

@@ -1,4 +1,4 @@
--- Plan words: a word's kind and payload, and what a payload of each kind holds and may be.
+-- Plan words, document 01's table: a word's kind and payload, and what a payload of each kind holds and may be.
 use mathlib.Core.Bool.{Bool, _&&_, cond}
 use Prim.Native.Nat.{ℕ, suc, _-_, _/_, _%_}
 use lib.IntN.{ℤ, pos, negsuc}

@@ -4,3 +4,4 @@ pub mod Answers
 pub mod Accepted
 pub mod RoundTripWritten
 pub mod RoundTripRead
+pub mod Demand

@@ -24,6 +24,8 @@ pub record Inside (plan : Plan) (top left bottom right : ℕ) : Type 0 where
   pub bottom-low : bottom ≤ plan .rows
   pub left-low : left ≤ plan .columns
   pub right-low : right ≤ plan .columns
+  pub top-bottom : top ≤ bottom
+  pub left-right : left ≤ right
 
 or-left : (a b : Bool) → (a || b) ≡ false → a ≡ false
 or-left true b e = e
@@ -42,7 +44,7 @@ module _ (plan : Plan) (table : List ℕ) (top left bottom right : ℕ) where
       let r : right ≤ plan .columns = ltb-false (plan .columns) right (or-right (ltb (plan .rows) bottom) _ g) in
       let t : top < bottom = leb-false bottom top (or-left (leb bottom top) _ e) in
       let l : left < right = leb-false right left (or-left (leb right left) _ f) in
-      record { top-low = omega arith; bottom-low = b; left-low = omega arith; right-low = r }
+      record { top-low = omega arith; bottom-low = b; left-low = omega arith; right-low = r; top-bottom = omega arith; left-right = omega arith }
 
   pub broken-answer : (refusal : Refusal) → planSizes plan ≡ sized.Refused refusal
       → Refused refusal ≡ rectangleAnswer plan table top left bottom right

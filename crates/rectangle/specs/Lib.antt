@@ -1,1 +1,2 @@
 pub mod Rectangle
+pub mod Heights

@@ -35,7 +35,7 @@ numberOf NeedUnmarked = 11
 numberOf RectangleOutside = 12
 numberOf InputUnfit = 13
 
--- The place that is returned beside the number: of 9 it is the block's number, and where the table gives none it is 0.
+-- The place that is returned beside the number; of 9 it is the block's number.
 abbrev pub placeOf : Refusal → ℕ
 placeOf (WordsEndEarly place) = place
 placeOf (AnotherKindDue place) = place

@@ -2,7 +2,7 @@
 ghost use mathlib.Core.Path.{_≡_};
 ghost use Rattle.refusal.specs.Refusals.{numberOf, placeOf, firstOf};
 
-// Why a call was refused. A case holds the place that goes with it where document 01 gives one.
+// Why a call was refused. A case holds the place that goes with it where the place varies.
 pub enum Refusal {
     WordsEndEarly(usize),
     AnotherKindDue(usize),

@@ -9,12 +9,12 @@ use lib.Seq.{ext-getD, getD-append-add, getD-drop}
 use Rattle.filter.specs.Buffer.{wordAt}
 use Rattle.serial.specs.Serial.{listOf}
 
-length-listOf : (n : ℕ) (f : ℕ → ℕ) → length (listOf n f) ≡ n
+pub length-listOf : (n : ℕ) (f : ℕ → ℕ) → length (listOf n f) ≡ n
 unfolding listOf
 length-listOf zero f = refl
 length-listOf (suc n) f = ap suc (length-listOf n (λ i. f (suc i)))
 
-listOf-at : (n : ℕ) (f : ℕ → ℕ) (i : ℕ) → i < n → wordAt (listOf n f) i ≡ f i
+pub listOf-at : (n : ℕ) (f : ℕ → ℕ) (i : ℕ) → i < n → wordAt (listOf n f) i ≡ f i
 unfolding listOf
 listOf-at zero f i h = absurd (omega arith)
 listOf-at (suc n) f zero h = refl

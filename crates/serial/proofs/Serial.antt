@@ -13,8 +13,8 @@ use Rattle.plan.specs.declared.Plan.{Plan}
 use Rattle.plan.specs.Rules.{keepsRules}
 use Rattle.plan.specs.Sizes.{neededPixels, blockCount}
 use Rattle.plan.proofs.Record.{rules}
+use Rattle.passes.specs.Pixel.{heightMap}
 use Rattle.passes.specs.Passes.{axisOf, directionOf, filterLines, passesOver, serialPasses}
-use Rattle.passes.specs.Examples.{mapOf}
 use Rattle.passes.proofs.Passes.{filterLine-reads, filterLines-reads}
 use Rattle.filter.specs.Buffer.{wordAt}
 use Rattle.filter.specs.Filters.{filtersOf}
@@ -30,7 +30,7 @@ use Rattle.serial.proofs.Stages.{rows-fit}
 module _ (plan : Plan) (heights : List ℤ) where
   -- The words after the first t passes.
   abbrev after : ℕ → ℕ → ℕ → ℕ
-  after t = serialPasses (filtersOf plan) (plan .rows) (plan .columns) (mapOf (plan .columns) heights) t
+  after t = serialPasses (filtersOf plan) (plan .rows) (plan .columns) (heightMap (plan .columns) heights) t
 
   -- Row y of a buffer holds the words after the first t passes.
   abbrev RowIs : List ℕ → ℕ → ℕ → Type 0
@@ -59,7 +59,7 @@ module _ (plan : Plan) (heights : List ℤ) where
 
   read-rows : (output : List ℕ) → neededPixels plan ≤ length output → (y : ℕ) → y < plan .rows
       → RowIs (pixelsRead (neededPixels plan) heights output) 0 y
-  unfolding pixelsRead serialPasses passesOver mapOf
+  unfolding pixelsRead serialPasses passesOver heightMap
   read-rows output long y h x k =
       written-at (λ i. i) _ (neededPixels plan) output (λ i j l m e. absurd (omega arith)) (λ i l. omega arith)
       (pixelPlace (plan .columns) y x) (place-below (plan .rows) (plan .columns) y x h k)

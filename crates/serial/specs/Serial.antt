@@ -11,8 +11,8 @@ use Rattle.refusal.specs.declared.Refusal.the-variants.{RecordBreaksRule, Buffe
 use Rattle.plan.specs.declared.Plan.{Plan}
 use Rattle.plan.specs.Rules.{keepsRules}
 use Rattle.plan.specs.Sizes.{neededPixels}
+use Rattle.passes.specs.Pixel.{heightMap}
 use Rattle.passes.specs.Passes.{serialPasses}
-use Rattle.passes.specs.Examples.{mapOf}
 use Rattle.filter.specs.Filters.{filtersOf}
 
 -- The answer: 6 where the record breaks a rule, then 7 where map or output has fewer than h×w places.
@@ -32,7 +32,7 @@ unfoldable pub serialWords : Plan → List ℤ → List ℕ
 serialWords plan heights =
     listOf (neededPixels plan)
     (λ i.
-    serialPasses (filtersOf plan) (plan .rows) (plan .columns) (mapOf (plan .columns) heights) 4
+    serialPasses (filtersOf plan) (plan .rows) (plan .columns) (heightMap (plan .columns) heights) 4
     (i / plan .columns) (i % plan .columns))
 
 -- Of two lists, that of an accepted call or that of a refused one.

@@ -21,7 +21,7 @@ use Rattle.plan_reader.specs.Reading.{
 use Rattle.passes.specs.Line.{history, output}
 use Rattle.passes.specs.Filter.{lessFeedback, filterStep}
 use Rattle.passes.specs.Passes.{filterLine, filterLines, passesOver}
-use Rattle.passes.specs.Pixel.{pixel}
+use Rattle.passes.specs.Pixel.{pixel, heightMap}
 use Rattle.passes.specs.Examples.{Example, passesExamples}
 use Rattle.passes.proofs.Examples.{examples-hold as passes-hold}
 use Rattle.rectangle.specs.Rectangle.{rectangleAnswer}
@@ -30,7 +30,7 @@ use Rattle.tasks.specs.Tasks.{hasTask, exists, needsOf, allDone}
 use Rattle.tasks.specs.Counts.{total}
 use Rattle.tasks.specs.Marks.{hasBit, isMarked, spareClear, markValid, markOf, withBit}
 use Rattle.tasks.specs.Verdict.{blocksOf, lookedAt, leastBrokenOf, leastBroken, verdict}
-use Rattle.blocks.specs.Written.{written}
+use Rattle.filter.specs.Written.{written}
 use Rattle.blocks.specs.Geometry.{blockRow, blockColumn, blockPixelPlace, neighbour, stripNeeded}
 use Rattle.blocks.specs.Strips.{
   stripPlace,
@@ -66,7 +66,7 @@ unfolding modulus minusOne _⊕_ _⊖_ _⊗_ residue allBelow coefficientsKept p
     sideOutcome planOutcome readPlan rectangleAnswer history output lessFeedback filterStep filterLine filterLines passesOver pixel
     filterOf hasTask exists needsOf allDone total hasBit isMarked spareClear markValid markOf withBit blocksOf lookedAt
     leastBrokenOf leastBroken verdict written blockRow blockColumn blockPixelPlace neighbour stripNeeded stripPlace
-    insideBlock edgeWord stripWord nearestFirst pastEdges stripWrittenTo slotWritten mapOf aloneWord collected linkWord
+    insideBlock edgeWord stripWord nearestFirst pastEdges stripWrittenTo slotWritten mapOf heightMap aloneWord collected linkWord
     linked finishWord blockWrittenTo finished startOutcome unmarked cleared marksAfterStart stripsAfterStart started tooShort taskOutcome stripsAfter
     outputAfter performed afterTask afterCalls jobExample otherExamples
 others-hold = refl

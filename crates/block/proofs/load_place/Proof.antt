@@ -4,7 +4,7 @@ use Prim.Native.Nat.{_+_, _*_, _-_, _<_, _≤_}
 use native.Mathlib.Omega.{arith}
 use borrow.Author.Needs.{needs}
 use lib.ListN.{length, length-set}
-use Rattle.blocks.proofs.Written.{written-none}
+use Rattle.filter.proofs.Written.{written-none}
 use Rattle.strips.specs.Reading.{stripRead}
 use Rattle.block.specs.Work.{placeLoaded}
 use Rattle.block.proofs.Copies.{written-more}

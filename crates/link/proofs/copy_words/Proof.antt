@@ -4,7 +4,7 @@ use Prim.Native.Nat.{_-_, _≤_}
 use native.Mathlib.Omega.{arith}
 use borrow.Author.Needs.{needs}
 use lib.ListN.{length, length-set}
-use Rattle.blocks.specs.Written.{written}
+use Rattle.filter.specs.Written.{written}
 use Rattle.link.specs.Words.{copied}
 use Rattle.link.proofs.Buffers.{copied-next}
 use Rattle.link.proofs.copy_words.Statement.{statement}

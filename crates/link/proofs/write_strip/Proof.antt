@@ -5,7 +5,7 @@ use native.Mathlib.Omega.{arith}
 use borrow.Author.Needs.{needs}
 use lib.ListN.{length, length-set}
 use Rattle.passes.specs.Passes.{axisOf}
-use Rattle.blocks.specs.Written.{written}
+use Rattle.filter.specs.Written.{written}
 use Rattle.link.specs.Words.{positionAt, nextPosition, linkedTo}
 use Rattle.link.proofs.Writing.{position-first, position-next, position-below, linked-to-next}
 use Rattle.link.proofs.write_strip.Statement.{statement}

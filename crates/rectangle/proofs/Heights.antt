@@ -1,0 +1,119 @@
+-- On a summed-area table the call's sum is the heights' sum. Assumes nothing.
+use mathlib.Core.Path.{_≡_, refl, sym, ap, _∙_, fun-ext}
+use mathlib.Core.Bool.{true, false}
+use mathlib.Core.List.{List, [], _++_}
+use Prim.Native.Nat.{ℕ, zero, suc, _+_, _-_, _*_, _/_, _%_, _<_, _≤_, _^_}
+use native.Mathlib.Omega.{arith}
+use lib.IntN.{ℤ, pos, negsuc}
+use lib.Dec.{ltb, leb}
+use lib.ListN.{length, getD, drop, replicate, length-append, List·getD-append, getD-replicate}
+use borrow.Author.Tests.{le-ltb}
+use Rattle.word.specs.Word.{modulus, minusOne, residue}
+use Rattle.plan.specs.declared.Pass.{Pass}
+use Rattle.plan.specs.declared.Plan.{Plan}
+use Rattle.plan.specs.Rules.{orderLimit, coefficientAt, passAt, keepsRules}
+use Rattle.plan.specs.Sizes.{neededPixels}
+use Rattle.passes.specs.Filter.{Filter}
+use Rattle.passes.specs.Passes.{passesOver, serialPasses}
+use Rattle.passes.specs.Pixel.{heightMap}
+use Rattle.passes.specs.Table.{runningSum, unchanged, firstAlone, summedAreaTable, rectangleSum, heightsInside}
+use Rattle.passes.proofs.Table.{rectangle-heights}
+use Rattle.filter.specs.Filters.{filterOf, filtersOf}
+use Rattle.filter.proofs.RowMajor.{row-of, column-of, place-below}
+use Rattle.serial.specs.Serial.{serialWords, serialOutput}
+use Rattle.serial.proofs.Lists.{length-listOf, listOf-at}
+use Rattle.serial.proofs.Answers.{long-enough, accepted}
+use Rattle.rectangle.specs.declared.RectangleSum.the-variants.{Sum}
+use Rattle.rectangle.specs.Rectangle.{tableOf, outside, rectangleAnswer}
+use Rattle.rectangle.specs.Heights.{runningSumPass, unchangedPass, summedAreaPasses, heightAt, SumsHeights}
+use Rattle.rectangle.proofs.Answers.{Inside, not-outside}
+
+-- ---- the filters
+
+residue-one : residue (pos 1) ≡ 1
+unfolding residue modulus
+residue-one = refl
+
+residue-minus-one : residue (negsuc 0) ≡ minusOne
+unfolding residue modulus minusOne
+residue-minus-one = refl
+
+residue-zero : residue (pos 0) ≡ 0
+unfolding residue modulus
+residue-zero = refl
+
+-- A coefficient place past those of a list of zeros reads 0 as well.
+zeros : (n k : ℕ) → residue (getD (replicate n (pos 0)) k (pos 0)) ≡ 0
+zeros zero k = residue-zero
+zeros (suc n) zero = residue-zero
+zeros (suc n) (suc k) = zeros n k
+
+same-filter : {g g′ r r′ : ℕ} {d d′ : ℕ → ℕ} → g ≡ g′ → r ≡ r′ → d ≡ d′
+    → _≡_ {A = Filter} (record { gain = g; order = r; coefficient = d }) (record { gain = g′; order = r′; coefficient = d′ })
+same-filter e f h = cc
+
+running-sum : filterOf runningSumPass ≡ runningSum
+unfolding filterOf
+running-sum = same-filter residue-one refl (fun-ext at)
+  where
+    at : (k : ℕ) → residue (coefficientAt runningSumPass k) ≡ firstAlone minusOne k
+    at zero = residue-minus-one
+    at (suc k) = zeros (orderLimit - 1) k
+
+unchanged-pass : filterOf unchangedPass ≡ unchanged
+unfolding filterOf
+unchanged-pass = same-filter residue-one refl (fun-ext (zeros orderLimit))
+
+module _ (plan : Plan) (passes : plan .passes ≡ summedAreaPasses) where
+  pass-is : (i : ℕ) → passAt plan i ≡ getD summedAreaPasses i (record { order = 0; gain = pos 0; coefficients = [] })
+  pass-is i = ap (λ (l : List Pass). getD l i (record { order = 0; gain = pos 0; coefficients = [] })) passes
+
+  filter-is : (i : ℕ) → i < 4 → filtersOf plan i ≡ summedAreaTable i
+  filter-is zero h = ap filterOf (pass-is 0) ∙ running-sum
+  filter-is (suc zero) h = ap filterOf (pass-is 1) ∙ unchanged-pass
+  filter-is (suc (suc zero)) h = ap filterOf (pass-is 2) ∙ running-sum
+  filter-is (suc (suc (suc zero))) h = ap filterOf (pass-is 3) ∙ unchanged-pass
+  filter-is (suc (suc (suc (suc i)))) h = absurd (omega arith)
+
+  -- The four passes of the plan are those of the table.
+  passes-are : (h w : ℕ) (X : ℕ → ℕ → ℕ) → serialPasses (filtersOf plan) h w X 4 ≡ serialPasses summedAreaTable h w X 4
+  unfolding serialPasses passesOver
+  passes-are h w X =
+      rw (filter-is 0 (omega arith), filter-is 1 (omega arith), filter-is 2 (omega arith), filter-is 3 (omega arith))
+
+-- ---- the table
+
+module _ (plan : Plan) (kept : keepsRules plan ≡ true) (heights : List ℤ) (output : List ℕ)
+    (long : neededPixels plan ≤ length heights) (room : neededPixels plan ≤ length output) where
+  table-is : serialWords plan heights ++ drop (neededPixels plan) output ≡ serialOutput plan heights output
+  table-is = accepted plan heights output _ (long-enough plan (length heights) (length output) kept long room) refl .1
+
+  words-length : length (serialWords plan heights) ≡ neededPixels plan
+  unfolding serialWords
+  words-length = length-listOf (neededPixels plan) _
+
+  table-long : neededPixels plan ≤ length (serialOutput plan heights output)
+  table-long = rw (← table-is) (simp length-append (omega (arith, words-length)))
+
+  table-at : (y x : ℕ) → y < plan .rows → x < plan .columns
+      → tableOf plan (serialOutput plan heights output) y x
+      ≡ serialPasses (filtersOf plan) (plan .rows) (plan .columns) (heightMap (plan .columns) heights) 4 y x
+  unfolding serialWords
+  table-at y x a b =
+      let q : y * plan .columns + x < neededPixels plan = place-below (plan .rows) (plan .columns) y x a b in
+      ap (λ (l : List ℕ). getD l (y * plan .columns + x) 0) (sym table-is)
+      ∙ List·getD-append (serialWords plan heights) (drop (neededPixels plan) output) 0 (y * plan .columns + x) (rw words-length q)
+      ∙ listOf-at (neededPixels plan) _ (y * plan .columns + x) q
+      ∙ rw (row-of (plan .columns) y x b, column-of (plan .columns) y x b)
+
+pub sums-heights : SumsHeights
+unfolding rectangleAnswer heightMap
+sums-heights plan kept passes heights output long room top left bottom right inside =
+    let i = not-outside plan output top left bottom right inside in
+    rw (kept, le-ltb _ _ (table-long plan kept heights output long room), inside)
+    (ap Sum
+    (rectangle-heights (plan .rows) (plan .columns) _ (heightAt plan heights)
+    (λ y x a b.
+    table-at plan kept heights output long room y x a b
+    ∙ ap (λ (Z : ℕ → ℕ → ℕ). Z y x) (passes-are plan passes (plan .rows) (plan .columns) (heightMap (plan .columns) heights)))
+    top left bottom right (i .top-bottom) (i .left-right) (i .bottom-low) (i .right-low)))
