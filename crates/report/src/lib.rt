@@ -48,7 +48,7 @@ pub fn report(plan: Plan, marks: &[u32]) -> ReportAnswer
 }
 
 // The report on the marks of a map of these sizes.
-pub fn report_on(
+fn report_on(
     rows: usize,
     columns: usize,
     side: usize,

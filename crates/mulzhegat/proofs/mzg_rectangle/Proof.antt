@@ -1,6 +1,7 @@
 -- `mzg_rectangle` meets its contract: the answer of `rectangle_sum` as a number and as a word. Assumes nothing.
-use mathlib.Core.Path.{refl, sym, _∙_}
+use mathlib.Core.Path.{sym, _∙_}
 use Rattle.mulzhegat.proofs.Places.{rectangle-place}
+use Rattle.mulzhegat.proofs.Answers.{rectangle-summed, rectangle-refused}
 use borrow.Author.Needs.{needs}
 use Rattle.mulzhegat.proofs.mzg_rectangle.Statement.{statement}
 use Rattle.mulzhegat.proofs.mzg_rectangle.Tie as tie
@@ -24,13 +25,13 @@ refusal-code-requires c κs =
 returns : tie.Need-returns
 returns c =
     let m = c .before .before .before in
-    rw (← (m .before .plan-of-record .ensures), ← (m .rectangle-sum .ensures), c .before .answer .given .1) (refl, refl)
+    rectangle-summed (rw (m .before .plan-of-record .ensures) at (m .rectangle-sum .ensures)) _ (c .before .answer .given .1)
 
 returns-2 : tie.Need-returns-2
 returns-2 c =
     let m = c .before .before .before .before in
-    rw (← (m .before .plan-of-record .ensures), ← (m .rectangle-sum .ensures), c .before .before .answer2 .given .1)
-    (c .refusal-code .ensures, refl)
+    rectangle-refused (rw (m .before .plan-of-record .ensures) at (m .rectangle-sum .ensures)) _ (c .before .before .answer2 .given .1)
+    (c .refusal-code .ensures)
 
 pub mzg-rectangle-spec : {M : Type 1} → statement M
 mzg-rectangle-spec =
