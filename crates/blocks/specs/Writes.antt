@@ -2,7 +2,7 @@
 -- column.
 use mathlib.Core.Bool.{cond}
 use mathlib.Core.List.{List}
-use Prim.Native.Nat.{ℕ, suc, _+_, _*_, _/_, _%_}
+use Prim.Native.Nat.{ℕ, suc, _/_, _%_}
 use lib.IntN.{ℤ}
 use Rattle.word.specs.Word.{_⊕_}
 use Rattle.plan.specs.declared.Plan.{Plan}

@@ -6,7 +6,7 @@ use Prim.Native.Nat.{ℕ, zero, suc, _+_, _-_, _*_, _/_, _%_, _≤_, _<_}
 use native.Mathlib.Nat.{div-add-mod'}
 use native.Mathlib.Omega.{arith}
 use Rattle.plan.specs.declared.Plan.{Plan}
-use Rattle.plan.specs.Sizes.{orderSum, blockRows, blockColumns, neededMarks, neededPixels}
+use Rattle.plan.specs.Sizes.{orderSum, neededMarks, neededPixels}
 use Rattle.plan.proofs.Tests.{lt-or-ge}
 use Rattle.plan.proofs.Blocks.{place-counted, place-in-extent}
 use Rattle.passes.specs.Passes.{Axis, columns, rows, axisOf}

@@ -1,10 +1,10 @@
 -- One more task done, whose needs are done: the marks, the strips and the output keep what is claimed of them.
 -- Assumes nothing.
-use mathlib.Core.Path.{_≡_, refl, sym, ap, ap₂, _∙_, subst}
+use mathlib.Core.Path.{_≡_, refl, sym, _∙_}
 use mathlib.Core.Bool.{Bool, true, false, _||_, cond, true≢false}
 use mathlib.Core.List.{List}
 use mathlib.Core.Logic.{_⊎_, ⊎-elim}
-use Prim.Native.Nat.{ℕ, zero, suc, _+_, _≤_, _<_}
+use Prim.Native.Nat.{ℕ, zero, suc, _≤_, _<_}
 use native.Mathlib.Omega.{arith}
 use native.Mathlib.Decide.{ℕ-discrete}
 use lib.IntN.{ℤ}
@@ -13,7 +13,6 @@ use lib.ListN.{length}
 use borrow.Author.Tests.{ltb-true, ltb-false, eqb-true, eqb-false}
 use Rattle.plan.specs.declared.Plan.{Plan}
 use Rattle.plan.specs.Sizes.{blockRows, blockColumns, neededMarks, neededStrips, neededPixels}
-use Rattle.filter.specs.Buffer.{wordAt}
 use Rattle.tasks.specs.Tasks.{exists, needsOf, allDone, ready, alsoDone}
 use Rattle.tasks.specs.Marks.{withBit}
 use Rattle.tasks.proofs.Places.{exists-block, exists-has, exists-task}
@@ -30,10 +29,8 @@ use Rattle.tasks.proofs.Progress.{
   Sound,
   sound-also,
 }
-use Rattle.blocks.specs.Geometry.{rowsOf, columnsOf, blockPixelPlace, partOf, neighbour, stripNeeded}
-use Rattle.blocks.specs.Strips.{orderOf}
+use Rattle.blocks.specs.Geometry.{stripNeeded}
 use Rattle.blocks.specs.Writes.{mapOf, aloneWord, collected, linked, finished}
-use Rattle.blocks.specs.Matching.{serialResult, matchingWord}
 use Rattle.blocks.proofs.Geometry.{SideFits, same-pixel}
 use Rattle.blocks.proofs.Strips.{HoldsStrip}
 use Rattle.blocks.proofs.Reading.{NeedsTrue}

@@ -1,13 +1,12 @@
 -- The table of tasks and needs says the same as the geometry of blocks: a link exists exactly where a neighbour needs its
 -- strip, and the links in a task's needs are those of the neighbours that its passes come from.
 -- Assumes nothing.
-use mathlib.Core.Path.{_≡_, refl, sym, ap, _∙_}
+use mathlib.Core.Path.{_≡_, refl, sym, _∙_}
 use mathlib.Core.Bool.{Bool, true, false, cond}
-use mathlib.Core.Option.{Option, none, some, Option·some-injective, Option·some-ne-none}
-use Prim.Native.Nat.{ℕ, zero, suc, _+_, _<_}
+use mathlib.Core.Option.{none, some, Option·some-injective, Option·some-ne-none}
+use Prim.Native.Nat.{ℕ, zero, suc, _<_}
 use native.Mathlib.Numerals.{add-one}
 use native.Mathlib.Omega.{arith}
-use lib.Dec.{ltb}
 use Rattle.plan.specs.declared.Plan.{Plan}
 use Rattle.plan.specs.Sizes.{blockRows, blockColumns}
 use Rattle.tasks.specs.Tasks.{rowOf, columnOf, hasTask}

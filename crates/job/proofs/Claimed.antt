@@ -1,7 +1,7 @@
 -- Demand 3 of the code: what the contracts of `start` and `run_calls` say of the buffers that they leave makes the claim true of
 -- those buffers, whatever calls were made, and as many calls were accepted as tasks are done.
 -- Assumes nothing.
-use mathlib.Core.Path.{_≡_, refl, sym, ap, _∙_}
+use mathlib.Core.Path.{_≡_, ap, _∙_}
 use mathlib.Core.List.{List}
 use Prim.Native.Nat.{ℕ, _≤_}
 use lib.IntN.{ℤ}

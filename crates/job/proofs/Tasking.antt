@@ -1,12 +1,12 @@
 -- The ways out of the task call, and what an accepted call may rely on.
 -- Assumes nothing.
-use mathlib.Core.Path.{_≡_, refl, ap, sym, _∙_}
+use mathlib.Core.Path.{_≡_, refl, sym, _∙_}
 use mathlib.Core.Bool.{Bool, true, false, _||_, cond, true≢false}
 use mathlib.Core.List.{List}
 use Prim.Native.Nat.{ℕ, zero, suc, _+_, _-_, _^_, _≤_, _<_}
 use native.Mathlib.Omega.{arith}
 use lib.IntN.{ℤ}
-use lib.Dec.{ltb, eqb}
+use lib.Dec.{ltb}
 use lib.ListN.{length, getD}
 use borrow.Author.Tests.{lt-ltb, ltb-false, ne-eqb}
 use Rattle.refusal.specs.declared.Refusal.{Refusal}
@@ -23,19 +23,9 @@ use Rattle.plan.proofs.Needed.{bounds}
 use Rattle.tasks.specs.Grid.{Lent}
 use Rattle.tasks.specs.Marks.{withBit}
 use Rattle.tasks.specs.Verdict.{verdict}
-use Rattle.tasks.proofs.Verdicts.{Settable, accepted-settable}
+use Rattle.tasks.proofs.Verdicts.{accepted-settable}
 use Rattle.blocks.specs.Writes.{mapOf, collected, linked, finished}
-use Rattle.calls.specs.Calls.{
-  Buffers,
-  lists,
-  tooShort,
-  taskOutcome,
-  stripsAfter,
-  outputAfter,
-  performed,
-  ifAccepted,
-  afterTask,
-}
+use Rattle.calls.specs.Calls.{Buffers, lists, tooShort, taskOutcome, stripsAfter, outputAfter, performed, afterTask}
 use Rattle.job.specs.Fits.{Fits}
 use Rattle.job.proofs.Starting.{sizes-known, sizes-refused}
 

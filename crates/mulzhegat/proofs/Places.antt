@@ -1,12 +1,13 @@
 -- The place of every refusal that a call can answer is below 2^32. Assumes nothing.
 use mathlib.Core.Path.{_≡_, refl, sym, ap, _∙_}
-use mathlib.Core.Bool.{Bool, true, false, _&&_, cond}
+use mathlib.Core.Bool.{Bool, true, false, _&&_, _||_, cond}
 use mathlib.Core.List.{List}
 use Prim.Native.Nat.{ℕ, zero, suc, _+_, _*_, _<_, _≤_}
 use native.Mathlib.Omega.{arith}
 use lib.Dec.{leb, ltb, eqb}
+use lib.IntN.{ℤ}
 use lib.ListN.{length}
-use borrow.Author.Tests.{leb-true}
+use borrow.Author.Tests.{leb-true, ltb-true}
 use Rattle.refusal.specs.declared.Refusal.{Refusal}
 use Rattle.refusal.specs.declared.Refusal.the-variants.{
   WordsEndEarly,
@@ -16,6 +17,10 @@ use Rattle.refusal.specs.declared.Refusal.the-variants.{
   SideBelowOrder,
   RecordBreaksRule,
   BufferTooShort,
+  NoSuchTask,
+  MarkBroken,
+  AlreadyMarked,
+  NeedUnmarked,
   RectangleOutside,
 }
 use Rattle.refusal.specs.declared.Outcome.{Outcome}
@@ -24,8 +29,9 @@ use Rattle.refusal.specs.Refusals.{placeOf, firstOf}
 use Rattle.plan.specs.declared.Plan.{Plan}
 use Rattle.plan.specs.declared.PlanSizes.the-variants as sizes
 use Rattle.plan.specs.Rules.{keepsRules, allBelow}
-use Rattle.plan.specs.Sizes.{wordCount, neededPixels, planSizes}
+use Rattle.plan.specs.Sizes.{wordCount, blockRows, blockColumns, neededMarks, neededStrips, neededPixels, planSizes}
 use Rattle.plan.proofs.Known.{refused-reason}
+use Rattle.plan.proofs.Needed.{bounds}
 use Rattle.plan_reader.specs.Layout.{kindOf, sizeAllowed, sideAllowed, passAllowed, endAllowed}
 use Rattle.plan_reader.specs.Reading.{
   wordAt,
@@ -52,6 +58,14 @@ use Rattle.serial.specs.Serial.{serialOutcome}
 use Rattle.rectangle.specs.declared.RectangleSum.{RectangleSum}
 use Rattle.rectangle.specs.declared.RectangleSum.the-variants as rectangle
 use Rattle.rectangle.specs.Rectangle.{outside, rectangleAnswer}
+use Rattle.tasks.specs.Tasks.{exists, needsOf, allDone}
+use Rattle.tasks.specs.Marks.{isMarked}
+use Rattle.tasks.specs.Verdict.{leastBroken, verdict}
+use Rattle.calls.specs.Calls.{Buffers, startOutcome, tooShort, taskOutcome}
+use Rattle.report.specs.declared.Progress.{Progress}
+use Rattle.report.specs.declared.ReportAnswer.{ReportAnswer}
+use Rattle.report.specs.declared.ReportAnswer.the-variants as reported
+use Rattle.report.specs.Report.{firstBroken, progressOf, reportOn, report}
 use Rattle.mulzhegat.specs.Codes.{outcomePlace}
 
 -- ---- reading a plan
@@ -132,6 +146,86 @@ module _ (words : List ℕ) where
   pub read-place : outcomePlace (readPlan words .outcome) < 4294967296
   unfolding readPlan
   read-place = rw (answer-place (planOutcome words) (planFrom words)) (omega (arith, plan-place))
+
+-- ---- the calls of a job: a broken mark is that of a block, and an accepted plan has at most 2^24 blocks
+
+pub start-place : (plan : Plan) (marks strips : List ℕ) → outcomePlace (startOutcome plan marks strips) < 4294967296
+unfolding startOutcome
+start-place plan marks strips =
+    by (keepsRules plan) (ltb (length marks) (neededMarks plan) || ltb (length strips) (neededStrips plan))
+  where
+    by : (kept short : Bool) → outcomePlace (cond kept (cond short (Refused BufferTooShort) Accepted) (Refused RecordBreaksRule)) < 4294967296
+    by true true = omega arith
+    by true false = omega arith
+    by false short = omega arith
+
+verdict-place : (M N : ℕ) (marks : List ℕ) (t k : ℕ) → M * N ≤ 16777216 → outcomePlace (verdict M N marks t k) < 4294967296
+unfolding verdict
+verdict-place M N marks t k few =
+    by (exists M N t k) (ltb (leastBroken M N marks t k) (M * N)) refl (isMarked marks t k)
+    (allDone (isMarked marks) (needsOf M N t k))
+  where
+    by : (there broken : Bool) → ltb (leastBroken M N marks t k) (M * N) ≡ broken → (marked done : Bool)
+        → outcomePlace
+        (cond there
+        (cond broken (Refused (MarkBroken (leastBroken M N marks t k)))
+        (cond marked (Refused AlreadyMarked) (cond done Accepted (Refused NeedUnmarked))))
+        (Refused NoSuchTask))
+        < 4294967296
+    by true true e marked done = omega (arith, ltb-true (leastBroken M N marks t k) (M * N) e, few)
+    by true false e true done = omega arith
+    by true false e false true = omega arith
+    by true false e false false = omega arith
+    by false broken e marked done = omega arith
+
+pub task-place :
+    (plan : Plan) (heights : List ℤ) (buffers : Buffers) (t k : ℕ)
+    → outcomePlace (taskOutcome plan heights buffers t k) < 4294967296
+unfolding taskOutcome
+task-place plan heights buffers t k = by (keepsRules plan) refl (tooShort plan heights buffers)
+  where
+    by : (kept : Bool) → keepsRules plan ≡ kept → (short : Bool)
+        → outcomePlace
+        (cond kept (cond short (Refused BufferTooShort) (verdict (blockRows plan) (blockColumns plan) (buffers .marks) t k))
+        (Refused RecordBreaksRule))
+        < 4294967296
+    by true e true = omega arith
+    by true e false = verdict-place (blockRows plan) (blockColumns plan) (buffers .marks) t k (bounds plan e .marks-high)
+    by false e short = omega arith
+
+report-place-of : ReportAnswer → ℕ
+report-place-of (reported.Refused reason) = placeOf reason
+report-place-of (reported.Made progress) = 0
+
+report-on-place :
+    (h w b M N : ℕ) (marks : List ℕ) → M * N ≤ 16777216 → report-place-of (reportOn h w b M N marks) < 4294967296
+unfolding reportOn report-place-of
+report-on-place h w b M N marks few =
+    by (ltb (length marks) (M * N)) (ltb (firstBroken M N marks) (M * N)) refl (progressOf h w b M N (isMarked marks))
+  where
+    by : (short broken : Bool) → ltb (firstBroken M N marks) (M * N) ≡ broken → (progress : Progress)
+        → report-place-of
+        (cond short (reported.Refused BufferTooShort)
+        (cond broken (reported.Refused (MarkBroken (firstBroken M N marks))) (reported.Made progress)))
+        < 4294967296
+    by true broken e progress = omega arith
+    by false true e progress = omega (arith, ltb-true (firstBroken M N marks) (M * N) e, few)
+    by false false e progress = omega arith
+
+pub report-place :
+    (plan : Plan) (marks : List ℕ) (refusal : Refusal)
+    → report plan marks ≡ reported.Refused refusal → placeOf refusal < 4294967296
+unfolding report report-place-of
+report-place plan marks refusal e = rw (e) at (by (keepsRules plan) refl)
+  where
+    by : (kept : Bool) → keepsRules plan ≡ kept
+        → report-place-of
+        (cond kept (reportOn (plan .rows) (plan .columns) (plan .side) (blockRows plan) (blockColumns plan) marks)
+        (reported.Refused RecordBreaksRule))
+        < 4294967296
+    by true k =
+        report-on-place (plan .rows) (plan .columns) (plan .side) (blockRows plan) (blockColumns plan) marks (bounds plan k .marks-high)
+    by false k = omega arith
 
 -- ---- the other calls: their refusals have place 0
 

@@ -12,6 +12,8 @@ use Rattle.plan_writer.specs.declared.PlanWritten.{PlanWritten}
 use Rattle.plan_writer.specs.declared.PlanWritten.the-variants as written
 use Rattle.rectangle.specs.declared.RectangleSum.{RectangleSum}
 use Rattle.rectangle.specs.declared.RectangleSum.the-variants as rectangle
+use Rattle.report.specs.declared.ReportAnswer.{ReportAnswer}
+use Rattle.report.specs.Values.{valuesOf}
 
 -- Document 01's number of the refusal in the upper half, its place in the lower.
 abbrev pub refusalCode : Refusal → ℕ
@@ -59,3 +61,15 @@ rectangleCode (rectangle.Refused refusal) = refusalCode refusal
 abbrev pub rectangleWord : RectangleSum → ℕ
 rectangleWord (rectangle.Sum sum) = sum
 rectangleWord (rectangle.Refused refusal) = 0
+
+-- ---- the report
+
+-- 0 where the report is made.
+abbrev pub reportCode : ReportAnswer → ℕ
+reportCode answer = valuesOf answer .number * 4294967296 + valuesOf answer .place
+
+-- The five values in the order of the C record; zeros beside a refusal.
+abbrev pub progressRecord : ReportAnswer → List ℕ
+progressRecord answer =
+    valuesOf answer .count
+    ∷ valuesOf answer .tally ∷ valuesOf answer .ready ∷ valuesOf answer .task ∷ valuesOf answer .block ∷ []

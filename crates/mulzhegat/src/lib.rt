@@ -6,6 +6,9 @@ use plan_writer::PlanWritten;
 use rectangle::RectangleSum;
 use refusal::Outcome;
 use refusal::Refusal;
+use report::Next;
+use report::Progress;
+use report::ReportAnswer;
 ghost use mathlib.Core.Path.{_≡_};
 ghost use Prim.Native.Nat.{_<_};
 ghost use lib.ListN.{length};
@@ -17,7 +20,11 @@ ghost use Rattle.plan_writer.specs.Writing.{writeAnswer, writtenWords};
 ghost use Rattle.plan_record.specs.Records.{planOfRecord, recordOfPlan};
 ghost use Rattle.serial.specs.Serial.{serialOutcome, serialOutput};
 ghost use Rattle.rectangle.specs.Rectangle.{rectangleAnswer};
+ghost use Rattle.calls.specs.Calls.{lists, startOutcome, marksAfterStart, stripsAfterStart, taskOutcome, afterTask};
+ghost use Rattle.report.specs.declared.ReportAnswer.the-variants.{Made};
+ghost use Rattle.report.specs.Report.{report};
 ghost use Rattle.mulzhegat.specs.Codes.{refusalCode, outcomeCode, outcomePlace, writtenCode, sizesCode, sizesRecord, rectangleCode, rectangleWord};
+ghost use Rattle.mulzhegat.specs.Codes.{reportCode, progressRecord};
 
 // ---- plans
 
@@ -61,6 +68,65 @@ pub extern "C" fn mzg_plan_sizes(
         }
         PlanSizes::Refused(refusal) => {
             *sizes = [0; 7];
+            refusal_code(refusal)
+        }
+    }
+}
+
+// ---- jobs
+
+// Starts a job: no task is marked, and all needed strip words are 0.
+#[no_mangle]
+pub extern "C" fn mzg_start(
+    plan: &[i64; plan_record::RECORD_LENGTH],
+    marks: &mut [u32],
+    strips: &mut [u64],
+) -> u64
+    ensures answer { λ r. ⌜ r ≡ outcomeCode (startOutcome (planOfRecord (now (plan .entry))) (now (marks .entry)) (now (strips .entry))) ⌝ }
+    ensures marked { λ _. ⌜ now (marks .exit) ≡ marksAfterStart (planOfRecord (now (plan .entry))) (now (marks .entry)) (now (strips .entry)) ⌝ }
+    ensures stripped { λ _. ⌜ now (strips .exit) ≡ stripsAfterStart (planOfRecord (now (plan .entry))) (now (marks .entry)) (now (strips .entry)) ⌝ }
+{
+    let outcome = job::start(plan_record::plan_of_record(plan), marks, strips);
+    outcome_code(outcome)
+}
+
+// Calls one task at one block.
+#[no_mangle]
+pub extern "C" fn mzg_task(
+    plan: &[i64; plan_record::RECORD_LENGTH],
+    task: usize,
+    block: usize,
+    map: &[i32],
+    marks: &mut [u32],
+    strips: &mut [u64],
+    output: &mut [u64],
+) -> u64
+    ensures answer { λ r. ⌜ r ≡ outcomeCode (taskOutcome (planOfRecord (now (plan .entry))) (now (map .entry)) (lists (now (marks .entry)) (now (strips .entry)) (now (output .entry))) task block) ⌝ }
+    ensures written { λ _. ⌜ lists (now (marks .exit)) (now (strips .exit)) (now (output .exit)) ≡ afterTask (planOfRecord (now (plan .entry))) (now (map .entry)) task block (lists (now (marks .entry)) (now (strips .entry)) (now (output .entry))) ⌝ }
+{
+    let taken = plan_record::plan_of_record(plan);
+    let outcome = job::task(taken, task, block, map, marks, strips, output);
+    outcome_code(outcome)
+}
+
+// Reports on a job's marks; all zeros beside a refusal.
+#[no_mangle]
+pub extern "C" fn mzg_report(
+    plan: &[i64; plan_record::RECORD_LENGTH],
+    marks: &[u32],
+    progress: &mut [u64; 5],
+) -> u64
+    ensures answer { λ r. ⌜ r ≡ reportCode (report (planOfRecord (now (plan .entry))) (now (marks .entry))) ⌝ }
+    ensures values { λ _. ⌜ now (progress .exit) ≡ progressRecord (report (planOfRecord (now (plan .entry))) (now (marks .entry))) ⌝ }
+{
+    let answer = report::report(plan_record::plan_of_record(plan), marks);
+    match answer {
+        ReportAnswer::Made(made) => {
+            *progress = progress_record(made);
+            0
+        }
+        ReportAnswer::Refused(refusal) => {
+            *progress = [0; 5];
             refusal_code(refusal)
         }
     }
@@ -139,4 +205,20 @@ fn sizes_record(known: Sizes) -> [u64; 7]
         known.pixels as u64,
         known.tasks as u64,
     ]
+}
+
+fn progress_record(made: Progress) -> [u64; 5]
+    ensures { λ r. ⌜ r ≡ progressRecord (Made made) ⌝ }
+{
+    let next = made.next;
+    match next {
+        Next::Ready(task, block) => [
+            made.marked as u64,
+            made.tally as u64,
+            1,
+            task as u64,
+            block as u64,
+        ],
+        Next::Nothing => [made.marked as u64, made.tally as u64, 0, 0, 0],
+    }
 }

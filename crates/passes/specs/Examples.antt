@@ -1,7 +1,7 @@
 -- The examples of document 01 about the passes and the rectangle sum, as one list of what the definitions compute and
 -- what the document gives. Other crates join theirs to it.
 use mathlib.Core.List.{List, [], _∷_, map}
-use Prim.Native.Nat.{ℕ, zero, suc, _+_, _*_, _/_, _%_}
+use Prim.Native.Nat.{ℕ, zero, suc, _*_, _/_, _%_}
 use lib.ListN.{length, getD}
 use lib.IntN.{ℤ, pos, negℤ}
 use Rattle.word.specs.Word.{residue}

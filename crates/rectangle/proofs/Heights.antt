@@ -1,12 +1,11 @@
 -- On a summed-area table the call's sum is the heights' sum. Assumes nothing.
 use mathlib.Core.Path.{_≡_, refl, sym, ap, _∙_, fun-ext}
-use mathlib.Core.Bool.{true, false}
+use mathlib.Core.Bool.{true}
 use mathlib.Core.List.{List, [], _++_}
-use Prim.Native.Nat.{ℕ, zero, suc, _+_, _-_, _*_, _/_, _%_, _<_, _≤_, _^_}
+use Prim.Native.Nat.{ℕ, zero, suc, _+_, _-_, _*_, _<_, _≤_}
 use native.Mathlib.Omega.{arith}
 use lib.IntN.{ℤ, pos, negsuc}
-use lib.Dec.{ltb, leb}
-use lib.ListN.{length, getD, drop, replicate, length-append, List·getD-append, getD-replicate}
+use lib.ListN.{length, getD, drop, replicate, length-append, List·getD-append}
 use borrow.Author.Tests.{le-ltb}
 use Rattle.word.specs.Word.{modulus, minusOne, residue}
 use Rattle.plan.specs.declared.Pass.{Pass}
@@ -16,7 +15,7 @@ use Rattle.plan.specs.Sizes.{neededPixels}
 use Rattle.passes.specs.Filter.{Filter}
 use Rattle.passes.specs.Passes.{passesOver, serialPasses}
 use Rattle.passes.specs.Pixel.{heightMap}
-use Rattle.passes.specs.Table.{runningSum, unchanged, firstAlone, summedAreaTable, rectangleSum, heightsInside}
+use Rattle.passes.specs.Table.{runningSum, unchanged, firstAlone, summedAreaTable}
 use Rattle.passes.proofs.Table.{rectangle-heights}
 use Rattle.filter.specs.Filters.{filterOf, filtersOf}
 use Rattle.filter.proofs.RowMajor.{row-of, column-of, place-below}
@@ -24,9 +23,9 @@ use Rattle.serial.specs.Serial.{serialWords, serialOutput}
 use Rattle.serial.proofs.Lists.{length-listOf, listOf-at}
 use Rattle.serial.proofs.Answers.{long-enough, accepted}
 use Rattle.rectangle.specs.declared.RectangleSum.the-variants.{Sum}
-use Rattle.rectangle.specs.Rectangle.{tableOf, outside, rectangleAnswer}
+use Rattle.rectangle.specs.Rectangle.{tableOf, rectangleAnswer}
 use Rattle.rectangle.specs.Heights.{runningSumPass, unchangedPass, summedAreaPasses, heightAt, SumsHeights}
-use Rattle.rectangle.proofs.Answers.{Inside, not-outside}
+use Rattle.rectangle.proofs.Answers.{not-outside}
 
 -- ---- the filters
 

@@ -1,6 +1,6 @@
 -- The laws of words: a commutative ring, for all numbers. Assumes nothing.
 use mathlib.Core.Path.{_≡_, refl, ap, sym, _∙_}
-use Prim.Native.Nat.{ℕ, suc, _+_, _*_, _-_, _%_, _/_, _^_, _<_}
+use Prim.Native.Nat.{ℕ, _+_, _*_, _-_, _%_, _/_, _^_, _<_}
 use native.Mathlib.Nat.{
   add-mul-mod-self-left,
   mod-eq-of-lt,

@@ -1,6 +1,6 @@
 -- Words of 64 bits as numbers modulo 2^64.
 -- Each operation reduces its result, so that the laws of the ring hold of all numbers, reduced or not.
-use Prim.Native.Nat.{ℕ, suc, _+_, _*_, _-_, _%_}
+use Prim.Native.Nat.{ℕ, suc, _+_, _*_, _%_}
 use lib.IntN.{ℤ, pos, negsuc}
 
 infixl 60 _⊕_ _⊖_

@@ -1,0 +1,122 @@
+-- A cut input asks for what the whole input does: the tests look at the first bytes, at the bytes over, and at whether there are
+-- more words than any input that asks for a job has. Assumes nothing.
+use mathlib.Core.Path.{_≡_, refl, sym, ap, _∙_}
+use mathlib.Core.Bool.{Bool, true, false, cond}
+use mathlib.Core.List.{List}
+use Prim.Native.Nat.{ℕ, zero, suc, _+_, _*_, _/_, _%_, _≤_, _<_, min}
+use native.Mathlib.Omega.{arith}
+use lib.Dec.{ltb, eqb}
+use lib.ListN.{length, getD, take}
+use lib.Seq.{getD-take, take-all}
+use borrow.Author.Tests.{ltb-true, ltb-false, ne-eqb, eqb-true}
+use Rattle.refusal.specs.declared.Refusal.the-variants.{InputUnfit}
+use Rattle.refusal.specs.declared.Outcome.{Outcome}
+use Rattle.refusal.specs.declared.Outcome.the-variants.{Accepted, Refused}
+use Rattle.plan.specs.declared.Plan.{Plan}
+use Rattle.plan.specs.Sizes.{neededPixels}
+use Rattle.plan_reader.specs.Reading.{listOf, readPlan}
+use Rattle.plan_reader.proofs.Listed.{listed-length, listed-at, listed-only}
+use Rattle.smooth_job.specs.Program.{
+  planLimit,
+  pixelLimit,
+  wordIn,
+  afterEnd,
+  planLength,
+  planWords,
+  heightsIn,
+  Asked,
+  unfit,
+  job,
+  askedWith,
+  asked,
+  inputLimit,
+  cutLength,
+}
+use Rattle.smooth_job.proofs.Input.{length-limited, cut-whole, cut-long}
+
+end-same : (f g : ℕ → ℕ) (i n : ℕ) → ((j : ℕ) → i ≤ j → j < i + n → f j ≡ g j) → afterEnd f i n ≡ afterEnd g i n
+unfolding afterEnd
+end-same f g i zero same = refl
+end-same f g i (suc n) same =
+    rw (same i (omega arith) (omega arith), end-same f g (suc i) n (λ j a b. same j (omega arith) (omega arith)))
+
+list-same : (f g : ℕ → ℕ) (n : ℕ) → ((i : ℕ) → i < n → f i ≡ g i) → listOf f n ≡ listOf g n
+list-same f g n same =
+    listed-only g (listOf f n) n 0 (listed-length f n) (λ i h. listed-at f n i 0 h ∙ same i h)
+
+-- An input of whole words that is longer than any that asks for a job asks for none.
+abbrev noJob : Outcome → Asked
+noJob Accepted = unfit InputUnfit
+noJob (Refused refusal) = unfit refusal
+
+long-unfit : (input : List ℕ) → inputLimit < length input → length input % 4 ≡ 0 → (outcome : Outcome) (plan : Plan)
+    → askedWith input outcome plan ≡ noJob outcome
+long-unfit input long whole (Refused refusal) plan = refl
+long-unfit input long whole Accepted plan = by (ltb pixelLimit (neededPixels plan)) refl
+  where
+    by : (many : Bool) → ltb pixelLimit (neededPixels plan) ≡ many
+        → cond many (unfit InputUnfit)
+        (cond (eqb (length input / 4) (planLength input + neededPixels plan))
+        (job plan (heightsIn input (planLength input) (neededPixels plan))) (unfit InputUnfit))
+        ≡ unfit InputUnfit
+    by true e = refl
+    by false e =
+        let few = ltb-false pixelLimit (neededPixels plan) e in
+        rw (ne-eqb (length input / 4) (planLength input + neededPixels plan) (λ same. omega (arith, length-limited input)))
+
+-- Two inputs that are longer than any that asks for a job, with the same first bytes and as many bytes over.
+module _ (a b : List ℕ) (a-long : inputLimit < length a) (b-long : inputLimit < length b)
+    (same : take inputLimit a ≡ take inputLimit b) (over : length a % 4 ≡ length b % 4) where
+  same-byte : (j : ℕ) → j < inputLimit → getD a j 0 ≡ getD b j 0
+  same-byte j h =
+      sym (getD-take inputLimit a j 0 h) ∙ ap (λ (l : List ℕ). getD l j 0) same ∙ getD-take inputLimit b j 0 h
+
+  same-word : (i : ℕ) → i < planLimit + pixelLimit → wordIn a i ≡ wordIn b i
+  unfolding wordIn
+  same-word i h =
+      rw (
+        same-byte (4 * i) (omega arith),
+        same-byte (4 * i + 1) (omega arith),
+        same-byte (4 * i + 2) (omega arith),
+        same-byte (4 * i + 3) (omega arith),
+      )
+
+  same-length : planLength a ≡ planLength b
+  unfolding planLength
+  same-length =
+      let p : min (length a / 4) planLimit ≡ planLimit = omega arith in
+      let q : min (length b / 4) planLimit ≡ planLimit = omega arith in
+      rw (p, q) (end-same (wordIn a) (wordIn b) 0 planLimit (λ j _ h. same-word j (omega arith)))
+
+  same-words : planWords a ≡ planWords b
+  unfolding planWords
+  same-words =
+      rw same-length
+      (list-same (wordIn a) (wordIn b) (planLength b) (λ i h. same-word i (omega (arith, length-limited b))))
+
+  same-asked : asked a ≡ asked b
+  unfolding asked
+  same-asked = rw (over, same-words) (by (eqb (length b % 4) 0) refl)
+    where
+      by : (whole : Bool) → eqb (length b % 4) 0 ≡ whole
+          → cond whole (askedWith a (readPlan (planWords b) .outcome) (readPlan (planWords b) .plan)) (unfit InputUnfit)
+          ≡ cond whole (askedWith b (readPlan (planWords b) .outcome) (readPlan (planWords b) .plan)) (unfit InputUnfit)
+      by false e = refl
+      by true e =
+          let z = eqb-true (length b % 4) 0 e in
+          let read = readPlan (planWords b) in
+          long-unfit a a-long (over ∙ z) (read .outcome) (read .plan) ∙ sym (long-unfit b b-long z (read .outcome) (read .plan))
+
+pub cut-same : (whole cut : List ℕ) → length cut ≡ cutLength (length whole) → take inputLimit cut ≡ take inputLimit whole
+    → asked cut ≡ asked whole
+cut-same whole cut long same = by (ltb inputLimit (length whole)) refl
+  where
+    by : (test : Bool) → ltb inputLimit (length whole) ≡ test → asked cut ≡ asked whole
+    by true t =
+        let high = ltb-true _ _ t in
+        let e = long ∙ sym (cut-long (length whole) high) in
+        same-asked cut whole (omega arith) high same (omega arith)
+    by false t =
+        let low = ltb-false _ _ t in
+        let e = long ∙ sym (cut-whole (length whole) low) in
+        ap asked (sym (take-all inputLimit cut (omega arith)) ∙ same ∙ take-all inputLimit whole low)

@@ -1,0 +1,82 @@
+// A whole job: what the report names is performed until it names none.
+use plan::Plan;
+use plan::PlanSizes;
+use refusal::Outcome;
+use refusal::Refusal;
+use report::Next;
+use report::ReportAnswer;
+ghost use mathlib.Core.Path.{_≡_};
+ghost use Rattle.calls.specs.Calls.{lists};
+ghost use Rattle.whole_job.specs.WholeJob.{afterStep, afterSteps, wholeOutcome, afterWholeJob};
+
+// Starts a job and performs all its tasks, in the order in which the report names them.
+pub fn whole_job(
+    plan: Plan,
+    map: &[i32],
+    marks: &mut [u32],
+    strips: &mut [u64],
+    output: &mut [u64],
+) -> Outcome
+    ensures answer { λ r. ⌜ r ≡ wholeOutcome plan (now (map .entry)) (lists (now (marks .entry)) (now (strips .entry)) (now (output .entry))) ⌝ }
+    ensures buffers { λ _. ⌜ lists (now (marks .exit)) (now (strips .exit)) (now (output .exit)) ≡ afterWholeJob plan (now (map .entry)) (lists (now (marks .entry)) (now (strips .entry)) (now (output .entry))) ⌝ }
+{
+    let known = plan.sizes();
+    match known {
+        PlanSizes::Known(sizes) => {
+            if map.len() < sizes.pixels {
+                return Outcome::Refused(Refusal::BufferTooShort);
+            }
+            if output.len() < sizes.pixels {
+                return Outcome::Refused(Refusal::BufferTooShort);
+            }
+            let outcome = job::start(plan, marks, strips);
+            match outcome {
+                Outcome::Accepted => {
+                    perform_steps(plan, sizes.tasks, map, marks, strips, output);
+                    Outcome::Accepted
+                }
+                Outcome::Refused(refusal) => Outcome::Refused(refusal),
+            }
+        }
+        PlanSizes::Refused(refusal) => Outcome::Refused(refusal),
+    }
+}
+
+// As many steps as are asked for.
+fn perform_steps(
+    plan: Plan,
+    count: usize,
+    map: &[i32],
+    marks: &mut [u32],
+    strips: &mut [u64],
+    output: &mut [u64],
+)
+    ensures { λ _. ⌜ lists (now (marks .exit)) (now (strips .exit)) (now (output .exit)) ≡ afterSteps plan (now (map .entry)) count (lists (now (marks .entry)) (now (strips .entry)) (now (output .entry))) ⌝ }
+{
+    let mut step = 0;
+    while step < count {
+        perform_named(plan, map, marks, strips, output);
+        step += 1;
+    }
+}
+
+// Performs the task that the report names, and nothing where it names none.
+pub fn perform_named(
+    plan: Plan,
+    map: &[i32],
+    marks: &mut [u32],
+    strips: &mut [u64],
+    output: &mut [u64],
+)
+    ensures { λ _. ⌜ lists (now (marks .exit)) (now (strips .exit)) (now (output .exit)) ≡ afterStep plan (now (map .entry)) (lists (now (marks .entry)) (now (strips .entry)) (now (output .entry))) ⌝ }
+{
+    let answer = report::report(plan, marks);
+    let ReportAnswer::Made(progress) = answer else {
+        return;
+    };
+    let next = progress.next;
+    let Next::Ready(task, block) = next else {
+        return;
+    };
+    job::task(plan, task, block, map, marks, strips, output);
+}
