@@ -56,7 +56,7 @@ pub record WholeClaim (plan : Plan) (heights : List ℤ) (lent after : Buffers) 
   pub serial-words : (q : ℕ) → q < neededPixels plan
       → wordAt (after .output) q
       ≡ serialResult plan (mapOf plan heights) 4 (q / plan .columns) (q % plan .columns)
-  -- The output past h×w is as it was.
+  -- The output past h×w is as it was, and so is its length.
   pub output-past : (q : ℕ) → neededPixels plan ≤ q → wordAt (after .output) q ≡ wordAt (lent .output) q
   pub output-length : length (after .output) ≡ length (lent .output)
   -- The report counts 6MN - 2M - 2N tasks and a tally of two for each pixel, and names none.
