@@ -1,4 +1,5 @@
 // Collect and finish: the passes over one block, in a work array with a margin of words around the block.
+// An inner crate: what its functions require, their callers in this repository show.
 use filter::Window;
 use plan::Plan;
 use strips::BlockShape;

@@ -1,4 +1,5 @@
 // The kernel of every pass: one recursive filter over the lines of a window of a buffer, in place.
+// An inner crate: what its functions require, their callers in this repository show.
 ghost use mathlib.Core.Path.{_≡_};
 ghost use Prim.Native.Nat.{_+_, _^_, _≤_, min};
 ghost use lib.ListN.{length};

@@ -1,5 +1,6 @@
 // The four links: a strip made true by the strips of its needs. No heights are read, and no block is swept: the passes run
 // along the unit histories of each pass, along the few lines past the block's edges, and over their ends.
+// An inner crate: what its functions require, their callers in this repository show.
 use filter::FilterWords;
 use filter::Window;
 use plan::Plan;

@@ -1,4 +1,5 @@
 // Passes along single lines, and the squares of the links: how a history moves across a line of zeros.
+// An inner crate: what its functions require, their callers in this repository show.
 use filter::FilterWords;
 use filter::Window;
 ghost use mathlib.Core.Path.{_≡_};

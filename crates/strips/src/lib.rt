@@ -1,4 +1,5 @@
 // Strips in code: where a block lies, where its strip of a pass lies in the list of strips, and what is read there.
+// An inner crate: what its functions require, their callers in this repository show.
 use plan::Plan;
 ghost use mathlib.Core.Path.{_≡_};
 ghost use mathlib.Core.Bool.{true};

@@ -1,4 +1,5 @@
 // Tasks of the blocks of a map: which exist, what they need, their marks, and what the marks say to a task call.
+// An inner crate: what its functions require, their callers in this repository show.
 use refusal::Outcome;
 use refusal::Refusal;
 ghost use mathlib.Core.Path.{_≡_};
