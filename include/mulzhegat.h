@@ -5,6 +5,8 @@
  *
  *     y[i] = g * x[i] - d1 * y[i-1] - ... - dr * y[i-r]
  *
+ * where i counts along the pass: from the bottom row for up, from the last column for left.
+ *
  * Outputs outside the map count as 0, and all words are taken modulo 2^64. The passes run over the whole map in one call
  * (mzg_serial), or block by block in any order that respects the needs of the tasks (mzg_start, mzg_task, mzg_report).
  *
@@ -33,7 +35,8 @@
  * whole on every call: all zeros beside a refusal. Pointers must not be null and buffers must not overlap; where no strip
  * word is needed (all orders 0), lend the address of any word with length 0.
  *
- * The functions keep no state between calls. Calls that share no buffer that one of them writes may run at the same time.
+ * The functions keep no state between calls. Calls that share no buffer that one of them writes may run at the same time; two
+ * mzg_task calls of one job must not. A job may be broken off between any two calls: keep plan, map, marks, strips and output.
  */
 #ifndef MULZHEGAT_H
 #define MULZHEGAT_H
@@ -127,6 +130,7 @@ uint64_t mzg_serial(const mzg_plan *plan, const int32_t *map, size_t map_len, ui
 
 /* Gives the sum over rows top to bottom - 1 and columns left to right - 1 from a finished summed-area table, modulo 2^64:
  * S(bottom-1, right-1) - S(top-1, right-1) - S(bottom-1, left-1) + S(top-1, left-1), a row or column of -1 counting as 0.
+ * The record, the length and the rectangle are tested, not that the table is a summed-area table.
  * Needs sizes.pixels table words. Refused: 6, 7, 12; the sum is then 0. */
 uint64_t mzg_rectangle(const mzg_plan *plan, size_t top, size_t left, size_t bottom, size_t right,
                        const uint64_t *table, size_t table_len, uint64_t *sum);
