@@ -5,3 +5,4 @@ pub mod Invariant
 pub mod Step
 pub mod Demand
 pub mod Accepted
+pub mod Accepts

@@ -10,6 +10,7 @@ use lib.ListN.{length}
 use Rattle.refusal.specs.declared.Outcome.{Outcome}
 use Rattle.refusal.specs.declared.Outcome.the-variants.{Accepted}
 use Rattle.plan.specs.declared.Plan.{Plan}
+use Rattle.plan.specs.Rules.{keepsRules}
 use Rattle.plan.specs.Sizes.{blockRows, blockColumns, neededMarks, neededStrips, neededPixels, taskCount}
 use Rattle.filter.specs.Buffer.{wordAt}
 use Rattle.tasks.specs.Tasks.{BlockTask, ready, nothingDone, alsoDone}
@@ -146,3 +147,10 @@ Demand3 =
     → neededPixels plan ≤ length heights → neededPixels plan ≤ length (lent .output) → (calls : List BlockTask)
     → Claim plan heights lent calls (afterCalls plan heights calls (started plan lent))
     (outcomesOf plan heights calls (started plan lent))
+
+-- Start accepts every record that keeps the rules, with marks and strips that are long enough: demand 3 speaks of all of
+-- these.
+abbrev pub StartAccepts : Type 0
+StartAccepts =
+    (plan : Plan) (marks strips : List ℕ) → keepsRules plan ≡ true → neededMarks plan ≤ length marks
+    → neededStrips plan ≤ length strips → startOutcome plan marks strips ≡ Accepted

@@ -65,7 +65,7 @@ fn clear(words: &mut [u64], count: usize)
     }
 }
 
-// Calls one task at one block: refused, or its bit is set and its strip or its output is written.
+// Calls one task at one block: refused, or its bit is set and its strips or its output are written.
 pub fn task(
     plan: Plan,
     task: usize,

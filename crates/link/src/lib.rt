@@ -466,7 +466,7 @@ fn write_strip(strips: &mut [u64], start: usize, side: usize, course: Course, re
     }
 }
 
-// The link of a pass of block k: its strip is made true for the whole map by the strips of its needs.
+// The link of a pass of block k: its strip is that of the whole map where the strips of its needs are.
 pub fn link(plan: Plan, k: usize, pass: usize, strips: &mut [u64])
     requires { ⌜ (keepsRules plan ≡ true) × ((k < neededMarks plan) × ((pass < 4) × (neededStrips plan ≤ length (now strips)))) ⌝ }
     ensures { λ _. ⌜ now (strips .exit) ≡ linked plan k pass (now (strips .entry)) ⌝ }

@@ -1,4 +1,4 @@
--- Demand 2 for plans: plan words read as laid out, and writing an accepted plan gives the same words.
+-- Demand 2 for plans: reading and writing undo each other. How words are laid out is in plan_reader's Layout and Reading.
 use mathlib.Core.Path.{_≡_}
 use mathlib.Core.Bool.{true}
 use mathlib.Core.List.{List}

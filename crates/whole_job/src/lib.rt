@@ -1,4 +1,4 @@
-// A whole job: what the report names is performed until it names none.
+// A whole job: what the report names is performed, as often as there are tasks, after which it names none.
 use plan::Plan;
 use plan::PlanSizes;
 use refusal::Outcome;
