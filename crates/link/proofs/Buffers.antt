@@ -1,19 +1,19 @@
 -- One turn of each loop over a buffer. Assumes nothing.
-use mathlib.Core.Path.{_≡_, refl, _∙_}
 use mathlib.Core.List.{List}
+use mathlib.Core.Path.{_≡_, refl, _∙_}
 use mathlib.Core.Logic.{_≢_}
 use Prim.Native.Nat.{ℕ, zero, suc, _+_, _*_, _<_}
 use native.Mathlib.Decide.{decLt}
-use native.Mathlib.Numerals.{add-one}
 use native.Mathlib.Omega.{arith}
+use native.Mathlib.Numerals.{add-one}
 use lib.ListN.{length, set}
 use Rattle.plan.specs.Rules.{orderLimit}
 use Rattle.passes.specs.Passes.{Direction}
+use Rattle.filter.proofs.Written.{written-next, written-length, written-other, written-at}
 use Rattle.filter.specs.Buffer.{wordAt}
 use Rattle.filter.specs.Windows.{beyond}
-use Rattle.filter.proofs.Written.{written-next, written-length, written-other, written-at}
-use Rattle.blocks.specs.Strips.{fromEdge}
 use Rattle.filter.specs.Written.{written}
+use Rattle.blocks.specs.Strips.{fromEdge}
 use Rattle.strips.specs.Reading.{stripRead}
 use Rattle.strips.specs.declared.Strip.{Strip}
 use Rattle.squares.specs.Lines.{rowWords}
@@ -72,21 +72,23 @@ pub strip-line-next : (strip : Strip) (strips : List ℕ) (place row n : ℕ) (b
 unfolding stripLine
 strip-line-next strip strips place row n before e f = written-more _ _ n before e f
 
-pub strip-lines-next : (d : Direction) (order : ℕ) (strip : Strip) (strips : List ℕ) (places n : ℕ) (before : List ℕ)
+pub strip-lines-next : (d : Direction) (order : ℕ) (strip : Strip) (strips : List ℕ) (row places n : ℕ) (before : List ℕ)
     {b a : List ℕ} {place : ℕ}
-    → b ≡ stripLines d order strip strips places n before → place ≡ fromEdge d order n
-    → a ≡ stripLine strip strips place n places b → a ≡ stripLines d order strip strips places (n + 1) before
+    → b ≡ stripLines d order strip strips row places n before → place ≡ fromEdge d order n
+    → a ≡ stripLine strip strips place (row + n) places b
+    → a ≡ stripLines d order strip strips row places (n + 1) before
 unfolding stripLines rowsWritten stripLine
-strip-lines-next d order strip strips places n before e f g = rw (add-one n) (rw (← e, ← f) g)
+strip-lines-next d order strip strips row places n before e f g = rw (add-one n) (rw (← e, ← f) g)
 
 pub copied-next : (to : ℕ) (words : List ℕ) (at n : ℕ) (before : List ℕ) {b : List ℕ} → b ≡ copied to words at n before
     → set b (to + n) (wordAt words (at + n)) ≡ copied to words at (n + 1) before
 unfolding copied
 copied-next to words at n before e = written-more (λ p. to + p) (λ p. wordAt words (at + p)) n before e refl
 
-pub ends-next : (d : Direction) (course : Course) (lines : List ℕ) (n : ℕ) (before : List ℕ) {b a : List ℕ} {row : ℕ}
-    → b ≡ endsCopied d course lines n before → row ≡ beyond d orderLimit (course .lines) n
-    → a ≡ copied (row * orderLimit) lines (n * rowWords + course .from) (course .order) b
-    → a ≡ endsCopied d course lines (n + 1) before
+pub ends-next : (d : Direction) (course : Course) (row : ℕ) (lines : List ℕ) (n : ℕ) (before : List ℕ) {b a : List ℕ}
+    {to : ℕ}
+    → b ≡ endsCopied d course row lines n before → to ≡ beyond d orderLimit (course .lines) n
+    → a ≡ copied (to * orderLimit) lines ((row + n) * rowWords + course .from) (course .order) b
+    → a ≡ endsCopied d course row lines (n + 1) before
 unfolding endsCopied rowsWritten copied
-ends-next d course lines n before e f g = rw (add-one n) (rw (← e, ← f) g)
+ends-next d course row lines n before e f g = rw (add-one n) (rw (← e, ← f) g)

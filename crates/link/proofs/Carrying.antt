@@ -1,12 +1,12 @@
 -- The histories of the lines, added to the responses. Assumes nothing.
-use mathlib.Core.Path.{_≡_, refl, ap, ap₂, sym, _∙_}
 use mathlib.Core.Bool.{Bool, true, false, _&&_, cond}
-use mathlib.Core.List.{List, []}
+use mathlib.Core.Path.{_≡_, refl, ap, ap₂, sym, _∙_}
 use mathlib.Core.Logic.{_≢_}
+use mathlib.Core.List.{List, []}
 use Prim.Native.Nat.{ℕ, suc, _+_, _-_, _*_, _<_, _≤_}
-use native.Mathlib.Decide.{decLt, ℕ-discrete}
-use native.Mathlib.Numerals.{add-one}
 use native.Mathlib.Omega.{arith}
+use native.Mathlib.Numerals.{add-one}
+use native.Mathlib.Decide.{decLt, ℕ-discrete}
 use borrow.Author.Tests.{lt-ltb, le-ltb, le-leb, lt-leb}
 use lib.Dec.{ltb, leb}
 use lib.ListN.{length, set, getD}
@@ -18,16 +18,16 @@ use Rattle.passes.specs.Filter.{Filter}
 use Rattle.passes.specs.Passes.{directionOf}
 use Rattle.passes.specs.Square.{weightedSum}
 use Rattle.filter.proofs.RowMajor.{same-row-column}
+use Rattle.filter.proofs.Written.{written-length, written-other, written-at}
 use Rattle.filter.specs.Buffer.{wordAt}
 use Rattle.filter.specs.declared.FilterWords.{FilterWords}
-use Rattle.filter.proofs.Written.{written-length, written-other, written-at}
 use Rattle.blocks.specs.Strips.{fromEdge, pastEdges}
 use Rattle.strips.specs.Reading.{stripBefore, stripRead}
 use Rattle.strips.specs.declared.Strip.{Strip}
 use Rattle.squares.specs.LinePasses.{passSquare, withHistories, crossed, response}
-use Rattle.squares.specs.Lines.{bufferWords, filterAt, Square}
+use Rattle.squares.specs.Lines.{rowWords, rowsBefore, filterAt}
 use Rattle.link.specs.Courses.{indexAt, CourseFits, LinkFits}
-use Rattle.link.specs.Words.{responsePlace, historyWord, lineAdded, LinesAdded, Carried, Held, linkedWord}
+use Rattle.link.specs.Words.{responseWords, LinesReady, responsePlace, historyWord, lineAdded, LinesAdded, Carried, Held, linkedWord}
 use Rattle.link.specs.declared.Course.{Course}
 use Rattle.link.proofs.Buffers.{written-more, written-ahead}
 use Rattle.link.proofs.Courses.{link-orders, past-edges}
@@ -51,7 +51,7 @@ lines-none order H square before =
 
 -- One line more.
 pub lines-next : (n order : ℕ) (H : ℕ → ℕ → ℕ) (square : List (List ℕ)) (before : List ℕ) → order ≤ orderLimit → n < 32
-    → length before ≡ bufferWords → (history : List ℕ) {b after : List ℕ} → LinesAdded n order H square before b
+    → length before ≡ responseWords → (history : List ℕ) {b after : List ℕ} → LinesAdded n order H square before b
     → ((j : ℕ) → j < orderLimit → wordAt history j ≡ H n j)
     → after ≡ lineAdded ((orderLimit + n) * orderLimit) history square order b
     → LinesAdded (n + 1) order H square before after
@@ -146,21 +146,25 @@ linked-place-high course responses own line place h =
 -- ---- the histories of a pass, weighted by its square
 
 -- What `carry_pass` does.
-pub histories-carried : {plan : Plan} {k : ℕ} {course : Course} {filters : List FilterWords} {n m : ℕ}
-    → LinkFits plan k course filters n m → (pass : ℕ) → pass < 4 → (strips : List ℕ) (strip : Strip)
-    → strip ≡ stripBefore plan k pass → {square : List (List ℕ)} {before after : List ℕ}
-    → Square (filterAt filters) (course .places) (course .from) pass ((course .first + course .passes) - pass) square
+pub histories-carried : {plan : Plan} {k : ℕ} {course : Course} {filters : List FilterWords} {n : ℕ}
+    → LinkFits plan k course filters n → (pass : ℕ) → course .first ≤ pass → pass < course .first + course .passes
+    → (strips lines : List ℕ) → LinesReady (filterAt filters) course (pastEdges plan strips k) lines → (strip : Strip)
+    → strip ≡ stripBefore plan k pass → {row : ℕ} → row ≡ rowsBefore (filterAt filters) pass → {square : List (List ℕ)}
+    {before after : List ℕ}
+    → ((p j : ℕ) → p < orderLimit → j < orderLimit
+    → wordAt (getD square p []) j ≡ wordAt lines ((row + j) * rowWords + (course .from + p)))
     → LinesAdded (course .lines) (course .order)
     (historyWord (directionOf pass) (filterAt filters pass .order) strip strips) square before after
     → Carried (filterAt filters) course pass (pastEdges plan strips k pass) before after
 unfolding historyWord
-histories-carried {plan} {k} {course} {filters} fits pass h strips strip s {square} {before} q added =
+histories-carried {plan} {k} {course} {filters} fits pass a b strips lines ready strip s {row} r {square} {before} q added =
+    let h : pass < 4 = omega (arith, fits .course-fits .passes-counted) in
     let order = filterAt filters pass .order in
     let few = link-orders fits .order-limited pass h in
     record {
       length-kept = added .length-kept;
-      at = λ line place b i.
-          added .at line place b (i .below)
+      at = λ line place l i.
+          added .at line place l (i .below)
           ∙ ap (wordAt before (responsePlace line place) ⊕_)
           (sum-of-order _ (wordAt (getD square place [])) order orderLimit few
           (λ j c.
@@ -172,7 +176,13 @@ histories-carried {plan} {k} {course} {filters} fits pass h strips strip s {squa
           (lt-ltb j order c)
           ∙ ap (λ z. stripRead z strips line (fromEdge (directionOf pass) order j)) s
           ∙ past-edges fits strips pass h line j c)
-          (λ j c. q .at place j (omega (arith, i .below, fits .course-fits .order-limited)) c (i .low) (i .high)));
+          (λ j c.
+          let low = i .low in
+          let high = i .high in
+          q place j (omega (arith, i .below, fits .course-fits .order-limited)) (omega arith)
+          ∙ ap (λ z. wordAt lines ((z + j) * rowWords + (course .from + place))) r
+          ∙ ap (wordAt lines) (omega arith)
+          ∙ ready .squares pass j (indexAt course place) a b c (omega arith)));
     }
 
 -- ---- the passes of the link's axis, one after another

@@ -1,7 +1,7 @@
 -- The course of a link by the code's tests of its number. Assumes nothing.
+use mathlib.Core.List.{List}
 use mathlib.Core.Path.{_≡_, refl, ap, ap₂, sym}
 use mathlib.Core.Bool.{true}
-use mathlib.Core.List.{List}
 use Prim.Native.Nat.{ℕ, zero, suc, _+_, _-_, _%_, _<_, _≤_}
 use native.Mathlib.Omega.{arith}
 use Rattle.plan.proofs.Blocks.{extent-in-side, extent-positive}
@@ -23,7 +23,7 @@ use Rattle.strips.specs.Reading.{stripBefore, stripRead, StripFits}
 use Rattle.strips.specs.Shapes.{shapeOf}
 use Rattle.strips.specs.declared.BlockShape.{BlockShape}
 use Rattle.squares.specs.LinePasses.{axisStart, axisPasses}
-use Rattle.squares.specs.Lines.{bufferWords, filterAt, OrdersFit, SquareFits}
+use Rattle.squares.specs.Lines.{filterAt, OrdersFit}
 use Rattle.link.specs.Courses.{planFilters, endsFrom, courseAlong, courseOf, CourseFits, LinkFits}
 use Rattle.link.specs.declared.Course.{Course}
 
@@ -107,6 +107,13 @@ counted pass =
     by (suc zero) = omega arith
     by (suc (suc pass)) = omega arith
 
+last-pass : (pass : ℕ) → pass < 4 → pass < axisStart pass + axisPasses pass
+last-pass zero h = omega arith
+last-pass (suc zero) h = omega arith
+last-pass (suc (suc zero)) h = omega arith
+last-pass (suc (suc (suc zero))) h = omega arith
+last-pass (suc (suc (suc (suc pass)))) h = absurd (omega arith)
+
 ends-in-line : (d : Direction) (n order : ℕ) → endsFrom d n order ≤ orderLimit + n
 ends-in-line forward n order = omega arith
 ends-in-line backward n order = omega arith
@@ -141,7 +148,7 @@ course-fits plan k pass kept here h some =
       passes-counted = c .passes-counted;
       first-is = refl;
       passes-are = refl;
-      pass-counted = h;
+      pass-in = last-pass pass h;
     }
 
 -- ---- filters and strips
@@ -154,7 +161,7 @@ filter-is plan (suc (suc zero)) h = filterWords-filter (passAt plan 2)
 filter-is plan (suc (suc (suc zero))) h = filterWords-filter (passAt plan 3)
 filter-is plan (suc (suc (suc (suc pass)))) h = absurd (omega arith)
 
-module _ {plan : Plan} {k : ℕ} {course : Course} {filters : List FilterWords} {n m : ℕ} (fits : LinkFits plan k course filters n m) where
+module _ {plan : Plan} {k : ℕ} {course : Course} {filters : List FilterWords} {n : ℕ} (fits : LinkFits plan k course filters n) where
   order-is : (pass : ℕ) → pass < 4 → filterAt filters pass .order ≡ orderOf plan pass
   unfolding filterOf
   order-is pass h = rw (fits .filters-are) (ap (λ (f : Filter). f .order) (filter-is plan pass h))
@@ -175,30 +182,6 @@ module _ {plan : Plan} {k : ℕ} {course : Course} {filters : List FilterWords} 
   pub before-strip-fits : (pass : ℕ) → pass < 4 → StripFits n (stripBefore plan k pass)
   before-strip-fits pass h = before-fits plan k pass n (fits .counted) h (fits .strips-long)
 
-  -- The buffer keeps its length.
-  pub fits-again : {r : ℕ} → r ≡ bufferWords → LinkFits plan k course filters n r
-  fits-again e =
-      record {
-        kept = fits .kept;
-        counted = fits .counted;
-        course-fits = fits .course-fits;
-        filters-are = fits .filters-are;
-        strips-long = fits .strips-long;
-        responses-long = e;
-      }
-
-  -- The square of a pass of the course.
-  pub square-fits : (pass : ℕ) → course .first ≤ pass → pass < course .first + course .passes
-      → SquareFits (filterAt filters) (course .places) (course .from) pass ((course .first + course .passes) - pass)
-  square-fits pass h b =
-      let counted = fits .course-fits .passes-counted in
-      let few = fits .course-fits .few-passes in
-      record {
-        some-places = fits .course-fits .some-places;
-        few-places = fits .course-fits .few-places;
-        inside = fits .course-fits .inside;
-        some-passes = omega arith;
-        few-passes = omega arith;
-        passes = omega arith;
-        orders = link-orders;
-      }
+  -- The link's own pass has an order.
+  pub own-some : 0 < filterAt filters (course .pass) .order
+  own-some = rw (fits .own-order) (fits .course-fits .some-order)

@@ -1,17 +1,21 @@
--- The lines past a block's edge, passed along the link's axis and then crossed by the passes of the other axis.
--- Assumes nothing.
-use mathlib.Core.Path.{_≡_, refl, ap, ap₂, sym, _∙_, fun-ext}
+-- The lines past a block's edges and the unit histories, passed along the link's axis, and the ends crossed by the passes of
+-- the other axis. Assumes nothing.
+use mathlib.Core.Bool.{cond}
 use mathlib.Core.List.{List}
+use mathlib.Core.Path.{_≡_, refl, ap, ap₂, sym, _∙_}
 use mathlib.Core.Logic.{_≢_}
-use Prim.Native.Nat.{ℕ, _+_, _*_, _<_, _≤_}
-use native.Mathlib.Nat.{zero-add}
-use native.Mathlib.Numerals.{add-one}
+use Prim.Native.Nat.{ℕ, zero, suc, _+_, _-_, _*_, _<_, _≤_}
+use native.Mathlib.Decide.{decLt}
 use native.Mathlib.Omega.{arith}
+use native.Mathlib.Numerals.{add-one}
+use native.Mathlib.Nat.{zero-add, mul-le-mul-right}
+use borrow.Author.Tests.{lt-ltb, le-ltb}
 use lib.ListN.{length}
 use Rattle.plan.specs.Rules.{orderLimit}
 use Rattle.passes.proofs.Passes.{filterLine-reads}
 use Rattle.passes.specs.Filter.{Filter}
-use Rattle.passes.specs.Passes.{columns, rows, Direction, forward, backward, axisOf, directionOf, filterLine, filterLines}
+use Rattle.passes.specs.Passes.{columns, Direction, forward, backward, axisOf, directionOf, filterLine, filterLines}
+use Rattle.passes.specs.Square.{unitHistory}
 use Rattle.filter.proofs.Numbers.{axis-columns}
 use Rattle.filter.proofs.RowMajor.{same-row-column}
 use Rattle.filter.proofs.Windows.{Passed, windowPass-passed}
@@ -21,96 +25,286 @@ use Rattle.filter.specs.declared.Window.{Window}
 use Rattle.blocks.specs.Strips.{fromEdge}
 use Rattle.strips.specs.Reading.{stripRead}
 use Rattle.strips.specs.declared.Strip.{Strip}
-use Rattle.squares.proofs.LinePasses.{linePasses-reads}
+use Rattle.squares.proofs.LinePasses.{linePasses-late, onlyAt-other}
 use Rattle.squares.proofs.Lines.{margin-below, beside-lines, passed-along, lines-passed}
-use Rattle.squares.specs.LinePasses.{linePasses, rowEnd, crossed}
-use Rattle.squares.specs.Lines.{rowWords, bufferWords, lineWindow, linesPassed, OrdersFit}
+use Rattle.squares.proofs.Rows.{row-passed, rows-next, rows-few, rows-in}
+use Rattle.squares.proofs.Units.{margin-apart, units-filled}
+use Rattle.squares.specs.LinePasses.{onlyAt, linePasses, passSquare, rowEnd, crossed}
+use Rattle.squares.specs.Lines.{rowWords, lineRows, lineWords, rowsBefore, linesPassed, unitLines, OrdersFit}
+use Rattle.squares.specs.Rows.{ZerosFrom, RowsFilled}
 use Rattle.link.specs.Courses.{indexAt, CourseFits}
-use Rattle.link.specs.Words.{stripLines, endsCopied, responsePlace, EndsLoaded, Crossed, Held}
+use Rattle.link.specs.Words.{stripLines, rowHistory, rowInput, LinesFilled, LinesReady, responseWords, endsCopied, responsePlace, Crossed, Held}
 use Rattle.link.specs.declared.Course.{Course}
 use Rattle.link.proofs.Buffers.{rows-length, rows-other, rows-at}
 
--- ---- lines of a strip in a buffer of zeros
+-- ---- the lines of a strip in rows of zeros
 
-module _ (filters : ℕ → Filter) (course : Course) (fits : CourseFits course) (orders : OrdersFit filters) (d : Direction)
-    (order : ℕ) (some-rows : 0 < order) (few-rows : order ≤ orderLimit) (strip : Strip) (strips before : List ℕ)
-    (long : bufferWords ≤ length before) (zeros : (z : ℕ) → wordAt before z ≡ 0) where
+module _ (places t m row : ℕ) (few-places : places ≤ 32) (d : Direction) (order : ℕ) (strip : Strip) (strips before : List ℕ)
+    (long : (row + order) * rowWords ≤ length before) (zeros : ZerosFrom row before) where
   abbrev lineStart : ℕ → ℕ
-  lineStart k = k * rowWords + orderLimit
+  lineStart k = (row + k) * rowWords + orderLimit
 
   abbrev lineWord : ℕ → ℕ → ℕ
   lineWord k j = stripRead strip strips j (fromEdge d order k)
 
   abbrev filled : List ℕ
-  filled = stripLines d order strip strips (course .places) order before
+  filled = stripLines d order strip strips row places order before
 
-  pub filled-length : length filled ≡ length before
+  pub strips-filled : RowsFilled places t m row order (λ k u i. 0) lineWord before filled
   unfolding stripLines
-  filled-length = rows-length lineStart lineWord (course .places) before order
+  strips-filled =
+      record {
+        length-kept = rows-length lineStart lineWord places before order;
+        below = λ z h. rows-other lineStart lineWord places before order z (λ k j a b e. absurd (omega arith));
+        above = λ z h. rows-other lineStart lineWord places before order z (λ k j a b e. absurd (omega arith));
+        lines = λ k h.
+            record {
+              inside = λ j b.
+                  let place : pixelPlace rowWords (row + k) (orderLimit + j) ≡ lineStart k + j = omega arith in
+                  ap (wordAt filled) place
+                  ∙ rows-at lineStart lineWord places before order
+                  (λ i l j p a b c e q.
+                  omega (
+                    arith,
+                    same-row-column rowWords (row + i) (orderLimit + j) (row + l) (orderLimit + p) (omega arith) (omega arith)
+                        (omega arith) .0,
+                  ))
+                  (λ l j a c. omega arith) k j h b;
+              beside = λ u i a b c.
+                  rows-other lineStart lineWord places before order _
+                  (λ y x e f q.
+                  beside-lines (directionOf u) places (row + k) i (row + y) x few-places c f (q ∙ omega arith))
+                  ∙ zeros _ (omega arith);
+            };
+      }
 
-  filled-inside : (k j : ℕ) → k < order → j < course .places
-      → windowOf (lineWindow order (course .places)) filled k j ≡ lineWord k j
-  unfolding stripLines
-  filled-inside k j h b =
-      let few = fits .few-places in
-      let place : pixelPlace rowWords (0 + k) (orderLimit + j) ≡ lineStart k + j = omega arith in
-      ap (wordAt filled) place
-      ∙ rows-at lineStart lineWord (course .places) before order
-      (λ i k j p a b c e q.
-      same-row-column rowWords i (orderLimit + j) k (orderLimit + p) (omega arith) (omega arith) (omega arith) .0)
-      (λ k j a c. omega arith) k j h b
+-- ---- the rows of a pass
 
-  filled-beside : (e : Direction) (l k : ℕ) → k < orderLimit
-      → wordsBesideWindow rows e (lineWindow order (course .places)) filled l k ≡ 0
-  unfolding stripLines
-  filled-beside e l k h =
-      rows-other lineStart lineWord (course .places) before order _
-      (λ y x a b q. beside-lines e (course .places) (0 + l) k y x (fits .few-places) h b (q ∙ omega arith))
-      ∙ zeros _
+module _ (course : Course) (H : ℕ → ℕ → ℕ → ℕ) (pass k : ℕ) where
+  strip-history : pass < course .first → rowHistory course pass k ≡ (λ u i. 0)
+  unfolding rowHistory
+  strip-history h = ap (λ z. cond z (λ u i. 0) (onlyAt pass (unitHistory k))) (lt-ltb pass (course .first) h)
 
-  -- After the passes of the link's axis they have their row ends.
-  pub lines-ended : (k i : ℕ) → k < order → i < course .places
-      → windowOf (lineWindow order (course .places))
-      (linesPassed filters order (course .places) (course .first) (course .passes) filled) k i
-      ≡ rowEnd filters (course .places) (course .pass) i (lineWord k)
-  unfolding rowEnd
-  lines-ended k i h b =
-      lines-passed filters order (course .places) some-rows few-rows (fits .some-places) (fits .few-places) orders
-      (course .first) (course .passes) (fits .passes-counted) filled (omega (arith, filled-length)) .at k i h b
-      ∙ linePasses-reads filters (course .places) _ (λ v k. 0) _ (lineWord k) (course .first) (course .passes)
-      (λ u m a c p.
-      filled-beside (directionOf u) k m (omega (arith, orders .order-limited u (omega (arith, fits .passes-counted)))))
-      (λ j c. filled-inside k j h c) i b
-      ∙ ap₂ (λ t m. linePasses filters (course .places) (λ v k. 0) (lineWord k) t m i) (fits .first-is) (fits .passes-are)
+  strip-input : pass < course .first → rowInput course H pass k ≡ (λ j. H pass j k)
+  unfolding rowInput
+  strip-input h = ap (λ z. cond z (λ j. H pass j k) (λ i. 0)) (lt-ltb pass (course .first) h)
 
--- ---- their ends in the margin of the responses
+  unit-history : course .first ≤ pass → rowHistory course pass k ≡ onlyAt pass (unitHistory k)
+  unfolding rowHistory
+  unit-history h = ap (λ z. cond z (λ u i. 0) (onlyAt pass (unitHistory k))) (le-ltb pass (course .first) h)
 
-margin-apart : (d : Direction) (extent k l : ℕ) → k < orderLimit → l < orderLimit
-    → beyond d orderLimit extent k ≡ beyond d orderLimit extent l → k ≡ l
-margin-apart forward extent k l a b e = omega arith
-margin-apart backward extent k l a b e = omega arith
+  unit-input : course .first ≤ pass → rowInput course H pass k ≡ (λ i. 0)
+  unfolding rowInput
+  unit-input h = ap (λ z. cond z (λ j. H pass j k) (λ i. 0)) (le-ltb pass (course .first) h)
+
+-- Rows of other lines, place by place.
+rows-as : {places t m row n : ℕ} {P Q : ℕ → ℕ → ℕ → ℕ} {x y : ℕ → ℕ → ℕ} {before after : List ℕ}
+    → RowsFilled places t m row n P x before after → ((k u i : ℕ) → P k u i ≡ Q k u i)
+    → ((k j : ℕ) → k < n → x k j ≡ y k j) → RowsFilled places t m row n Q y before after
+rows-as rows e f =
+    record {
+      length-kept = rows .length-kept;
+      below = rows .below;
+      above = rows .above;
+      lines = λ k b.
+          record {
+            inside = λ j c. rows .lines k b .inside j c ∙ f k j b;
+            beside = λ u i a c d. rows .lines k b .beside u i a c d ∙ e k u i;
+          };
+    }
+
+-- A pass of the other axis: the lines past the block's edge.
+pub strip-rows : (course : Course) (H : ℕ → ℕ → ℕ → ℕ) (pass row order : ℕ) → pass < course .first → {words : ℕ → ℕ → ℕ}
+    {before after : List ℕ}
+    → RowsFilled (course .places) (course .first) (course .passes) row order (λ k u i. 0) words before after
+    → ((k j : ℕ) → k < order → words k j ≡ H pass j k)
+    → RowsFilled (course .places) (course .first) (course .passes) row order (rowHistory course pass)
+    (rowInput course H pass) before after
+strip-rows course H pass row order h rows e =
+    rows-as rows (λ k u i. ap (λ f. f u i) (sym (strip-history course H pass k h)))
+    (λ k j b. e k j b ∙ ap (λ f. f j) (sym (strip-input course H pass k h)))
+
+-- A pass of the link's axis: the unit histories.
+pub unit-rows : (course : Course) (H : ℕ → ℕ → ℕ → ℕ) (pass row order : ℕ) → course .first ≤ pass → {before after : List ℕ}
+    → RowsFilled (course .places) (course .first) (course .passes) row order (λ j. onlyAt pass (unitHistory j)) (λ j i. 0)
+    before after
+    → RowsFilled (course .places) (course .first) (course .passes) row order (rowHistory course pass)
+    (rowInput course H pass) before after
+unit-rows course H pass row order h rows =
+    rows-as rows (λ k u i. ap (λ f. f u i) (sym (unit-history course H pass k h)))
+    (λ k j b. ap (λ f. f j) (sym (unit-input course H pass k h)))
+
+module _ (filters : ℕ → Filter) (course : Course) (fits : CourseFits course) (orders : OrdersFit filters)
+    (H : ℕ → ℕ → ℕ → ℕ) (pass : ℕ) (in-course : pass < course .first + course .passes) (before : List ℕ)
+    (long : lineWords ≤ length before) (zeros : ZerosFrom (rowsBefore filters pass) before) where
+  abbrev Filled : List ℕ → Type 0
+  Filled after =
+      RowsFilled (course .places) (course .first) (course .passes) (rowsBefore filters pass) (filters pass .order)
+      (rowHistory course pass) (rowInput course H pass) before after
+
+  long-enough : (rowsBefore filters pass + filters pass .order) * rowWords ≤ length before
+  long-enough =
+      omega (arith, mul-le-mul-right rowWords (rows-in filters orders pass (omega (arith, fits .passes-counted))))
+
+  pub pass-strips : {row : ℕ} {after : List ℕ} → row ≡ rowsBefore filters pass → (strip : Strip) (strips : List ℕ)
+      → pass < course .first
+      → after ≡ stripLines (directionOf pass) (filters pass .order) strip strips row (course .places) (filters pass .order) before
+      → ((k j : ℕ) → k < filters pass .order
+      → stripRead strip strips j (fromEdge (directionOf pass) (filters pass .order) k) ≡ H pass j k)
+      → Filled after
+  pass-strips row-is strip strips h e f =
+      strip-rows course H pass (rowsBefore filters pass) (filters pass .order) h
+      (rw (e, row-is)
+      (strips-filled (course .places) (course .first) (course .passes) (rowsBefore filters pass) (fits .few-places)
+      (directionOf pass) (filters pass .order) strip strips before long-enough zeros))
+      f
+
+  pub pass-units : {row : ℕ} {after : List ℕ} → row ≡ rowsBefore filters pass → course .first ≤ pass
+      → after ≡ unitLines (directionOf pass) row (course .places) (filters pass .order) before → Filled after
+  pass-units row-is h e =
+      unit-rows course H pass (rowsBefore filters pass) (filters pass .order) h
+      (rw (e, row-is)
+      (units-filled (course .places) (course .first) (course .passes) pass (rowsBefore filters pass) (filters pass .order) h
+      in-course (fits .few-passes) (fits .few-places)
+      (orders .order-limited pass (omega (arith, fits .passes-counted))) before long-enough zeros))
+
+-- ---- the rows of all passes
+
+rows-grow : (filters : ℕ → Filter) (u v : ℕ) → u < v → rowsBefore filters u + filters u .order ≤ rowsBefore filters v
+unfolding rowsBefore
+rows-grow filters u zero h = absurd (omega arith)
+rows-grow filters u (suc v) h =
+    elim (decLt u v) [
+      | yes l ↦ omega (arith, rows-grow filters u v l)
+      | no l ↦ let e : u ≡ v = omega arith in rw e (omega arith)
+    ]
+
+pub filled-none : (filters : ℕ → Filter) (course : Course) (H : ℕ → ℕ → ℕ → ℕ) (buffer : List ℕ)
+    → length buffer ≡ lineWords → ((z : ℕ) → wordAt buffer z ≡ 0) → LinesFilled filters course H 0 buffer
+filled-none filters course H buffer e zeros =
+    record { length-is = e; zeros = λ z h. zeros z; lines = λ pass k h. absurd (omega arith) }
+
+pub filled-more : (filters : ℕ → Filter) (course : Course) (H : ℕ → ℕ → ℕ → ℕ) (pass : ℕ) → CourseFits course
+    → {before after : List ℕ} → LinesFilled filters course H pass before
+    → RowsFilled (course .places) (course .first) (course .passes) (rowsBefore filters pass) (filters pass .order)
+    (rowHistory course pass) (rowInput course H pass) before after
+    → LinesFilled filters course H (pass + 1) after
+filled-more filters course H pass fits held filled =
+    let more = rows-next filters pass refl in
+    let few = fits .few-places in
+    record {
+      length-is = filled .length-kept ∙ held .length-is;
+      zeros = λ z h.
+          filled .above z (omega (arith, ap (_* rowWords) more)) ∙ held .zeros z (omega (arith, ap (_* rowWords) more));
+      lines = λ u k h b.
+          elim (decLt u pass) [
+            | yes l ↦
+                let below = rows-grow filters u pass l in
+                record {
+                  inside = λ j c. filled .below _ (omega arith) ∙ held .lines u k l b .inside j c;
+                  beside = λ v i a d c.
+                      filled .below _ (omega (arith, margin-below (directionOf v) (course .places) i few c))
+                      ∙ held .lines u k l b .beside v i a d c;
+                }
+            | no l ↦ let e : u ≡ pass = omega arith in rw e (filled .lines k (rw e at b))
+          ];
+    }
+
+-- ---- after the passes
+
+-- There are rows, and the buffer has as many.
+pub link-rows : (filters : ℕ → Filter) (course : Course) → CourseFits course → OrdersFit filters
+    → 0 < filters (course .pass) .order → {rows : ℕ} → rows ≡ rowsBefore filters (course .first + course .passes)
+    → (0 < rows) × (rows ≤ lineRows)
+link-rows filters course fits orders some e =
+    let count = course .first + course .passes in
+    rw e (
+      omega (arith, some, rows-grow filters (course .pass) count (fits .pass-in)),
+      omega (arith, rows-few filters orders count (fits .passes-counted), fits .passes-counted),
+    )
+
+-- What `link_lines` makes.
+pub lines-ready : (filters : ℕ → Filter) (course : Course) (H : ℕ → ℕ → ℕ → ℕ) → CourseFits course → OrdersFit filters
+    → 0 < filters (course .pass) .order → {before after : List ℕ} {rows : ℕ}
+    → LinesFilled filters course H (course .first + course .passes) before
+    → rows ≡ rowsBefore filters (course .first + course .passes)
+    → after ≡ linesPassed filters rows (course .places) (course .first) (course .passes) before
+    → LinesReady filters course H after
+unfolding rowEnd passSquare
+lines-ready filters course H fits orders some {before} {after} {rows} filled r e =
+    record {
+      length-is =
+          ap length e
+          ∙ lines-passed filters rows (course .places) some-rows few-rows (fits .some-places) (fits .few-places) orders
+          (course .first) (course .passes) (fits .passes-counted) before long .length-kept
+          ∙ filled .length-is;
+      ends = λ pass k i h b c.
+          passed pass k i (omega (arith, fits .some-passes)) b c
+          ∙ ap₂ (λ P x. linePasses filters (course .places) P x (course .first) (course .passes) i)
+          (strip-history course H pass k h) (strip-input course H pass k h)
+          ∙ ap₂ (λ t m. linePasses filters (course .places) (λ v k. 0) (λ j. H pass j k) t m i) (fits .first-is)
+          (fits .passes-are);
+      squares = λ pass k i h b c d.
+          let s : ℕ = pass - course .first in
+          let m : ℕ = (course .first + course .passes) - pass in
+          let at : course .first + s ≡ pass = omega arith in
+          let count : course .passes ≡ s + m = omega arith in
+          passed pass k i b c d
+          ∙ ap₂ (λ P x. linePasses filters (course .places) P x (course .first) (course .passes) i)
+          (unit-history course H pass k h) (unit-input course H pass k h)
+          ∙ ap
+          (λ z. linePasses filters (course .places) (onlyAt pass (unitHistory k)) (λ i. 0) (course .first) z i)
+          count
+          ∙ linePasses-late filters (course .places) (onlyAt pass (unitHistory k)) (course .first) s m i
+          (λ u j a q. onlyAt-other pass (unitHistory k) u j (omega arith))
+          ∙ ap (λ z. linePasses filters (course .places) (onlyAt pass (unitHistory k)) (λ i. 0) z m i) at;
+    }
+  where
+    count : ℕ
+    count = course .first + course .passes
+
+    long : lineWords ≤ length before
+    long = omega (arith, filled .length-is)
+
+    few-rows : rows ≤ lineRows
+    few-rows = link-rows filters course fits orders some r .1
+
+    some-rows : 0 < rows
+    some-rows = link-rows filters course fits orders some r .0
+
+    passed : (pass k i : ℕ) → pass < count → k < filters pass .order → i < course .places
+        → wordAt after (pixelPlace rowWords (rowsBefore filters pass + k) (orderLimit + i))
+        ≡ linePasses filters (course .places) (rowHistory course pass k) (rowInput course H pass k) (course .first)
+        (course .passes) i
+    passed pass k i h b c =
+        ap (λ z. wordAt z (pixelPlace rowWords (rowsBefore filters pass + k) (orderLimit + i))) e
+        ∙ row-passed filters rows (course .places) (course .first) (course .passes) some-rows few-rows (fits .some-places)
+        (fits .few-places) orders (fits .passes-counted) before long (rowHistory course pass k) (rowInput course H pass k)
+        (rowsBefore filters pass + k) (rw r (omega (arith, rows-grow filters pass count h))) (filled .lines pass k h b) i c
+
+-- ---- the ends in the margin of the responses
 
 margin-outside : (d : Direction) (extent k line : ℕ) → k < orderLimit → line < extent
     → orderLimit + line ≢ beyond d orderLimit extent k
 margin-outside forward extent k line a b e = omega arith
 margin-outside backward extent k line a b e = omega arith
 
-module _ (course : Course) (fits : CourseFits course) (d : Direction) (order : ℕ) (few-rows : order ≤ orderLimit)
-    (lines before : List ℕ) (long : length before ≡ bufferWords) where
+module _ (course : Course) (fits : CourseFits course) (d : Direction) (row order : ℕ) (few-rows : order ≤ orderLimit)
+    (lines before : List ℕ) (long : length before ≡ responseWords) where
   abbrev endStart : ℕ → ℕ
   endStart k = beyond d orderLimit (course .lines) k * orderLimit
 
   abbrev endWord : ℕ → ℕ → ℕ
-  endWord k p = wordAt lines (k * rowWords + course .from + p)
+  endWord k p = wordAt lines ((row + k) * rowWords + course .from + p)
 
   abbrev loaded : List ℕ
-  loaded = endsCopied d course lines order before
+  loaded = endsCopied d course row lines order before
 
-  pub ends-length : length loaded ≡ length before
+  ends-length : length loaded ≡ length before
   unfolding endsCopied
   ends-length = rows-length endStart endWord (course .order) before order
 
-  pub ends-at : (k p : ℕ) → k < order → p < course .order → wordAt loaded (endStart k + p) ≡ endWord k p
+  ends-at : (k p : ℕ) → k < order → p < course .order → wordAt loaded (endStart k + p) ≡ endWord k p
   unfolding endsCopied
   ends-at k p h b =
       let few = fits .order-limited in
@@ -120,7 +314,7 @@ module _ (course : Course) (fits : CourseFits course) (d : Direction) (order : �
       (same-row-column orderLimit _ j _ p (omega arith) (omega arith) q .0))
       (λ k j a c. omega (arith, margin-below d (course .lines) k (fits .few-lines) (omega arith))) k p h b
 
-  pub ends-rest : (line place : ℕ) → line < course .lines → place < orderLimit
+  ends-rest : (line place : ℕ) → line < course .lines → place < orderLimit
       → wordAt loaded (responsePlace line place) ≡ wordAt before (responsePlace line place)
   unfolding endsCopied
   ends-rest line place h b =
@@ -129,37 +323,6 @@ module _ (course : Course) (fits : CourseFits course) (d : Direction) (order : �
       margin-outside d (course .lines) k line (omega arith) h
       (same-row-column orderLimit (orderLimit + line) place _ j b (omega (arith, fits .order-limited)) q .0))
 
--- What `load_ends` does.
-pub ends-loaded : (filters : ℕ → Filter) (course : Course) → CourseFits course → OrdersFit filters → (pass : ℕ) → pass < 4
-    → 0 < filters pass .order → (strip : Strip) (strips zeros : List ℕ) → bufferWords ≤ length zeros
-    → ((z : ℕ) → wordAt zeros z ≡ 0) → (before : List ℕ) → length before ≡ bufferWords
-    → {filled passed after : List ℕ}
-    → filled ≡ stripLines (directionOf pass) (filters pass .order) strip strips (course .places) (filters pass .order) zeros
-    → passed ≡ linesPassed filters (filters pass .order) (course .places) (course .first) (course .passes) filled
-    → after ≡ endsCopied (directionOf pass) course passed (filters pass .order) before
-    → EndsLoaded filters course pass (λ j k. stripRead strip strips j (fromEdge (directionOf pass) (filters pass .order) k))
-    before after
-ends-loaded filters course fits orders pass b some strip strips zeros long are-zero before e {filled} {passed} f g h =
-    let d = directionOf pass in
-    let order = filters pass .order in
-    let few = orders .order-limited pass b in
-    rw h (
-    record {
-      length-kept = ends-length course fits d order few _ before e;
-      ends = λ k p a i.
-          let place : k * rowWords + course .from + p ≡ pixelPlace rowWords (0 + k) (orderLimit + indexAt course p) =
-          omega (arith, i .low) in
-          ends-at course fits d order few passed before e k p a (i .below)
-          ∙ ap (wordAt passed) place
-          ∙ ap
-          (λ z. windowOf (lineWindow order (course .places)) z k (indexAt course p))
-          (g ∙ ap (linesPassed filters order (course .places) (course .first) (course .passes)) f)
-          ∙ lines-ended filters course fits orders d order some few strip strips zeros long are-zero k (indexAt course p) a
-          (omega (arith, i .low, i .high));
-      rest = λ line p a c. ends-rest course fits d order few _ before e line p a c;
-    }
-    )
-
 -- ---- a pass over the responses
 
 -- The window of the responses.
@@ -167,7 +330,7 @@ abbrev responseWindow : Course → Window
 responseWindow course =
     record { stride = orderLimit; top = orderLimit; left = 0; height = course .lines; width = course .order }
 
-response-fits-columns : (n : ℕ) (d : Direction) (course : Course) → CourseFits course → n ≡ bufferWords
+response-fits-columns : (n : ℕ) (d : Direction) (course : Course) → CourseFits course → n ≡ responseWords
     → WindowFits n columns d (responseWindow course) orderLimit
 response-fits-columns n forward course fits e =
     let few = fits .few-lines in
@@ -178,39 +341,53 @@ response-fits-columns n backward course fits e =
     let narrow = fits .order-limited in
     record { tall = fits .some-lines; wide = fits .some-order; start = omega arith; in-row = omega arith; in-buffer = omega arith }
 
-pub response-fits : (n pass : ℕ) (course : Course) → CourseFits course → n ≡ bufferWords → pass < 2
+pub response-fits : (n pass : ℕ) (course : Course) → CourseFits course → n ≡ responseWords → pass < 2
     → WindowFits n (axisOf pass) (directionOf pass) (responseWindow course) orderLimit
 response-fits n pass course fits e h = rw (axis-columns pass h) (response-fits-columns n (directionOf pass) course fits e)
 
 -- What `cross_pass` does.
 pub cross-passed : (filters : ℕ → Filter) (course : Course) → CourseFits course → OrdersFit filters → (pass : ℕ) → pass < 2
-    → (H : ℕ → ℕ → ℕ) {before loaded after : List ℕ} → length before ≡ bufferWords
-    → EndsLoaded filters course pass H before loaded
+    → (lines before : List ℕ) {loaded after : List ℕ} {row : ℕ} → length before ≡ responseWords
+    → row ≡ rowsBefore filters pass
+    → loaded ≡ endsCopied (directionOf pass) course row lines (filters pass .order) before
     → after ≡ windowPass pass (responseWindow course) orderLimit (filters pass) loaded
-    → Crossed filters course pass H before after
+    → Crossed filters course pass lines before after
 unfolding filterLines
-cross-passed filters course fits orders pass b H {before} {loaded} {after} long ends e =
+cross-passed filters course fits orders pass b lines before {loaded} {after} {row} long r l e =
     record {
-      length-kept = ap length e ∙ passed .length-kept ∙ ends .length-kept;
+      length-kept = ap length e ∙ passed .length-kept ∙ kept;
       at = λ line place h i.
           let narrow = fits .order-limited in
           let below = i .below in
-          at-place line place
+          at-place after line place
           ∙ ap (λ z. windowOf W z line place) e
           ∙ passed .at line place h (i .below)
           ∙ filterLine-reads (directionOf pass) (filters pass) (course .lines) _ _ _ _
-          (λ k c. sym (beside-place place k) ∙ ends .ends k place c i)
-          (λ y c. sym (at-place-of loaded y place) ∙ ends .rest y place c (omega arith)) line h;
+          (λ k c.
+          sym (beside-place place k)
+          ∙ ap (λ z. wordAt z (beyond (directionOf pass) orderLimit (course .lines) k * orderLimit + place)) l
+          ∙ ends-at course fits (directionOf pass) row (filters pass .order) few lines before long k place c (i .below)
+          ∙ ap (λ z. wordAt lines ((z + k) * rowWords + course .from + place)) r)
+          (λ y c.
+          sym (at-place loaded y place)
+          ∙ ap (λ z. wordAt z (responsePlace y place)) l
+          ∙ ends-rest course fits (directionOf pass) row (filters pass .order) few lines before long y place c (omega arith))
+          line h;
     }
   where
     W : Window
     W = responseWindow course
 
-    at-place-of : (buffer : List ℕ) (line place : ℕ) → wordAt buffer (responsePlace line place) ≡ windowOf W buffer line place
-    at-place-of buffer line place = ap (wordAt buffer) (omega arith)
+    few : filters pass .order ≤ orderLimit
+    few = orders .order-limited pass (omega arith)
 
-    at-place : (line place : ℕ) → wordAt after (responsePlace line place) ≡ windowOf W after line place
-    at-place = at-place-of after
+    kept : length loaded ≡ length before
+    kept =
+        ap length l
+        ∙ ends-length course fits (directionOf pass) row (filters pass .order) few lines before long
+
+    at-place : (buffer : List ℕ) (line place : ℕ) → wordAt buffer (responsePlace line place) ≡ windowOf W buffer line place
+    at-place buffer line place = ap (wordAt buffer) (omega arith)
 
     beside-place : (place k : ℕ)
         → wordAt loaded (beyond (directionOf pass) orderLimit (course .lines) k * orderLimit + place)
@@ -222,10 +399,10 @@ cross-passed filters course fits orders pass b H {before} {loaded} {after} long 
     passed =
         passed-along (axis-columns pass b) refl
         (windowPass-passed pass W (filters pass) orderLimit _ loaded
-        (response-fits (length loaded) pass course fits (ends .length-kept ∙ long) b)
+        (response-fits (length loaded) pass course fits (kept ∙ long) b)
         (record {
           near = λ l k a b c. refl;
-          far = λ l k a c d. absurd (omega (arith, orders .order-limited pass (omega arith)));
+          far = λ l k a c d. absurd (omega (arith, few));
         }))
 
 -- ---- the passes of the other axis, one after another
@@ -234,25 +411,27 @@ module _ (filters : ℕ → Filter) (course : Course) (H : ℕ → ℕ → ℕ �
   -- The responses after the first passes.
   unfoldable pub crossedTo : ℕ → ℕ → ℕ → ℕ
   crossedTo pass l i =
-      linePasses filters (course .lines) (λ v k. rowEnd filters (course .places) (course .pass) i (λ j. H v j k)) (λ y. 0) 0 pass
-      l
+      linePasses filters (course .lines) (λ v k. rowEnd filters (course .places) (course .pass) i (λ j. H v j k)) (λ y. 0) 0
+      pass l
 
   pub cross-none : (buffer : List ℕ) → ((z : ℕ) → wordAt buffer z ≡ 0) → Held course (crossedTo 0) buffer
   unfolding crossedTo linePasses
   cross-none buffer zeros = record { at = λ line place h i. zeros _ }
 
-  pub cross-next : (pass : ℕ) (P : ℕ → ℕ → ℕ) {before after : List ℕ} → Held course (crossedTo pass) before
-      → Crossed filters course pass P before after
-      → ((j k : ℕ) → k < filters pass .order → P j k ≡ H pass j k) → Held course (crossedTo (pass + 1)) after
+  pub cross-next : (pass : ℕ) {lines before after : List ℕ} → pass < course .first → LinesReady filters course H lines
+      → Held course (crossedTo pass) before → Crossed filters course pass lines before after
+      → Held course (crossedTo (pass + 1)) after
   unfolding crossedTo linePasses
-  cross-next pass P held passed e =
+  cross-next pass {lines} b ready held passed =
       rw (add-one pass)
       (record {
         at = λ line place h i.
             passed .at line place h i
             ∙ filterLine-reads (directionOf pass) (filters pass) (course .lines) _ _ _ _
             (λ k c.
-            ap (rowEnd filters (course .places) (course .pass) (indexAt course place)) (fun-ext (λ j. e j k c)))
+            let low = i .low in
+            let high = i .high in
+            ap (wordAt lines) (omega arith) ∙ ready .ends pass k (indexAt course place) b c (omega arith))
             (λ y c. held .at y place c i) line h
             ∙ ap
             (λ v.

@@ -1,9 +1,9 @@
 -- Weighted sums: what they read, and that zeros past the order do not count. Assumes nothing.
 use mathlib.Core.Path.{_≡_, refl, ap₂, _∙_}
 use Prim.Native.Nat.{ℕ, zero, suc, _+_, _-_, _%_, _<_, _≤_}
-use native.Mathlib.Nat.{add-zero, add-suc, zero-mod}
-use native.Mathlib.Numerals.{add-one}
 use native.Mathlib.Omega.{arith}
+use native.Mathlib.Numerals.{add-one}
+use native.Mathlib.Nat.{add-zero, add-suc, zero-mod}
 use Rattle.word.proofs.Ring.{zero-mul, zero-right, add-reduced}
 use Rattle.word.specs.Word.{modulus, _⊕_, _⊗_}
 use Rattle.passes.specs.Square.{weightedSum}

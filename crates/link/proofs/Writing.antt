@@ -1,12 +1,12 @@
 -- The strip in the order of its addresses, and that what is written is the link. Assumes nothing.
-use mathlib.Core.Path.{_≡_, refl, ap, ap₂, sym, _∙_}
 use mathlib.Core.Bool.{Bool, true, false, _&&_, cond}
 use mathlib.Core.List.{List}
+use mathlib.Core.Path.{_≡_, refl, ap, ap₂, sym, _∙_}
 use mathlib.Core.Logic.{_≢_}
 use Prim.Native.Nat.{ℕ, zero, suc, _+_, _-_, _*_, _/_, _%_, _<_, _≤_}
-use native.Mathlib.Nat.{div-add-mod', mod-lt, add-mul, zero-div, zero-mod}
 use native.Mathlib.Decide.{ℕ-discrete, decLe, decLt}
 use native.Mathlib.Omega.{arith}
+use native.Mathlib.Nat.{div-add-mod', mod-lt, add-mul, zero-div, zero-mod}
 use borrow.Author.Tests.{eq-eqb, ne-eqb, ltb-true, leb-true, lt-ltb, le-ltb, le-leb, lt-leb}
 use lib.Dec.{ltb, leb}
 use lib.ListN.{set}
@@ -19,19 +19,19 @@ use Rattle.plan.specs.Sizes.{neededMarks, neededStrips}
 use Rattle.plan.specs.declared.Plan.{Plan}
 use Rattle.passes.specs.Filter.{Filter}
 use Rattle.passes.specs.Passes.{Axis, columns, rows, Direction, forward, backward, axisOf, directionOf, along, across, lineOf, filterLines, passesOver}
+use Rattle.filter.proofs.RowMajor.{row-of, column-of}
+use Rattle.filter.proofs.Written.{written-none, written-same-words}
 use Rattle.filter.specs.Buffer.{wordAt}
-use Rattle.filter.specs.Filters.{filtersOf}
+use Rattle.filter.specs.Filters.{filterOf, filtersOf}
 use Rattle.filter.specs.declared.FilterWords.{FilterWords}
 use Rattle.blocks.proofs.Geometry.{lines-in-side}
-use Rattle.filter.proofs.RowMajor.{row-of, column-of}
 use Rattle.blocks.proofs.Strips.{line-below, line-place-below, strip-in-list}
-use Rattle.filter.proofs.Written.{written-none, written-same-words}
 use Rattle.blocks.specs.Geometry.{rowsOf, columnsOf}
 use Rattle.blocks.specs.Strips.{orderOf, stripStart, placeInStrip, lineInStrip, placeInLine, stripPlace, placeInside, indexOfPlace, insideBlock, edgeWord, stripWord, pastEdges, stripWrittenTo}
 use Rattle.blocks.specs.Writes.{blockPasses, linkWord, linked}
 use Rattle.squares.proofs.Response.{response-is}
 use Rattle.squares.specs.LinePasses.{response}
-use Rattle.squares.specs.Lines.{bufferWords, filterAt}
+use Rattle.squares.specs.Lines.{filterAt}
 use Rattle.link.specs.Courses.{planFilters, endsFrom, courseOf, Inside, LinkFits}
 use Rattle.link.specs.Words.{responsePlace, Held, linkedWord, positionAt, nextPosition, linkedTo, StripLong}
 use Rattle.link.specs.declared.Course.{Course}
@@ -242,17 +242,20 @@ module _ (plan : Plan) (kept : keepsRules plan ≡ true) (k pass : ℕ) (counted
       let none : plan .side * orderOf plan pass ≡ 0 = rw (← order-of-course, e) (omega arith) in
       rw none (sym (written-none _ _ strips))
 
-  pub link-fits : {filters : List FilterWords} {n m : ℕ} → (course .order ≡ 0 → ⊥) → filters ≡ planFilters plan
-      → neededStrips plan ≤ n → m ≡ bufferWords → LinkFits plan k course filters n m
-  link-fits some filters-are long m-is =
+  pub link-fits : {filters : List FilterWords} {n : ℕ} → (course .order ≡ 0 → ⊥) → filters ≡ planFilters plan
+      → neededStrips plan ≤ n → LinkFits plan k course filters n
+  unfolding courseOf filterOf
+  link-fits some filters-are long =
       let some-order : 0 < orderOf plan pass = omega (arith, order-of-course) in
       record {
         kept = kept;
         counted = counted;
         course-fits = rw course-is (course-fits plan k pass kept counted here some-order);
         filters-are = filters-are;
+        own-order =
+            rw (filters-are, course-is)
+            (ap (λ (f : Filter). f .order) (filter-is plan pass here));
         strips-long = long;
-        responses-long = m-is;
       }
 
   pub strip-long : {n start : ℕ} → neededStrips plan ≤ n → start ≡ stripStart plan k pass

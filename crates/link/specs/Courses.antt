@@ -1,7 +1,7 @@
 -- The course of a link: along which passes and lines its words come.
 use mathlib.Core.Path.{_≡_}
-use mathlib.Core.Bool.{true}
 use mathlib.Core.List.{List, [], _∷_}
+use mathlib.Core.Bool.{true}
 use Prim.Native.Nat.{ℕ, _+_, _-_, _<_, _≤_}
 use Rattle.plan.specs.Rules.{orderLimit, passAt, keepsRules}
 use Rattle.plan.specs.Sizes.{neededMarks, neededStrips}
@@ -12,7 +12,7 @@ use Rattle.filter.specs.declared.FilterWords.{FilterWords}
 use Rattle.blocks.specs.Geometry.{rowsOf, columnsOf}
 use Rattle.blocks.specs.Strips.{orderOf}
 use Rattle.squares.specs.LinePasses.{axisStart, axisPasses}
-use Rattle.squares.specs.Lines.{bufferWords}
+use Rattle.squares.specs.Lines.{filterAt}
 use Rattle.link.specs.declared.Course.{Course}
 
 -- The words of the four filters of a plan.
@@ -74,13 +74,13 @@ pub record CourseFits (course : Course) : Type 0 where
   pub passes-counted : course .first + course .passes ≤ 4
   pub first-is : course .first ≡ axisStart (course .pass)
   pub passes-are : course .passes ≡ axisPasses (course .pass)
-  pub pass-counted : course .pass < 4
+  pub pass-in : course .pass < course .first + course .passes
 
--- What a link of block k along a course wants, with strips and responses of so many words: the filters are the plan's.
-pub record LinkFits (plan : Plan) (k : ℕ) (course : Course) (filters : List FilterWords) (strips responses : ℕ) : Type 0 where
+-- What a link of block k along a course wants, with strips of so many words: the filters are the plan's.
+pub record LinkFits (plan : Plan) (k : ℕ) (course : Course) (filters : List FilterWords) (strips : ℕ) : Type 0 where
   pub kept : keepsRules plan ≡ true
   pub counted : k < neededMarks plan
   pub course-fits : CourseFits course
   pub filters-are : filters ≡ planFilters plan
+  pub own-order : filterAt filters (course .pass) .order ≡ course .order
   pub strips-long : neededStrips plan ≤ strips
-  pub responses-long : responses ≡ bufferWords

@@ -1,23 +1,24 @@
 -- What the code of a link does to its buffers.
-use mathlib.Core.Bool.{Bool, _&&_, cond}
 use mathlib.Core.Path.{_≡_}
+use mathlib.Core.Bool.{Bool, _&&_, cond}
 use mathlib.Core.List.{List, []}
 use Prim.Native.Nat.{ℕ, zero, suc, _+_, _-_, _*_, _<_, _≤_}
-use lib.Dec.{ltb, leb, eqb}
 use lib.ListN.{length, getD}
+use lib.Dec.{ltb, leb, eqb}
 use Rattle.word.specs.Word.{_⊕_}
 use Rattle.plan.specs.Rules.{orderLimit}
 use Rattle.passes.specs.Filter.{Filter}
 use Rattle.passes.specs.Passes.{Axis, columns, rows, Direction, axisOf, directionOf, filterLine}
-use Rattle.passes.specs.Square.{weightedSum}
+use Rattle.passes.specs.Square.{unitHistory, weightedSum}
 use Rattle.filter.specs.Buffer.{wordAt}
-use Rattle.filter.specs.Windows.{beyond}
-use Rattle.blocks.specs.Strips.{fromEdge, lineInStrip, placeInLine}
+use Rattle.filter.specs.Windows.{pixelPlace, beyond}
 use Rattle.filter.specs.Written.{written}
+use Rattle.blocks.specs.Strips.{fromEdge, lineInStrip, placeInLine}
 use Rattle.strips.specs.Reading.{stripRead}
 use Rattle.strips.specs.declared.Strip.{Strip}
-use Rattle.squares.specs.LinePasses.{passSquare, rowEnd}
-use Rattle.squares.specs.Lines.{rowWords}
+use Rattle.squares.specs.LinePasses.{onlyAt, passSquare, rowEnd}
+use Rattle.squares.specs.Lines.{rowWords, lineWords, rowsBefore}
+use Rattle.squares.specs.Rows.{LineIs, ZerosFrom}
 use Rattle.link.specs.Courses.{Inside, indexAt}
 use Rattle.link.specs.declared.Course.{Course}
 use Rattle.link.specs.declared.Position.{Position}
@@ -37,12 +38,46 @@ unfoldable pub stripLine : Strip → List ℕ → (place row places : ℕ) → L
 stripLine strip strips place row places buffer =
     written (λ j. row * rowWords + orderLimit + j) (λ j. stripRead strip strips j place) places buffer
 
--- The same of the first n distances from the edge that a pass leaves by, each to its row.
-unfoldable pub stripLines : Direction → (order : ℕ) → Strip → List ℕ → (places n : ℕ) → List ℕ → List ℕ
-stripLines d order strip strips places n buffer =
-    rowsWritten (λ k. k * rowWords + orderLimit) (λ k j. stripRead strip strips j (fromEdge d order k)) places n buffer
+-- The same of the first n distances from the edge that a pass leaves by, each to its row, from a row on.
+unfoldable pub stripLines : Direction → (order : ℕ) → Strip → List ℕ → (row places n : ℕ) → List ℕ → List ℕ
+stripLines d order strip strips row places n buffer =
+    rowsWritten (λ k. (row + k) * rowWords + orderLimit) (λ k j. stripRead strip strips j (fromEdge d order k)) places n buffer
+
+-- ---- the lines of a link: H u j k stands for place j of line k past the block's edge where pass u comes from
+
+-- The outputs past the ends of row k of a pass: none where the pass runs along the other axis, and the unit history k of
+-- the pass where it runs along the link's own.
+unfoldable pub rowHistory : Course → (pass k : ℕ) → ℕ → ℕ → ℕ
+rowHistory course pass k = cond (ltb pass (course .first)) (λ u i. 0) (onlyAt pass (unitHistory k))
+
+-- The words of that row: the line past the block's edge, or zeros.
+unfoldable pub rowInput : Course → (H : ℕ → ℕ → ℕ → ℕ) → (pass k : ℕ) → ℕ → ℕ
+rowInput course H pass k = cond (ltb pass (course .first)) (λ j. H pass j k) (λ i. 0)
+
+-- The rows of the first passes have their lines, and the others are zeros.
+pub record LinesFilled (filters : ℕ → Filter) (course : Course) (H : ℕ → ℕ → ℕ → ℕ) (passes : ℕ) (buffer : List ℕ) : Type 0 where
+  pub length-is : length buffer ≡ lineWords
+  pub zeros : ZerosFrom (rowsBefore filters passes) buffer
+  pub lines : (pass k : ℕ) → pass < passes → k < filters pass .order
+      → LineIs (course .places) (course .first) (course .passes) (rowHistory course pass k) (rowInput course H pass k) buffer
+      (rowsBefore filters pass + k)
+
+-- After the passes of the link's axis the rows have the ends of the lines past the block's edges, and the squares.
+pub record LinesReady (filters : ℕ → Filter) (course : Course) (H : ℕ → ℕ → ℕ → ℕ) (buffer : List ℕ) : Type 0 where
+  pub length-is : length buffer ≡ lineWords
+  pub ends : (pass k i : ℕ) → pass < course .first → k < filters pass .order → i < course .places
+      → wordAt buffer (pixelPlace rowWords (rowsBefore filters pass + k) (orderLimit + i))
+      ≡ rowEnd filters (course .places) (course .pass) i (λ j. H pass j k)
+  pub squares : (pass k i : ℕ) → course .first ≤ pass → pass < course .first + course .passes → k < filters pass .order
+      → i < course .places
+      → wordAt buffer (pixelPlace rowWords (rowsBefore filters pass + k) (orderLimit + i))
+      ≡ passSquare filters (course .places) pass ((course .first + course .passes) - pass) i k
 
 -- ---- the buffer of responses: rows of orderLimit words, one to a line, between two margins of orderLimit rows
+
+-- The words of such a buffer.
+abbrev pub responseWords : ℕ
+responseWords = rowWords * orderLimit
 
 -- Where the response at a line and a place stands.
 abbrev pub responsePlace : ℕ → ℕ → ℕ
@@ -52,29 +87,20 @@ responsePlace line place = (orderLimit + line) * orderLimit + place
 unfoldable pub copied : (to : ℕ) → List ℕ → (at count : ℕ) → List ℕ → List ℕ
 copied to from at count buffer = written (λ p. to + p) (λ p. wordAt from (at + p)) count buffer
 
--- The buffer of responses after the ends of the first n rows of lines have gone to its margin, on the side where a pass
--- comes from.
-unfoldable pub endsCopied : Direction → Course → List ℕ → ℕ → List ℕ → List ℕ
-endsCopied d course lines n buffer =
+-- The buffer of responses after the ends of n rows of lines, from a row on, have gone to its margin, on the side where a
+-- pass comes from.
+unfoldable pub endsCopied : Direction → Course → (row : ℕ) → List ℕ → ℕ → List ℕ → List ℕ
+endsCopied d course row lines n buffer =
     rowsWritten (λ k. beyond d orderLimit (course .lines) k * orderLimit)
-    (λ k p. wordAt lines (k * rowWords + course .from + p)) (course .order) n buffer
+    (λ k p. wordAt lines ((row + k) * rowWords + course .from + p)) (course .order) n buffer
 
--- The ends of the lines that stand past a block's edge, H j k at place j of line k, have gone to the margin of the responses.
-pub record EndsLoaded (filters : ℕ → Filter) (course : Course) (pass : ℕ) (H : ℕ → ℕ → ℕ) (before after : List ℕ) : Type 0 where
-  pub length-kept : length after ≡ length before
-  pub ends : (k place : ℕ) → k < filters pass .order → Inside course place
-      → wordAt after (beyond (directionOf pass) orderLimit (course .lines) k * orderLimit + place)
-      ≡ rowEnd filters (course .places) (course .pass) (indexAt course place) (λ j. H j k)
-  pub rest : (line place : ℕ) → line < course .lines → place < orderLimit
-      → wordAt after (responsePlace line place) ≡ wordAt before (responsePlace line place)
-
--- A pass over the responses of all lines: H j k stands for the lines past the block's edge.
-pub record Crossed (filters : ℕ → Filter) (course : Course) (pass : ℕ) (H : ℕ → ℕ → ℕ) (before after : List ℕ) : Type 0 where
+-- A pass over the responses of all lines, the ends of the rows of lines standing past them.
+pub record Crossed (filters : ℕ → Filter) (course : Course) (pass : ℕ) (lines before after : List ℕ) : Type 0 where
   pub length-kept : length after ≡ length before
   pub at : (line place : ℕ) → line < course .lines → Inside course place
       → wordAt after (responsePlace line place)
       ≡ filterLine (directionOf pass) (filters pass) (course .lines)
-      (λ k. rowEnd filters (course .places) (course .pass) (indexAt course place) (λ j. H j k))
+      (λ k. wordAt lines ((rowsBefore filters pass + k) * rowWords + course .from + place))
       (λ y. wordAt before (responsePlace y place)) line
 
 -- The history of a line of a strip, nearest first.

@@ -7,21 +7,21 @@ use plan::Plan;
 use strips::Strip;
 ghost use mathlib.Core.Path.{_≡_};
 ghost use mathlib.Core.Bool.{true};
-ghost use mathlib.Core.List.{[]};
 ghost use Prim.Native.Nat.{ℕ, _+_, _-_, _*_, _<_, _≤_};
-ghost use lib.ListN.{length, getD};
+ghost use lib.ListN.{length};
 ghost use Rattle.plan.specs.Rules.{orderLimit, keepsRules};
 ghost use Rattle.plan.specs.Sizes.{neededMarks, neededStrips};
 ghost use Rattle.passes.specs.Passes.{axisOf, directionOf};
 ghost use Rattle.filter.specs.Buffer.{wordAt};
 ghost use Rattle.blocks.specs.Strips.{fromEdge, pastEdges};
 ghost use Rattle.blocks.specs.Writes.{linked};
-ghost use Rattle.strips.specs.Reading.{stripRead, StripFits};
+ghost use Rattle.strips.specs.Reading.{StripFits};
 ghost use Rattle.passes.specs.Square.{weightedSum};
 ghost use Rattle.squares.specs.LinePasses.{response, crossed};
-ghost use Rattle.squares.specs.Lines.{rowWords, bufferWords, filterAt, OrdersFit, Square};
+ghost use Rattle.squares.specs.Lines.{lineRows, lineWords, filterAt, OrdersFit, rowsBefore};
+ghost use Rattle.squares.specs.Rows.{ZerosFrom, RowsFilled};
 ghost use Rattle.link.specs.Courses.{planFilters, courseAlong, courseOf, CourseFits, LinkFits};
-ghost use Rattle.link.specs.Words.{stripLine, stripLines, copied, endsCopied, EndsLoaded, Crossed, historyWord, lineAdded, LinesAdded, Carried, Held, linkedWord, nextPosition, linkedTo, StripLong};
+ghost use Rattle.link.specs.Words.{stripLine, stripLines, rowHistory, rowInput, LinesFilled, LinesReady, responseWords, copied, endsCopied, Crossed, historyWord, lineAdded, LinesAdded, Carried, Held, linkedWord, nextPosition, linkedTo, StripLong};
 
 // The passes along the axis of a link, `passes` of them from `first` on; the lines that they run along and the places of each;
 // and the column, in a row of lines, of the first place of the strip.
@@ -34,6 +34,9 @@ pub struct Course {
     pub from: usize,
     pub order: usize,
 }
+
+// The words of a buffer of responses: a row of ORDER_LIMIT words for each line, between margins of ORDER_LIMIT rows.
+const RESPONSES: usize = squares::ROW * plan::ORDER_LIMIT;
 
 // A line and a place of a strip.
 struct Position {
@@ -119,7 +122,7 @@ fn strip_line(
     strip: Strip,
     place: usize,
 )
-    requires { ⌜ (row < orderLimit) × ((places ≤ 32) × ((bufferWords ≤ length (now lines)) × StripFits (length (now strips)) strip)) ⌝ }
+    requires { ⌜ (row < lineRows) × ((places ≤ 32) × ((lineWords ≤ length (now lines)) × StripFits (length (now strips)) strip)) ⌝ }
     ensures { λ _. ⌜ now (lines .exit) ≡ stripLine strip (now (strips .entry)) place row places (now (lines .entry)) ⌝ }
 {
     let mut j = 0;
@@ -130,24 +133,97 @@ fn strip_line(
     }
 }
 
-// Puts the lines of a strip at each distance from the edge into rows of lines.
+// Puts the lines of a strip at each distance from the edge into rows of lines, from a row on.
 fn strip_lines(
     lines: &mut [u64],
+    row: usize,
     places: usize,
     strips: &[u64],
     strip: Strip,
     pass: usize,
     order: usize,
 )
-    requires { ⌜ (order ≤ orderLimit) × ((places ≤ 32) × ((bufferWords ≤ length (now lines)) × StripFits (length (now strips)) strip)) ⌝ }
-    ensures { λ _. ⌜ now (lines .exit) ≡ stripLines (directionOf pass) order strip (now (strips .entry)) places order (now (lines .entry)) ⌝ }
+    requires { ⌜ (row + order ≤ lineRows) × ((places ≤ 32) × ((lineWords ≤ length (now lines)) × StripFits (length (now strips)) strip)) ⌝ }
+    ensures { λ _. ⌜ now (lines .exit) ≡ stripLines (directionOf pass) order strip (now (strips .entry)) row places order (now (lines .entry)) ⌝ }
 {
     let mut distance = 0;
     while distance < order {
         let place = from_edge(pass, order, distance);
-        strip_line(lines, distance, places, strips, strip, place);
+        strip_line(lines, row + distance, places, strips, strip, place);
         distance += 1;
     }
+}
+
+// Fills the rows of a pass: with the lines past the block's edge where the pass runs along the other axis, and with the
+// unit histories where it runs along the link's own.
+fn fill_pass(
+    lines: &mut [u64],
+    strips: &[u64],
+    plan: Plan,
+    k: usize,
+    course: Course,
+    filters: [FilterWords; 4],
+    pass: usize,
+)
+    requires { ⌜ LinkFits plan k course filters (length (now strips)) × ((pass < course .first + course .passes) × (lineWords ≤ length (now lines))) ⌝ }
+    requires { ⌜ ZerosFrom (rowsBefore (filterAt filters) pass) (now lines) ⌝ }
+    ensures { λ _. ⌜ RowsFilled (course .places) (course .first) (course .passes) (rowsBefore (filterAt filters) pass) (filterAt filters pass .order) (rowHistory course pass) (rowInput course (pastEdges plan (now (strips .entry)) k) pass) (now (lines .entry)) (now (lines .exit)) ⌝ }
+{
+    let filter = filters[pass];
+    let order = filter.order;
+    let row = squares::rows_before(filters, pass);
+    if pass < course.first {
+        let strip = strips::strip_before(plan, k, pass);
+        strip_lines(lines, row, course.places, strips, strip, pass, order);
+    } else {
+        squares::unit_lines(lines, row, pass, course.places, order);
+    }
+}
+
+// Fills the rows of all passes.
+fn fill_lines(
+    lines: &mut [u64],
+    strips: &[u64],
+    plan: Plan,
+    k: usize,
+    course: Course,
+    filters: [FilterWords; 4],
+)
+    requires { ⌜ LinkFits plan k course filters (length (now strips)) × (length (now lines) ≡ lineWords) ⌝ }
+    requires { ⌜ ((z : ℕ) → wordAt (now lines) z ≡ 0) ⌝ }
+    ensures { λ _. ⌜ LinesFilled (filterAt filters) course (pastEdges plan (now (strips .entry)) k) (course .first + course .passes) (now (lines .exit)) ⌝ }
+{
+    let count = course.first + course.passes;
+    let mut filled = 0;
+    while filled < count {
+        fill_pass(lines, strips, plan, k, course, filters, filled);
+        filled += 1;
+    }
+}
+
+// The lines of a link after the passes of its axis: the ends of the lines past the block's edges, and the squares.
+fn link_lines(
+    lines: &mut [u64],
+    strips: &[u64],
+    plan: Plan,
+    k: usize,
+    course: Course,
+    filters: [FilterWords; 4],
+)
+    requires { ⌜ LinkFits plan k course filters (length (now strips)) × (length (now lines) ≡ lineWords) ⌝ }
+    requires { ⌜ ((z : ℕ) → wordAt (now lines) z ≡ 0) ⌝ }
+    ensures { λ _. ⌜ LinesReady (filterAt filters) course (pastEdges plan (now (strips .entry)) k) (now (lines .exit)) ⌝ }
+{
+    fill_lines(lines, strips, plan, k, course, filters);
+    let rows = squares::rows_before(filters, course.first + course.passes);
+    squares::run_lines(
+        lines,
+        rows,
+        course.places,
+        filters,
+        course.first,
+        course.passes,
+    );
 }
 
 fn copy_words(buffer: &mut [u64], to: usize, words: &[u64], at: usize, count: usize)
@@ -161,69 +237,46 @@ fn copy_words(buffer: &mut [u64], to: usize, words: &[u64], at: usize, count: us
     }
 }
 
-// Puts the ends of the first rows of lines into the margin of the responses.
-fn copy_ends(responses: &mut [u64], lines: &[u64], course: Course, pass: usize, order: usize)
-    requires { ⌜ CourseFits course × ((order ≤ orderLimit) × ((length (now responses) ≡ bufferWords) × (length (now lines) ≡ bufferWords))) ⌝ }
-    ensures { λ _. ⌜ now (responses .exit) ≡ endsCopied (directionOf pass) course (now (lines .entry)) order (now (responses .entry)) ⌝ }
+// Puts the ends of lines, from a row on, into the margin of the responses.
+fn copy_ends(
+    responses: &mut [u64],
+    lines: &[u64],
+    row: usize,
+    course: Course,
+    pass: usize,
+    order: usize,
+)
+    requires { ⌜ CourseFits course × ((order ≤ orderLimit) × ((row + order ≤ lineRows) × ((length (now responses) ≡ responseWords) × (length (now lines) ≡ lineWords)))) ⌝ }
+    ensures { λ _. ⌜ now (responses .exit) ≡ endsCopied (directionOf pass) course row (now (lines .entry)) order (now (responses .entry)) ⌝ }
 {
     let mut distance = 0;
     while distance < order {
-        let row = squares::margin(pass, course.lines, distance);
+        let to = squares::margin(pass, course.lines, distance);
         copy_words(
             responses,
-            row * plan::ORDER_LIMIT,
+            to * plan::ORDER_LIMIT,
             lines,
-            distance * squares::ROW + course.from,
+            (row + distance) * squares::ROW + course.from,
             course.order,
         );
         distance += 1;
     }
 }
 
-// Puts what the passes along the axis make of the lines of a strip, at their ends, into the margin of the responses.
-fn load_ends(
-    responses: &mut [u64],
-    strips: &[u64],
-    strip: Strip,
-    course: Course,
-    filters: [FilterWords; 4],
-    pass: usize,
-)
-    requires { ⌜ CourseFits course × (OrdersFit (filterAt filters) × ((pass < 2) × ((length (now responses) ≡ bufferWords) × StripFits (length (now strips)) strip))) ⌝ }
-    ensures { λ _. ⌜ EndsLoaded (filterAt filters) course pass (λ j k. stripRead strip (now (strips .entry)) j (fromEdge (directionOf pass) (filterAt filters pass .order) k)) (now (responses .entry)) (now (responses .exit)) ⌝ }
-{
-    let filter = filters[pass];
-    let order = filter.order;
-    if order == 0 {
-        return;
-    }
-    let mut lines = [0; squares::BUFFER];
-    strip_lines(&mut lines, course.places, strips, strip, pass, order);
-    squares::run_lines(
-        &mut lines,
-        order,
-        course.places,
-        filters,
-        course.first,
-        course.passes,
-    );
-    copy_ends(responses, &lines, course, pass, order);
-}
-
 // A pass of the other axis over the responses.
 fn cross_pass(
     responses: &mut [u64],
-    strips: &[u64],
-    strip: Strip,
+    lines: &[u64],
     course: Course,
     filters: [FilterWords; 4],
     pass: usize,
 )
-    requires { ⌜ CourseFits course × (OrdersFit (filterAt filters) × ((pass < 2) × ((length (now responses) ≡ bufferWords) × StripFits (length (now strips)) strip))) ⌝ }
-    ensures { λ _. ⌜ Crossed (filterAt filters) course pass (λ j k. stripRead strip (now (strips .entry)) j (fromEdge (directionOf pass) (filterAt filters pass .order) k)) (now (responses .entry)) (now (responses .exit)) ⌝ }
+    requires { ⌜ CourseFits course × (OrdersFit (filterAt filters) × ((pass < 2) × ((length (now responses) ≡ responseWords) × (length (now lines) ≡ lineWords)))) ⌝ }
+    ensures { λ _. ⌜ Crossed (filterAt filters) course pass (now (lines .entry)) (now (responses .entry)) (now (responses .exit)) ⌝ }
 {
-    load_ends(responses, strips, strip, course, filters, pass);
     let filter = filters[pass];
+    let row = squares::rows_before(filters, pass);
+    copy_ends(responses, lines, row, course, pass, filter.order);
     let window = Window {
         stride: plan::ORDER_LIMIT,
         top: plan::ORDER_LIMIT,
@@ -235,22 +288,14 @@ fn cross_pass(
 }
 
 // The passes of the other axis that come before those of the link's own, over the responses.
-fn cross(
-    responses: &mut [u64],
-    strips: &[u64],
-    plan: Plan,
-    k: usize,
-    course: Course,
-    filters: [FilterWords; 4],
-)
-    requires { ⌜ LinkFits plan k course filters (length (now strips)) (length (now responses)) ⌝ }
+fn cross(responses: &mut [u64], lines: &[u64], course: Course, filters: [FilterWords; 4])
+    requires { ⌜ CourseFits course × (OrdersFit (filterAt filters) × ((length (now responses) ≡ responseWords) × (length (now lines) ≡ lineWords))) ⌝ }
     requires { ⌜ ((z : ℕ) → wordAt (now responses) z ≡ 0) ⌝ }
-    ensures { λ _. ⌜ (length (now (responses .exit)) ≡ bufferWords) × Held course (λ l i. crossed (filterAt filters) (course .lines) (course .places) (pastEdges plan (now (strips .entry)) k) (course .pass) i l) (now (responses .exit)) ⌝ }
+    ensures { λ _. ⌜ (length (now (responses .exit)) ≡ responseWords) × ((H : ℕ → ℕ → ℕ → ℕ) → LinesReady (filterAt filters) course H (now (lines .entry)) → Held course (λ l i. crossed (filterAt filters) (course .lines) (course .places) H (course .pass) i l) (now (responses .exit))) ⌝ }
 {
     let mut pass = 0;
     while pass < course.first {
-        let strip = strips::strip_before(plan, k, pass);
-        cross_pass(responses, strips, strip, course, filters, pass);
+        cross_pass(responses, lines, course, filters, pass);
         pass += 1;
     }
 }
@@ -295,10 +340,10 @@ fn add_line(
     at: usize,
     order: usize,
     history: [u64; plan::ORDER_LIMIT],
-    square: [[u64; plan::ORDER_LIMIT]; plan::ORDER_LIMIT],
+    square: &[[u64; plan::ORDER_LIMIT]; plan::ORDER_LIMIT],
 )
     requires { ⌜ (order ≤ orderLimit) × (at + order ≤ length (now responses)) ⌝ }
-    ensures { λ _. ⌜ now (responses .exit) ≡ lineAdded at history square order (now (responses .entry)) ⌝ }
+    ensures { λ _. ⌜ now (responses .exit) ≡ lineAdded at history (now (square .entry)) order (now (responses .entry)) ⌝ }
 {
     let mut place = 0;
     while place < order {
@@ -319,7 +364,7 @@ fn add_lines(
     order: usize,
     square: [[u64; plan::ORDER_LIMIT]; plan::ORDER_LIMIT],
 )
-    requires { ⌜ CourseFits course × ((order ≤ orderLimit) × ((length (now responses) ≡ bufferWords) × StripFits (length (now strips)) strip)) ⌝ }
+    requires { ⌜ CourseFits course × ((order ≤ orderLimit) × ((length (now responses) ≡ responseWords) × StripFits (length (now strips)) strip)) ⌝ }
     ensures { λ _. ⌜ LinesAdded (course .lines) (course .order) (historyWord (directionOf pass) order strip (now (strips .entry))) square (now (responses .entry)) (now (responses .exit)) ⌝ }
 {
     let mut line = 0;
@@ -330,7 +375,7 @@ fn add_lines(
             (plan::ORDER_LIMIT + line) * plan::ORDER_LIMIT,
             course.order,
             history,
-            square,
+            &square,
         );
         line += 1;
     }
@@ -339,6 +384,7 @@ fn add_lines(
 // Adds the histories of a pass of the link's axis to the responses.
 fn carry_pass(
     responses: &mut [u64],
+    lines: &[u64],
     strips: &[u64],
     plan: Plan,
     k: usize,
@@ -346,18 +392,13 @@ fn carry_pass(
     filters: [FilterWords; 4],
     pass: usize,
 )
-    requires { ⌜ LinkFits plan k course filters (length (now strips)) (length (now responses)) ⌝ }
-    requires { ⌜ (course .first ≤ pass) × (pass < course .first + course .passes) ⌝ }
+    requires { ⌜ LinkFits plan k course filters (length (now strips)) × ((course .first ≤ pass) × ((pass < course .first + course .passes) × (length (now responses) ≡ responseWords))) ⌝ }
+    requires { ⌜ LinesReady (filterAt filters) course (pastEdges plan (now strips) k) (now lines) ⌝ }
     ensures { λ _. ⌜ Carried (filterAt filters) course pass (pastEdges plan (now (strips .entry)) k pass) (now (responses .entry)) (now (responses .exit)) ⌝ }
 {
     let filter = filters[pass];
-    let square = squares::link_square(
-        filters,
-        course.places,
-        course.from,
-        pass,
-        course.first + course.passes - pass,
-    );
+    let row = squares::rows_before(filters, pass);
+    let square = squares::square_from(lines, row, course.from);
     let past_edge = strips::strip_before(plan, k, pass);
     add_lines(
         responses,
@@ -373,20 +414,23 @@ fn carry_pass(
 // Adds the histories of all passes of the link's axis to the responses.
 fn carry(
     responses: &mut [u64],
+    lines: &[u64],
     strips: &[u64],
     plan: Plan,
     k: usize,
     course: Course,
     filters: [FilterWords; 4],
 )
-    requires { ⌜ LinkFits plan k course filters (length (now strips)) (length (now responses)) ⌝ }
+    requires { ⌜ LinkFits plan k course filters (length (now strips)) × (length (now responses) ≡ responseWords) ⌝ }
+    requires { ⌜ LinesReady (filterAt filters) course (pastEdges plan (now strips) k) (now lines) ⌝ }
     requires { ⌜ Held course (λ l i. crossed (filterAt filters) (course .lines) (course .places) (pastEdges plan (now strips) k) (course .pass) i l) (now responses) ⌝ }
-    ensures { λ _. ⌜ (length (now (responses .exit)) ≡ bufferWords) × Held course (λ l i. response (filterAt filters) (course .lines) (course .places) (pastEdges plan (now (strips .entry)) k) (course .pass) l i) (now (responses .exit)) ⌝ }
+    ensures { λ _. ⌜ (length (now (responses .exit)) ≡ responseWords) × Held course (λ l i. response (filterAt filters) (course .lines) (course .places) (pastEdges plan (now (strips .entry)) k) (course .pass) l i) (now (responses .exit)) ⌝ }
 {
     let mut done = 0;
     while done < course.passes {
         carry_pass(
             responses,
+            lines,
             strips,
             plan,
             k,
@@ -400,7 +444,7 @@ fn carry(
 
 // The word of the strip at a line and a place: 0 outside the block.
 fn linked_word(course: Course, responses: &[u64], own: u64, line: usize, place: usize) -> u64
-    requires { ⌜ CourseFits course × ((place < course .order) × (length (now responses) ≡ bufferWords)) ⌝ }
+    requires { ⌜ CourseFits course × ((place < course .order) × (length (now responses) ≡ responseWords)) ⌝ }
     ensures { λ r. ⌜ r ≡ linkedWord course (now (responses .entry)) own line place ⌝ }
 {
     let column = course.from + place;
@@ -450,7 +494,7 @@ fn next_position(position: Position, pass: usize, side: usize, order: usize) -> 
 
 // Writes the strip whole.
 fn write_strip(strips: &mut [u64], start: usize, side: usize, course: Course, responses: &[u64])
-    requires { ⌜ CourseFits course × (StripLong (length (now strips)) course side start × (length (now responses) ≡ bufferWords)) ⌝ }
+    requires { ⌜ CourseFits course × (StripLong (length (now strips)) course side start × (length (now responses) ≡ responseWords)) ⌝ }
     ensures { λ _. ⌜ now (strips .exit) ≡ linkedTo course (now (responses .entry)) side start (side * course .order) (now (strips .entry)) ⌝ }
 {
     let count = side * course.order;
@@ -476,9 +520,11 @@ pub fn link(plan: Plan, k: usize, pass: usize, strips: &mut [u64])
         return;
     }
     let filters = plan_filters(plan);
-    let mut responses = [0; squares::BUFFER];
-    cross(&mut responses, strips, plan, k, course, filters);
-    carry(&mut responses, strips, plan, k, course, filters);
+    let mut lines = [0; squares::LINES];
+    link_lines(&mut lines, strips, plan, k, course, filters);
+    let mut responses = [0; RESPONSES];
+    cross(&mut responses, &lines, course, filters);
+    carry(&mut responses, &lines, strips, plan, k, course, filters);
     let start = strips::strip_start(plan, k, pass);
     write_strip(strips, start, plan.side, course, &responses);
 }

@@ -6,16 +6,16 @@ use Prim.Native.Nat.{ℕ, zero, suc, _+_, _%_, _≤_, _<_, _^_}
 use native.Mathlib.Nat.{add-suc, add-zero, zero-mod}
 use native.Mathlib.Omega.{arith}
 use native.Mathlib.Decide.{decLt}
-use lib.Dec.{ltb, eqb}
 use borrow.Author.Tests.{lt-ltb, le-ltb, eq-eqb, ne-eqb, eqb-true}
-use Rattle.word.specs.Word.{modulus, _⊕_}
+use lib.Dec.{ltb, eqb}
 use Rattle.word.proofs.Ring.{zero-left, zero-right, zero-add, reduced-small}
-use Rattle.passes.specs.Filter.{Filter}
-use Rattle.passes.specs.Passes.{directionOf, filterLine}
-use Rattle.passes.specs.Square.{weightedSum}
+use Rattle.word.specs.Word.{modulus, _⊕_}
 use Rattle.passes.proofs.Linear.{Linear, pair, linear-zero, linear-add, linear-reduce}
 use Rattle.passes.proofs.Passes.{filterLine-linear, filterLine-history, filterLine-reads, filterLine-small}
 use Rattle.passes.proofs.Square.{linear-none, linear-place, linear-filterLine, linear-is-weightedSum}
+use Rattle.passes.specs.Filter.{Filter}
+use Rattle.passes.specs.Passes.{directionOf, filterLine}
+use Rattle.passes.specs.Square.{weightedSum}
 use Rattle.squares.specs.LinePasses.{linePasses, onlyAt, passSquare, withHistories}
 
 -- ---- linear ways of combining

@@ -1,23 +1,23 @@
 -- Passes along the rows of a buffer are the passes over its lines. Assumes nothing.
-use mathlib.Core.Path.{_≡_, refl, ap, _∙_}
 use mathlib.Core.List.{List}
+use mathlib.Core.Path.{_≡_, refl, ap, _∙_}
 use mathlib.Core.Logic.{_≢_}
 use Prim.Native.Nat.{ℕ, zero, suc, _+_, _-_, _%_, _<_, _≤_}
-use native.Mathlib.Numerals.{add-one}
 use native.Mathlib.Omega.{arith}
+use native.Mathlib.Numerals.{add-one}
 use lib.ListN.{length, replicate}
 use Rattle.plan.specs.Rules.{orderLimit}
+use Rattle.passes.proofs.Passes.{filterLine-reads}
 use Rattle.passes.specs.Filter.{Filter}
 use Rattle.passes.specs.Passes.{Axis, rows, Direction, forward, backward, axisOf, directionOf, filterLines}
-use Rattle.passes.proofs.Passes.{filterLine-reads}
-use Rattle.filter.specs.declared.Window.{Window}
-use Rattle.filter.specs.Buffer.{wordAt}
-use Rattle.filter.specs.Windows.{pixelPlace, windowOf, beyond, wordsBesideWindow, windowPass, WindowFits}
 use Rattle.filter.proofs.Numbers.{axis-rows}
 use Rattle.filter.proofs.RowMajor.{same-row-column}
 use Rattle.filter.proofs.Windows.{Passed, windowPass-passed}
+use Rattle.filter.specs.Buffer.{wordAt}
+use Rattle.filter.specs.Windows.{pixelPlace, windowOf, beyond, wordsBesideWindow, windowPass, WindowFits}
+use Rattle.filter.specs.declared.Window.{Window}
 use Rattle.squares.specs.LinePasses.{linePasses}
-use Rattle.squares.specs.Lines.{rowWords, bufferWords, lineWindow, rowPass, OrdersFit, linesPassed}
+use Rattle.squares.specs.Lines.{rowWords, lineRows, lineWords, lineWindow, rowPass, OrdersFit, linesPassed}
 
 -- A buffer of zeros.
 pub zeros-at : (n z : ℕ) → wordAt (replicate n 0) z ≡ 0
@@ -68,14 +68,14 @@ beside-lines d places l k y x a b c e =
 -- ---- passes along rows
 
 -- The lines of a buffer fit it.
-lines-fit-along : (n count places : ℕ) (d : Direction) → 0 < count → count ≤ orderLimit → 0 < places → places ≤ 32
-    → bufferWords ≤ n → WindowFits n rows d (lineWindow count places) orderLimit
+lines-fit-along : (n count places : ℕ) (d : Direction) → 0 < count → count ≤ lineRows → 0 < places → places ≤ 32
+    → lineWords ≤ n → WindowFits n rows d (lineWindow count places) orderLimit
 lines-fit-along n count places forward a b c d e =
     record { tall = a; wide = c; start = omega arith; in-row = omega arith; in-buffer = omega arith }
 lines-fit-along n count places backward a b c d e =
     record { tall = a; wide = c; start = omega arith; in-row = omega arith; in-buffer = omega arith }
 
-pub lines-fit : (n count places pass : ℕ) → 0 < count → count ≤ orderLimit → 0 < places → places ≤ 32 → bufferWords ≤ n
+pub lines-fit : (n count places pass : ℕ) → 0 < count → count ≤ lineRows → 0 < places → places ≤ 32 → lineWords ≤ n
     → WindowFits n (axisOf (rowPass pass)) (directionOf (rowPass pass)) (lineWindow count places) orderLimit
 lines-fit n count places pass a b c d e = rw (row-axis pass) (lines-fit-along n count places _ a b c d e)
 
@@ -106,12 +106,12 @@ pub record Lined (filters : ℕ → Filter) (count places t m : ℕ) (before aft
       → wordsBesideWindow rows d (lineWindow count places) after l k
       ≡ wordsBesideWindow rows d (lineWindow count places) before l k
 
-module _ (filters : ℕ → Filter) (count places : ℕ) (some-count : 0 < count) (few-count : count ≤ orderLimit)
+module _ (filters : ℕ → Filter) (count places : ℕ) (some-count : 0 < count) (few-count : count ≤ lineRows)
     (some-places : 0 < places) (few-places : places ≤ 32) (fit : OrdersFit filters) where
   abbrev W : Window
   W = lineWindow count places
 
-  one-pass : (u : ℕ) → u < 4 → (buffer : List ℕ) → bufferWords ≤ length buffer
+  one-pass : (u : ℕ) → u < 4 → (buffer : List ℕ) → lineWords ≤ length buffer
       → Passed rows (directionOf u) W (filters u) (wordsBesideWindow rows (directionOf u) W buffer) buffer
       (windowPass (rowPass u) W orderLimit (filters u) buffer)
   one-pass u h buffer b =
@@ -120,7 +120,7 @@ module _ (filters : ℕ → Filter) (count places : ℕ) (some-count : 0 < count
       (lines-fit (length buffer) count places u some-count few-count some-places few-places b)
       (record { near = λ l k a b c. refl; far = λ l k a b c. absurd (omega (arith, fit .order-limited u h)) }))
 
-  pub lines-passed : (t m : ℕ) → t + m ≤ 4 → (buffer : List ℕ) → bufferWords ≤ length buffer
+  pub lines-passed : (t m : ℕ) → t + m ≤ 4 → (buffer : List ℕ) → lineWords ≤ length buffer
       → Lined filters count places t m buffer (linesPassed filters count places t m buffer)
   unfolding linePasses linesPassed filterLines
   lines-passed t zero h buffer b = record { length-kept = refl; at = λ l i p q. refl; beside = λ d l k p q. refl }

@@ -3,10 +3,10 @@
 use mathlib.Core.Path.{_≡_, refl, ap, _∙_}
 use Prim.Native.Nat.{ℕ, zero, suc, _<_}
 use native.Mathlib.Omega.{arith}
-use Rattle.passes.specs.Filter.{Filter}
-use Rattle.passes.specs.Passes.{axisOf, along, across, lineOf, filterLines, passesOver}
 use Rattle.passes.proofs.Linear.{Linear, linear-zero}
 use Rattle.passes.proofs.Square.{linear-none, linear-place}
+use Rattle.passes.specs.Filter.{Filter}
+use Rattle.passes.specs.Passes.{axisOf, along, across, lineOf, filterLines, passesOver}
 use Rattle.squares.specs.LinePasses.{axisStart, axisPasses, linePasses, withHistories, rowEnd, crossed, response}
 use Rattle.squares.proofs.LinePasses.{linePasses-linear, linear-linePasses, linePasses-by-histories}
 

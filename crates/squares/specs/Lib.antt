@@ -1,2 +1,3 @@
 pub mod LinePasses
 pub mod Lines
+pub mod Rows

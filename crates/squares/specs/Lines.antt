@@ -1,26 +1,27 @@
 -- Lines in a buffer, one to a row, with room beside each for the outputs past its ends.
 use mathlib.Core.List.{List, []}
-use mathlib.Core.Path.{_≡_}
-use Prim.Native.Nat.{ℕ, zero, suc, _+_, _-_, _*_, _%_, _<_, _≤_}
+use Prim.Native.Nat.{ℕ, zero, suc, _+_, _*_, _%_, _<_, _≤_}
 use lib.ListN.{getD}
 use Rattle.plan.specs.Rules.{orderLimit}
 use Rattle.passes.specs.Filter.{Filter}
 use Rattle.passes.specs.Passes.{Direction}
-use Rattle.filter.specs.declared.FilterWords.{FilterWords}
-use Rattle.filter.specs.declared.Window.{Window}
 use Rattle.filter.specs.Filters.{filterWith}
 use Rattle.filter.specs.Windows.{windowPass, beyond}
-use Rattle.filter.specs.Buffer.{wordAt}
 use Rattle.filter.specs.Written.{written}
-use Rattle.squares.specs.LinePasses.{passSquare}
+use Rattle.filter.specs.declared.FilterWords.{FilterWords}
+use Rattle.filter.specs.declared.Window.{Window}
 
 -- The words of a row: the longest line, and a history at both ends.
 abbrev pub rowWords : ℕ
 rowWords = 32 + 2 * orderLimit
 
--- The words of a buffer: a row for each place of a history.
-abbrev pub bufferWords : ℕ
-bufferWords = orderLimit * rowWords
+-- The rows of a buffer: one for each place of the histories of four passes.
+abbrev pub lineRows : ℕ
+lineRows = 4 * orderLimit
+
+-- The words of a buffer.
+abbrev pub lineWords : ℕ
+lineWords = lineRows * rowWords
 
 -- The filter of a pass, of the words of four filters.
 abbrev pub filterAt : List FilterWords → ℕ → Filter
@@ -29,6 +30,11 @@ filterAt filters pass = filterWith (getD filters pass (record { gain = 0; order 
 -- No order is above the limit.
 pub record OrdersFit (filters : ℕ → Filter) : Type 0 where
   pub order-limited : (pass : ℕ) → pass < 4 → filters pass .order ≤ orderLimit
+
+-- The rows of the passes before a pass.
+unfoldable pub rowsBefore : (ℕ → Filter) → ℕ → ℕ
+rowsBefore filters zero = 0
+rowsBefore filters (suc pass) = rowsBefore filters pass + filters pass .order
 
 -- The lines of the first rows.
 abbrev pub lineWindow : (rows places : ℕ) → Window
@@ -45,34 +51,24 @@ linesPassed filters rows places t (suc m) buffer =
     windowPass (rowPass (t + m)) (lineWindow rows places) orderLimit (filters (t + m))
     (linesPassed filters rows places t m buffer)
 
--- The buffer with a 1 at distance j past the end of line j where a pass comes from, for each j below the order: of zeros it
--- makes the unit histories.
-unfoldable pub unitLines : Direction → (places order : ℕ) → List ℕ → List ℕ
-unitLines d places order buffer =
-    written (λ j. j * rowWords + beyond d orderLimit places j) (λ j. 1) order buffer
+-- The buffer with a 1 at distance j past the end of line j from a row on, where a pass comes from, for each j below the
+-- order: of zeros it makes the unit histories.
+unfoldable pub unitLines : Direction → (row places order : ℕ) → List ℕ → List ℕ
+unitLines d row places order buffer =
+    written (λ j. (row + j) * rowWords + beyond d orderLimit places j) (λ j. 1) order buffer
 
 -- What the passes t, .. t+m-1 along the first rows of a buffer of n words want.
 pub record LinesFit (n : ℕ) (filters : ℕ → Filter) (rows places t m : ℕ) : Type 0 where
   pub some-rows : 0 < rows
-  pub few-rows : rows ≤ orderLimit
+  pub few-rows : rows ≤ lineRows
   pub some-places : 0 < places
   pub few-places : places ≤ 32
-  pub long : bufferWords ≤ n
+  pub long : lineWords ≤ n
   pub passes : t + m ≤ 4
   pub orders : OrdersFit filters
 
--- What the square of pass t wants, m passes being run.
-pub record SquareFits (filters : ℕ → Filter) (places from t m : ℕ) : Type 0 where
-  pub some-places : 0 < places
+-- What the unit histories from a row on want.
+pub record UnitsFit (n row places order : ℕ) : Type 0 where
   pub few-places : places ≤ 32
-  pub inside : from ≤ orderLimit + places
-  pub some-passes : 0 < m
-  pub few-passes : m ≤ 2
-  pub passes : t + m ≤ 4
-  pub orders : OrdersFit filters
-
--- An array of arrays is the square of pass t: what each place j of its history counts after m passes, at each place p whose
--- column, from `from` on, lies in the line.
-pub record Square (filters : ℕ → Filter) (places from t m : ℕ) (square : List (List ℕ)) : Type 0 where
-  pub at : (p j : ℕ) → p < orderLimit → j < filters t .order → orderLimit ≤ from + p → from + p < orderLimit + places
-      → wordAt (getD square p []) j ≡ passSquare filters places t m ((from + p) - orderLimit) j
+  pub order-limited : order ≤ orderLimit
+  pub long : (row + order) * rowWords ≤ n

@@ -10,13 +10,13 @@ ghost use Rattle.plan.specs.Rules.{orderLimit};
 ghost use Rattle.passes.specs.Passes.{directionOf};
 ghost use Rattle.filter.specs.Buffer.{wordAt};
 ghost use Rattle.filter.specs.Windows.{beyond};
-ghost use Rattle.squares.specs.Lines.{rowWords, bufferWords, filterAt, OrdersFit, linesPassed, unitLines, LinesFit, SquareFits, Square};
+ghost use Rattle.squares.specs.Lines.{rowWords, filterAt, OrdersFit, rowsBefore, linesPassed, unitLines, LinesFit, UnitsFit};
 
 // The words of a row of lines: the longest line, and a history at both ends.
 pub const ROW: usize = 32 + 2 * plan::ORDER_LIMIT;
 
-// The words of a buffer of lines: a row for each place of a history.
-pub const BUFFER: usize = plan::ORDER_LIMIT * ROW;
+// The words of a buffer of lines: a row for each place of the histories of four passes.
+pub const LINES: usize = 4 * plan::ORDER_LIMIT * ROW;
 
 // The index, from the start of a margin of ORDER_LIMIT places on, of the place at a distance past an extent, on the side
 // where a pass comes from.
@@ -59,66 +59,62 @@ pub fn run_lines(
     }
 }
 
-// Puts the unit history j beside line j, for each j below the order.
-fn unit_lines(lines: &mut [u64], pass: usize, places: usize, order: usize)
-    requires { ⌜ (order ≤ orderLimit) × ((places ≤ 32) × (bufferWords ≤ length (now lines))) ⌝ }
-    ensures { λ _. ⌜ now (lines .exit) ≡ unitLines (directionOf pass) places order (now (lines .entry)) ⌝ }
+// The rows of the passes before a pass.
+pub fn rows_before(filters: [FilterWords; 4], pass: usize) -> usize
+    requires { ⌜ OrdersFit (filterAt filters) × (pass ≤ 4) ⌝ }
+    ensures { λ r. ⌜ r ≡ rowsBefore (filterAt filters) pass ⌝ }
+{
+    let mut rows = 0;
+    let mut before = 0;
+    while before < pass {
+        let filter = filters[before];
+        rows += filter.order;
+        before += 1;
+    }
+    rows
+}
+
+// Puts the unit history j beside line j, from a row on, for each j below the order.
+pub fn unit_lines(lines: &mut [u64], row: usize, pass: usize, places: usize, order: usize)
+    requires { ⌜ UnitsFit (length (now lines)) row places order ⌝ }
+    ensures { λ _. ⌜ now (lines .exit) ≡ unitLines (directionOf pass) row places order (now (lines .entry)) ⌝ }
 {
     let mut line = 0;
     while line < order {
         let column = margin(pass, places, line);
-        lines[line * ROW + column] = 1;
+        lines[(row + line) * ROW + column] = 1;
         line += 1;
     }
 }
 
-// What each line has in a column.
-fn square_row(lines: &[u64], column: usize) -> [u64; plan::ORDER_LIMIT]
-    requires { ⌜ (column < rowWords) × (bufferWords ≤ length (now lines)) ⌝ }
-    ensures { λ r. ⌜ ((line : ℕ) → line < orderLimit → wordAt r line ≡ wordAt (now (lines .entry)) (line * rowWords + column)) ⌝ }
+// What each line, from a row on, has in a column.
+fn square_row(lines: &[u64], row: usize, column: usize) -> [u64; plan::ORDER_LIMIT]
+    requires { ⌜ (column < rowWords) × ((row + orderLimit) * rowWords ≤ length (now lines)) ⌝ }
+    ensures { λ r. ⌜ ((line : ℕ) → line < orderLimit → wordAt r line ≡ wordAt (now (lines .entry)) ((row + line) * rowWords + column)) ⌝ }
 {
-    let mut row = [0; plan::ORDER_LIMIT];
+    let mut words = [0; plan::ORDER_LIMIT];
     let mut line = 0;
     while line < plan::ORDER_LIMIT {
-        row[line] = lines[line * ROW + column];
+        words[line] = lines[(row + line) * ROW + column];
         line += 1;
     }
-    row
+    words
 }
 
-// What each line has in the columns from `from` on.
-fn square_from(lines: &[u64], from: usize) -> [[u64; plan::ORDER_LIMIT]; plan::ORDER_LIMIT]
-    requires { ⌜ (from + orderLimit ≤ rowWords) × (bufferWords ≤ length (now lines)) ⌝ }
-    ensures { λ r. ⌜ ((place line : ℕ) → place < orderLimit → line < orderLimit → wordAt (getD r place []) line ≡ wordAt (now (lines .entry)) (line * rowWords + (from + place))) ⌝ }
+// A square: what each line, from a row on, has in the columns from `from` on.
+pub fn square_from(
+    lines: &[u64],
+    row: usize,
+    from: usize,
+) -> [[u64; plan::ORDER_LIMIT]; plan::ORDER_LIMIT]
+    requires { ⌜ (from + orderLimit ≤ rowWords) × ((row + orderLimit) * rowWords ≤ length (now lines)) ⌝ }
+    ensures { λ r. ⌜ ((place line : ℕ) → place < orderLimit → line < orderLimit → wordAt (getD r place []) line ≡ wordAt (now (lines .entry)) ((row + line) * rowWords + (from + place))) ⌝ }
 {
     let mut square = [[0; plan::ORDER_LIMIT]; plan::ORDER_LIMIT];
     let mut place = 0;
     while place < plan::ORDER_LIMIT {
-        square[place] = square_row(lines, from + place);
+        square[place] = square_row(lines, row, from + place);
         place += 1;
     }
     square
-}
-
-// The square of a pass: what the places of its history count, after this pass and those up to `count` from it on, at the
-// places of a line from column `from` on.
-pub fn link_square(
-    filters: [FilterWords; 4],
-    places: usize,
-    from: usize,
-    pass: usize,
-    count: usize,
-) -> [[u64; plan::ORDER_LIMIT]; plan::ORDER_LIMIT]
-    requires { ⌜ SquareFits (filterAt filters) places from pass count ⌝ }
-    ensures { λ r. ⌜ Square (filterAt filters) places from pass count r ⌝ }
-{
-    let filter = filters[pass];
-    let order = filter.order;
-    if order == 0 {
-        return [[0; plan::ORDER_LIMIT]; plan::ORDER_LIMIT];
-    }
-    let mut lines = [0; BUFFER];
-    unit_lines(&mut lines, pass, places, order);
-    run_lines(&mut lines, order, places, filters, pass, count);
-    square_from(&lines, from)
 }

@@ -24,8 +24,8 @@ loop-holds c = (omega arith, refl, refl)
 mul-weights : tie.Need-mul-weights Inv-loop μ-loop
 mul-weights c = search needs
 
-array-copy-out-weights : tie.Need-array-copy-out-weights Inv-loop μ-loop
-array-copy-out-weights c = search needs
+element-copy-out-weights : tie.Need-element-copy-out-weights Inv-loop μ-loop
+element-copy-out-weights c = search needs
 
 weighted-sum-requires : tie.Need-weighted-sum-requires Inv-loop μ-loop
 weighted-sum-requires c κs = search needs
@@ -64,8 +64,8 @@ loop-again c =
     let a = l .before .before .args in (
       omega arith,
       length-set (l .loop .responses) _ _ ∙ l .loop .inv .1,
-      line-added-next (a .at) (a .history) (a .t5) (l .loop .place) (a .responses .now) (l .loop .inv .2) (w .weighted-sum .ensures)
-          (c .add .ensures),
+      line-added-next (a .at) (a .history) (a .square .now) (l .loop .place) (a .responses .now) (l .loop .inv .2)
+          (w .weighted-sum .ensures) (c .add .ensures),
     )
 
 same-length : tie.Need-same-length Inv-loop μ-loop
@@ -84,7 +84,7 @@ add-line-spec =
     μ-loop
     loop-holds
     mul-weights
-    array-copy-out-weights
+    element-copy-out-weights
     weighted-sum-requires
     add-add
     mul-add

@@ -31,9 +31,11 @@ mul-add-line c = search needs
 
 add-line-requires : tie.Need-add-line-requires Inv-loop μ-loop
 add-line-requires c κs =
-    let l = c .before .before .before .before in
-    let a = l .before .before .before in
-    (a .pre .0 .order-limited, omega (arith, a .pre .0 .order-limited, a .pre .0 .few-lines, l .loop .inv .1 .length-kept))
+    let l = c .before .before .before .before .before in
+    let a = l .before .before .before in (
+      a .pre .0 .order-limited,
+      omega (arith, a .pre .0 .order-limited, a .pre .0 .few-lines, l .loop .inv .1 .length-kept),
+    )
 
 add-line : tie.Need-add-line Inv-loop μ-loop
 add-line c = search needs
@@ -44,13 +46,13 @@ loop-less c = search needs
 loop-again : tie.Need-loop-again Inv-loop μ-loop
 loop-again c =
     let p = c .before .before in
-    let h = p .before .before in
+    let h = p .before .before .before in
     let l = h .before .before .before in
     let a = l .before .before .before in (
       omega arith,
-      lines-next (l .loop .line) (a .args .course .order) _ (a .args .square) (a .args .responses .now)
-          (a .pre .0 .order-limited) (omega (arith, a .pre .0 .few-lines)) (a .pre .1 .1 .0) (h .history-of .result) (l .loop .inv .1)
-          (h .history-of .ensures) (p .add-line .ensures),
+      lines-next (l .loop .line) (a .args .course .order) _ (a .args .t7) (a .args .responses .now)
+          (a .pre .0 .order-limited) (omega (arith, a .pre .0 .few-lines)) (a .pre .1 .1 .0) (h .history-of .result)
+          (l .loop .inv .1) (h .history-of .ensures) (p .add-line .ensures),
     )
 
 same-length : tie.Need-same-length Inv-loop μ-loop

@@ -2,8 +2,10 @@
 use Prim.Native.Nat.{_<_}
 use native.Mathlib.Omega.{arith}
 use borrow.Author.Needs.{needs}
+use Rattle.squares.proofs.Rows.{rows-few}
+use Rattle.squares.specs.Lines.{filterAt}
 use Rattle.link.proofs.Carrying.{histories-carried}
-use Rattle.link.proofs.Courses.{link-orders, before-strip-fits, square-fits}
+use Rattle.link.proofs.Courses.{link-orders, before-strip-fits}
 use Rattle.link.proofs.carry_pass.Statement.{statement}
 use Rattle.link.proofs.carry_pass.Tie as tie
 
@@ -13,16 +15,24 @@ mul-filter c = search needs
 array-copy-out-filter : tie.Need-array-copy-out-filter
 array-copy-out-filter c = search needs
 
-add-link-square : tie.Need-add-link-square
-add-link-square c = search needs
-
-sub-link-square : tie.Need-sub-link-square
-sub-link-square c = search needs
-
-link-square-requires : tie.Need-link-square-requires
-link-square-requires c κs =
+rows-before-requires : tie.Need-rows-before-requires
+rows-before-requires c κs =
     let a = c .before .before .before .before in
-    square-fits (a .pre .0) (a .args .pass) (a .pre .1 .0) (a .pre .1 .1)
+    (link-orders (a .pre .0 .0), omega (arith, a .pre .0 .0 .course-fits .passes-counted))
+
+square-from-requires : tie.Need-square-from-requires
+square-from-requires c κs =
+    let a = c .before .before .before .before .before in
+    let fits = a .pre .0 .0 in
+    let h : a .args .pass < 4 = omega (arith, fits .course-fits .passes-counted) in (
+      omega (arith, fits .course-fits .inside, fits .course-fits .few-places),
+      rw (c .rows-before .ensures)
+          (omega (
+            arith,
+            a .pre .1 .length-is,
+            rows-few (filterAt (a .args .t7)) (link-orders fits) (a .args .pass) (omega arith),
+          )),
+    )
 
 strip-before-requires : tie.Need-strip-before-requires
 strip-before-requires c κs = search needs
@@ -30,14 +40,15 @@ strip-before-requires c κs = search needs
 add-lines-requires : tie.Need-add-lines-requires
 add-lines-requires c κs =
     let s = c .before in
-    let a = s .before .before .before .before .before .before in
-    let h : a .args .pass < 4 = omega (arith, a .pre .0 .course-fits .passes-counted) in (
-      a .pre .0 .course-fits,
+    let a = s .before .before .before .before .before .before .before in
+    let fits = a .pre .0 .0 in
+    let h : a .args .pass < 4 = omega (arith, fits .course-fits .passes-counted) in (
+      fits .course-fits,
       (
-        link-orders (a .pre .0) .order-limited (a .args .pass) h,
+        link-orders fits .order-limited (a .args .pass) h,
         (
-          a .pre .0 .responses-long,
-          rw (s .strip-before .ensures) (before-strip-fits (a .pre .0) _ (omega (arith, a .pre .0 .course-fits .passes-counted))),
+          a .pre .0 .1 .1 .1,
+          rw (s .strip-before .ensures) (before-strip-fits fits _ (omega (arith, fits .course-fits .passes-counted))),
         ),
       ),
     )
@@ -50,9 +61,11 @@ returns c =
     let p = c .before .before in
     let s = p .before .before in
     let q = s .before in
-    let a = q .before .before .before .before .before in
-    histories-carried (a .pre .0) (a .args .pass) (omega (arith, a .pre .0 .course-fits .passes-counted)) (a .args .strips .now)
-    (s .strip-before .result) (s .strip-before .ensures) (q .link-square .ensures) (p .add-lines .ensures)
+    let r = q .before in
+    let a = r .before .before .before .before .before in
+    histories-carried (a .pre .0 .0) (a .args .pass) (a .pre .0 .1 .0) (a .pre .0 .1 .1 .0) (a .args .strips .now) (a .args .lines .now)
+    (a .pre .1) (s .strip-before .result) (s .strip-before .ensures) (r .rows-before .ensures) (q .square-from .ensures)
+    (p .add-lines .ensures)
 
 pub carry-pass-spec : {M : Type 1} → statement M
 carry-pass-spec =
@@ -60,9 +73,8 @@ carry-pass-spec =
     (tie.spec
     mul-filter
     array-copy-out-filter
-    add-link-square
-    sub-link-square
-    link-square-requires
+    rows-before-requires
+    square-from-requires
     strip-before-requires
     add-lines-requires
     same-length

@@ -13,11 +13,11 @@ use Rattle.link.proofs.copy_ends.Statement.{statement}
 use Rattle.link.proofs.copy_ends.Tie as tie
 
 abbrev Inv-loop : tie.InvT-loop
-Inv-loop responses₀ lines course pass order distance₀ responses distance =
-    (distance ≤ order) × (length responses ≡ length responses₀) × (responses ≡ endsCopied (directionOf pass) course lines distance responses₀)
+Inv-loop responses₀ lines row course pass order distance₀ responses distance =
+    (distance ≤ order) × (length responses ≡ length responses₀) × (responses ≡ endsCopied (directionOf pass) course row lines distance responses₀)
 
 abbrev μ-loop : tie.MeasureT-loop
-μ-loop responses₀ lines course pass order distance₀ responses distance = order - distance
+μ-loop responses₀ lines row course pass order distance₀ responses distance = order - distance
 
 -- The row of this turn is in the margin.
 row-below : (c : tie.After-margin Inv-loop μ-loop) → c .margin .result < rowWords
@@ -25,7 +25,8 @@ row-below c =
     let l = c .before .before in
     let a = l .before .before .before in
     rw (c .margin .ensures)
-    (margin-below (directionOf (a .args .pass)) (a .args .course .lines) (l .loop .distance) (a .pre .0 .few-lines) (omega arith))
+    (margin-below (directionOf (a .args .pass)) (a .args .course .lines) (l .loop .distance) (a .pre .0 .few-lines)
+    (omega (arith, a .pre .1 .0)))
 
 loop-holds : tie.Need-loop-holds Inv-loop μ-loop
 unfolding endsCopied rowsWritten
@@ -37,19 +38,24 @@ margin-requires c κs = search needs
 mul-copy-words : tie.Need-mul-copy-words Inv-loop μ-loop
 mul-copy-words c = let h = row-below (c .before) in search needs
 
+add-copy-words : tie.Need-add-copy-words Inv-loop μ-loop
+add-copy-words c = search needs
+
 mul-copy-words-2 : tie.Need-mul-copy-words-2 Inv-loop μ-loop
 mul-copy-words-2 c = search needs
 
-add-copy-words : tie.Need-add-copy-words Inv-loop μ-loop
-add-copy-words c = search needs
+add-copy-words-2 : tie.Need-add-copy-words-2 Inv-loop μ-loop
+add-copy-words-2 c = search needs
 
 copy-words-requires : tie.Need-copy-words-requires Inv-loop μ-loop
 copy-words-requires c κs =
     let m = c .before .before in
     let h = row-below m in
     let l = m .before .before in
-    let a = l .before .before .before in
-    (omega (arith, l .loop .inv .1, a .pre .0 .order-limited), omega (arith, a .pre .0 .inside, a .pre .0 .few-places, a .pre .0 .order-limited))
+    let a = l .before .before .before in (
+      omega (arith, l .loop .inv .1, a .pre .0 .order-limited),
+      omega (arith, a .pre .0 .inside, a .pre .0 .few-places, a .pre .0 .order-limited),
+    )
 
 add-distance : tie.Need-add-distance Inv-loop μ-loop
 add-distance c = search needs
@@ -65,8 +71,8 @@ loop-again c =
     let a = l .before .before .before .args in (
       omega arith,
       omega (arith, f .copy-words .kept, l .loop .inv .1),
-      ends-next (directionOf (a .pass)) (a .course) (a .lines .now) (l .loop .distance) (a .responses .now) (l .loop .inv .2)
-          (m .margin .ensures) (f .copy-words .ensures),
+      ends-next (directionOf (a .pass)) (a .course) (a .row) (a .lines .now) (l .loop .distance) (a .responses .now)
+          (l .loop .inv .2) (m .margin .ensures) (f .copy-words .ensures),
     )
 
 same-length : tie.Need-same-length Inv-loop μ-loop
@@ -86,8 +92,9 @@ copy-ends-spec =
     loop-holds
     margin-requires
     mul-copy-words
-    mul-copy-words-2
     add-copy-words
+    mul-copy-words-2
+    add-copy-words-2
     copy-words-requires
     add-distance
     loop-less

@@ -1,8 +1,8 @@
 -- `next_position` is the position after a position, by the axis of the pass.
 use Prim.Native.Nat.{_+_}
 use native.Mathlib.Omega.{arith}
-use borrow.Author.Tests.{eq-eqb, ne-eqb}
 use borrow.Author.Needs.{needs}
+use borrow.Author.Tests.{eq-eqb, ne-eqb}
 use Rattle.strips.proofs.Passes.{axis-columns, axis-rows}
 use Rattle.link.proofs.next_position.Statement.{statement}
 use Rattle.link.proofs.next_position.Tie as tie

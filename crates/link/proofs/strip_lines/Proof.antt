@@ -11,11 +11,11 @@ use Rattle.link.proofs.strip_lines.Statement.{statement}
 use Rattle.link.proofs.strip_lines.Tie as tie
 
 abbrev Inv-loop : tie.InvT-loop
-Inv-loop lines₀ places strips strip pass order distance₀ lines distance =
-    (distance ≤ order) × (length lines ≡ length lines₀) × (lines ≡ stripLines (directionOf pass) order strip strips places distance lines₀)
+Inv-loop lines₀ row places strips strip pass order distance₀ lines distance =
+    (distance ≤ order) × (length lines ≡ length lines₀) × (lines ≡ stripLines (directionOf pass) order strip strips row places distance lines₀)
 
 abbrev μ-loop : tie.MeasureT-loop
-μ-loop lines₀ places strips strip pass order distance₀ lines distance = order - distance
+μ-loop lines₀ row places strips strip pass order distance₀ lines distance = order - distance
 
 loop-holds : tie.Need-loop-holds Inv-loop μ-loop
 unfolding stripLines rowsWritten
@@ -24,11 +24,14 @@ loop-holds c = (omega arith, refl, refl)
 from-edge-requires : tie.Need-from-edge-requires Inv-loop μ-loop
 from-edge-requires c κs = search needs
 
+add-strip-line : tie.Need-add-strip-line Inv-loop μ-loop
+add-strip-line c = search needs
+
 strip-line-requires : tie.Need-strip-line-requires Inv-loop μ-loop
 strip-line-requires c κs =
     let l = c .before .before .before in
     let a = l .before .before .before in
-    (omega arith, (a .pre .1 .0, (omega (arith, l .loop .inv .1), a .pre .1 .1 .1)))
+    (omega (arith, a .pre .0), (a .pre .1 .0, (omega (arith, l .loop .inv .1), a .pre .1 .1 .1)))
 
 add-distance : tie.Need-add-distance Inv-loop μ-loop
 add-distance c = search needs
@@ -44,8 +47,8 @@ loop-again c =
     let a = l .before .before .before .args in (
       omega arith,
       omega (arith, f .strip-line .kept, l .loop .inv .1),
-      strip-lines-next (directionOf (a .pass)) (a .order) (a .strip) (a .strips .now) (a .places) (l .loop .distance) (a .lines .now) (l .loop .inv .2)
-          (m .from-edge .ensures) (f .strip-line .ensures),
+      strip-lines-next (directionOf (a .pass)) (a .order) (a .strip) (a .strips .now) (a .row) (a .places) (l .loop .distance)
+          (a .lines .now) (l .loop .inv .2) (m .from-edge .ensures) (f .strip-line .ensures),
     )
 
 same-length : tie.Need-same-length Inv-loop μ-loop
@@ -64,6 +67,7 @@ strip-lines-spec =
     μ-loop
     loop-holds
     from-edge-requires
+    add-strip-line
     strip-line-requires
     add-distance
     loop-less

@@ -1,6 +1,6 @@
 -- `square_from` has the rows of the columns passed so far.
-use mathlib.Core.List.{[]}
 use mathlib.Core.Path.{_≡_, refl, _∙_}
+use mathlib.Core.List.{[]}
 use Prim.Native.Nat.{ℕ, _+_, _-_, _*_, _<_, _≤_}
 use native.Mathlib.Omega.{arith}
 use borrow.Author.Needs.{needs}
@@ -13,13 +13,14 @@ use Rattle.squares.proofs.square_from.Statement.{statement}
 use Rattle.squares.proofs.square_from.Tie as tie
 
 abbrev Inv-loop : tie.InvT-loop
-Inv-loop lines from square₀ place₀ square place =
+Inv-loop lines row from square₀ place₀ square place =
     (place ≤ orderLimit)
     × (length square ≡ orderLimit)
-    × ((p j : ℕ) → p < place → j < orderLimit → wordAt (getD square p []) j ≡ wordAt lines (j * rowWords + (from + p)))
+    × ((p j : ℕ) → p < place → j < orderLimit
+    → wordAt (getD square p []) j ≡ wordAt lines ((row + j) * rowWords + (from + p)))
 
 abbrev μ-loop : tie.MeasureT-loop
-μ-loop lines from square₀ place₀ square place = orderLimit - place
+μ-loop lines row from square₀ place₀ square place = orderLimit - place
 
 loop-holds : tie.Need-loop-holds Inv-loop μ-loop
 loop-holds c = (omega arith, refl, λ p j h. absurd (omega arith))
@@ -48,7 +49,7 @@ loop-again c =
     let a = l .before .before .args in (
       omega arith,
       length-set (l .loop .square) _ _ ∙ l .loop .inv .1,
-      square-next (λ p j. wordAt (a .lines .now) (j * rowWords + (a .from + p))) (l .loop .place) (l .loop .square) _
+      square-next (λ p j. wordAt (a .lines .now) ((a .row + j) * rowWords + (a .from + p))) (l .loop .place) (l .loop .square) _
           (omega (arith, l .loop .inv .1)) (λ j h. c .square-row .ensures j h) (l .loop .inv .2),
     )
 

@@ -5,41 +5,44 @@ use native.Mathlib.Omega.{arith}
 use borrow.Author.Needs.{needs}
 use lib.ListN.{length, length-set}
 use Rattle.plan.specs.Rules.{orderLimit}
-use Rattle.filter.specs.Buffer.{wordAt}
 use Rattle.filter.proofs.Buffers.{HoldsBelow, holds-more}
+use Rattle.filter.specs.Buffer.{wordAt}
 use Rattle.squares.specs.Lines.{rowWords}
 use Rattle.squares.proofs.square_row.Statement.{statement}
 use Rattle.squares.proofs.square_row.Tie as tie
 
 abbrev Inv-loop : tie.InvT-loop
-Inv-loop lines column row₀ line₀ row line =
+Inv-loop lines row column words₀ line₀ words line =
     (line ≤ orderLimit)
-    × (length row ≡ orderLimit)
-    × HoldsBelow line (λ j. wordAt lines (j * rowWords + column)) row
+    × (length words ≡ orderLimit)
+    × HoldsBelow line (λ j. wordAt lines ((row + j) * rowWords + column)) words
 
 abbrev μ-loop : tie.MeasureT-loop
-μ-loop lines column row₀ line₀ row line = orderLimit - line
+μ-loop lines row column words₀ line₀ words line = orderLimit - line
 
 loop-holds : tie.Need-loop-holds Inv-loop μ-loop
 loop-holds c = (omega arith, refl, λ j h. absurd (omega arith))
 
-mul-row : tie.Need-mul-row Inv-loop μ-loop
-mul-row c = search needs
+add-words : tie.Need-add-words Inv-loop μ-loop
+add-words c = search needs
 
-add-row : tie.Need-add-row Inv-loop μ-loop
-add-row c = search needs
+mul-words : tie.Need-mul-words Inv-loop μ-loop
+mul-words c = search needs
 
-mul-row-2 : tie.Need-mul-row-2 Inv-loop μ-loop
-mul-row-2 c = search needs
+add-words-2 : tie.Need-add-words-2 Inv-loop μ-loop
+add-words-2 c = search needs
 
-shared-slice-read-row : tie.Need-shared-slice-read-row Inv-loop μ-loop
-shared-slice-read-row c = search needs
+mul-words-2 : tie.Need-mul-words-2 Inv-loop μ-loop
+mul-words-2 c = search needs
 
-mul-row-3 : tie.Need-mul-row-3 Inv-loop μ-loop
-mul-row-3 c = search needs
+shared-slice-read-words : tie.Need-shared-slice-read-words Inv-loop μ-loop
+shared-slice-read-words c = search needs
 
-array-write-row : tie.Need-array-write-row Inv-loop μ-loop
-array-write-row c = search needs
+mul-words-3 : tie.Need-mul-words-3 Inv-loop μ-loop
+mul-words-3 c = search needs
+
+array-write-words : tie.Need-array-write-words Inv-loop μ-loop
+array-write-words c = search needs
 
 add-line : tie.Need-add-line Inv-loop μ-loop
 add-line c = search needs
@@ -52,8 +55,9 @@ loop-again c =
     let l = c .before .before in
     let a = l .before .args in (
       omega arith,
-      length-set (l .loop .row) _ _ ∙ l .loop .inv .1,
-      holds-more (l .loop .line) (λ j. wordAt (a .lines .now) (j * rowWords + a .column)) (l .loop .row) _ (omega arith) refl (l .loop .inv .2),
+      length-set (l .loop .words) _ _ ∙ l .loop .inv .1,
+      holds-more (l .loop .line) (λ j. wordAt (a .lines .now) ((a .row + j) * rowWords + a .column)) (l .loop .words) _ (omega arith) refl
+          (l .loop .inv .2),
     )
 
 returns : tie.Need-returns Inv-loop μ-loop
@@ -66,12 +70,13 @@ square-row-spec =
     Inv-loop
     μ-loop
     loop-holds
-    mul-row
-    add-row
-    mul-row-2
-    shared-slice-read-row
-    mul-row-3
-    array-write-row
+    add-words
+    mul-words
+    add-words-2
+    mul-words-2
+    shared-slice-read-words
+    mul-words-3
+    array-write-words
     add-line
     loop-less
     loop-again

@@ -13,17 +13,19 @@ use Rattle.squares.proofs.unit_lines.Statement.{statement}
 use Rattle.squares.proofs.unit_lines.Tie as tie
 
 abbrev Inv-loop : tie.InvT-loop
-Inv-loop lines₀ pass places order line₀ lines line =
-    (line ≤ order) × (length lines ≡ length lines₀) × (lines ≡ unitLines (directionOf pass) places line lines₀)
+Inv-loop lines₀ row pass places order line₀ lines line =
+    (line ≤ order) × (length lines ≡ length lines₀) × (lines ≡ unitLines (directionOf pass) row places line lines₀)
 
 abbrev μ-loop : tie.MeasureT-loop
-μ-loop lines₀ pass places order line₀ lines line = order - line
+μ-loop lines₀ row pass places order line₀ lines line = order - line
 
 -- The column of this turn is in the row.
 column-below : (c : tie.After-margin Inv-loop μ-loop) → c .margin .result < rowWords
 column-below c =
     let a = c .before .before .before .before in
-    rw (c .margin .ensures) (margin-below (directionOf (a .args .pass)) (a .args .places) (c .before .before .loop .line) (a .pre .1 .0) (omega arith))
+    rw (c .margin .ensures)
+    (margin-below (directionOf (a .args .pass)) (a .args .places) (c .before .before .loop .line) (a .pre .few-places)
+    (omega (arith, a .pre .order-limited)))
 
 loop-holds : tie.Need-loop-holds Inv-loop μ-loop
 unfolding unitLines written
@@ -32,11 +34,14 @@ loop-holds c = (omega arith, refl, refl)
 margin-requires : tie.Need-margin-requires Inv-loop μ-loop
 margin-requires c κs = search needs
 
-mul-lines : tie.Need-mul-lines Inv-loop μ-loop
-mul-lines c = search needs
-
 add-lines : tie.Need-add-lines Inv-loop μ-loop
 add-lines c = let h = column-below c in search needs
+
+mul-lines : tie.Need-mul-lines Inv-loop μ-loop
+mul-lines c = let h = column-below c in search needs
+
+add-lines-2 : tie.Need-add-lines-2 Inv-loop μ-loop
+add-lines-2 c = let h = column-below c in search needs
 
 mul-lines-2 : tie.Need-mul-lines-2 Inv-loop μ-loop
 mul-lines-2 c = let h = column-below c in search needs
@@ -56,7 +61,7 @@ loop-again c =
     let a = l .before .before .args in (
       omega arith,
       length-set (l .loop .lines) _ _ ∙ l .loop .inv .1,
-      units-next (directionOf (a .pass)) (a .places) (l .loop .line) (a .lines .now) (l .loop .inv .2) (c .margin .ensures),
+      units-next (directionOf (a .pass)) (a .row) (a .places) (l .loop .line) (a .lines .now) (l .loop .inv .2) (c .margin .ensures),
     )
 
 same-length : tie.Need-same-length Inv-loop μ-loop
@@ -75,8 +80,9 @@ unit-lines-spec =
     μ-loop
     loop-holds
     margin-requires
-    mul-lines
     add-lines
+    mul-lines
+    add-lines-2
     mul-lines-2
     slice-write-lines
     add-line

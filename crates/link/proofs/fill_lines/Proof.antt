@@ -1,0 +1,72 @@
+-- `fill_lines` has filled the rows of the passes so far.
+use mathlib.Core.Path.{_≡_}
+use Prim.Native.Nat.{_+_, _-_, _≤_}
+use native.Mathlib.Omega.{arith}
+use borrow.Author.Needs.{needs}
+use Rattle.blocks.specs.Strips.{pastEdges}
+use Rattle.squares.specs.Lines.{filterAt}
+use Rattle.link.specs.Words.{LinesFilled}
+use Rattle.link.proofs.Crossing.{filled-none, filled-more}
+use Rattle.link.proofs.fill_lines.Statement.{statement}
+use Rattle.link.proofs.fill_lines.Tie as tie
+
+abbrev Inv-loop : tie.InvT-loop
+Inv-loop lines₀ strips plan k course filters count filled₀ lines filled =
+    (filled ≤ course .first + course .passes) × LinesFilled (filterAt filters) course (pastEdges plan strips k) filled lines
+
+abbrev μ-loop : tie.MeasureT-loop
+μ-loop lines₀ strips plan k course filters count filled₀ lines filled = count - filled
+
+add-count : tie.Need-add-count Inv-loop μ-loop
+add-count c = search needs
+
+loop-holds : tie.Need-loop-holds Inv-loop μ-loop
+loop-holds c =
+    let a = c .before .before .before in
+    (omega arith, filled-none (filterAt (a .args .filters)) (a .args .course) _ (a .args .lines .now) (a .pre .0 .1) (a .pre .1))
+
+fill-pass-requires : tie.Need-fill-pass-requires Inv-loop μ-loop
+fill-pass-requires c κs =
+    let l = c .before .before in
+    let a = l .before .before .before .before in
+    ((a .pre .0 .0, (omega arith, omega (arith, l .loop .inv .1 .length-is))), l .loop .inv .1 .zeros)
+
+add-filled : tie.Need-add-filled Inv-loop μ-loop
+add-filled c = search needs
+
+loop-less : tie.Need-loop-less Inv-loop μ-loop
+loop-less c = search needs
+
+loop-again : tie.Need-loop-again Inv-loop μ-loop
+loop-again c =
+    let p = c .before .before in
+    let l = p .before .before .before in
+    let a = l .before .before .before .before in (
+      omega arith,
+      filled-more (filterAt (a .args .filters)) (a .args .course) _ (l .loop .filled) (a .pre .0 .0 .course-fits) (l .loop .inv .1)
+          (p .fill-pass .ensures),
+    )
+
+same-length : tie.Need-same-length Inv-loop μ-loop
+same-length c = search needs
+
+returns : tie.Need-returns Inv-loop μ-loop
+returns c =
+    let a = c .before .before .before .before .before .args in
+    let e : c .before .loop .filled ≡ a .course .first + a .course .passes = omega arith in
+    rw e at (c .before .loop .inv .1)
+
+pub fill-lines-spec : {M : Type 1} → statement M
+fill-lines-spec =
+    tie.close
+    (tie.spec
+    Inv-loop
+    μ-loop
+    add-count
+    loop-holds
+    fill-pass-requires
+    add-filled
+    loop-less
+    loop-again
+    same-length
+    returns)

@@ -1,0 +1,27 @@
+-- Lines in the rows of a buffer.
+use mathlib.Core.Path.{_≡_}
+use mathlib.Core.List.{List}
+use Prim.Native.Nat.{ℕ, _+_, _*_, _<_, _≤_}
+use lib.ListN.{length}
+use Rattle.plan.specs.Rules.{orderLimit}
+use Rattle.passes.specs.Passes.{directionOf}
+use Rattle.filter.specs.Buffer.{wordAt}
+use Rattle.filter.specs.Windows.{pixelPlace, beyond}
+use Rattle.squares.specs.Lines.{rowWords}
+
+-- Row l of a buffer has the line x, and past its ends P u k for the passes t, .. t+m-1.
+pub record LineIs (places t m : ℕ) (P : ℕ → ℕ → ℕ) (x : ℕ → ℕ) (buffer : List ℕ) (l : ℕ) : Type 0 where
+  pub inside : (i : ℕ) → i < places → wordAt buffer (pixelPlace rowWords l (orderLimit + i)) ≡ x i
+  pub beside : (u k : ℕ) → t ≤ u → u < t + m → k < orderLimit
+      → wordAt buffer (pixelPlace rowWords l (beyond (directionOf u) orderLimit places k)) ≡ P u k
+
+-- All words from a row on are 0.
+abbrev pub ZerosFrom : ℕ → List ℕ → Type 0
+ZerosFrom row buffer = (z : ℕ) → row * rowWords ≤ z → wordAt buffer z ≡ 0
+
+-- n rows from a row on have got lines, and no other row has changed.
+pub record RowsFilled (places t m row n : ℕ) (P : ℕ → ℕ → ℕ → ℕ) (x : ℕ → ℕ → ℕ) (before after : List ℕ) : Type 0 where
+  pub length-kept : length after ≡ length before
+  pub below : (z : ℕ) → z < row * rowWords → wordAt after z ≡ wordAt before z
+  pub above : (z : ℕ) → (row + n) * rowWords ≤ z → wordAt after z ≡ wordAt before z
+  pub lines : (k : ℕ) → k < n → LineIs places t m (P k) (x k) after (row + k)
