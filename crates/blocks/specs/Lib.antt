@@ -2,3 +2,4 @@ pub mod Geometry
 pub mod Strips
 pub mod Writes
 pub mod Matching
+pub mod Depends

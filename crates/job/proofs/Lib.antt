@@ -1,4 +1,4 @@
 pub mod Starting
 pub mod Tasking
 pub mod Running
-pub mod Claimed
+pub mod Demand

@@ -16,22 +16,8 @@ use Rattle.plan.specs.declared.Plan.{Plan}
 use Rattle.plan.specs.Sizes.{neededPixels}
 use Rattle.plan_reader.specs.Reading.{listOf, readPlan}
 use Rattle.plan_reader.proofs.Listed.{listed-length, listed-at, listed-only}
-use Rattle.smooth_job.specs.Program.{
-  planLimit,
-  pixelLimit,
-  wordIn,
-  afterEnd,
-  planLength,
-  planWords,
-  heightsIn,
-  Asked,
-  unfit,
-  job,
-  askedWith,
-  asked,
-  inputLimit,
-  cutLength,
-}
+use Rattle.smooth_job.specs.Promises.{CutAsksTheSame}
+use Rattle.smooth_job.specs.Program.{planLimit, pixelLimit, wordIn, afterEnd, planLength, planWords, heightsIn, Asked, unfit, job, askedWith, asked, inputLimit}
 use Rattle.smooth_job.proofs.Input.{length-limited, cut-whole, cut-long}
 
 end-same : (f g : ℕ → ℕ) (i n : ℕ) → ((j : ℕ) → i ≤ j → j < i + n → f j ≡ g j) → afterEnd f i n ≡ afterEnd g i n
@@ -107,8 +93,7 @@ module _ (a b : List ℕ) (a-long : inputLimit < length a) (b-long : inputLimit 
           let read = readPlan (planWords b) in
           long-unfit a a-long (over ∙ z) (read .outcome) (read .plan) ∙ sym (long-unfit b b-long z (read .outcome) (read .plan))
 
-pub cut-same : (whole cut : List ℕ) → length cut ≡ cutLength (length whole) → take inputLimit cut ≡ take inputLimit whole
-    → asked cut ≡ asked whole
+pub cut-same : CutAsksTheSame
 cut-same whole cut long same = by (ltb inputLimit (length whole)) refl
   where
     by : (test : Bool) → ltb inputLimit (length whole) ≡ test → asked cut ≡ asked whole

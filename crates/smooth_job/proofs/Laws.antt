@@ -3,7 +3,7 @@
 use mathlib.Core.Path.{_≡_, refl, sym, ap, _∙_}
 use mathlib.Core.Bool.{Bool, true, false, cond}
 use mathlib.Core.List.{List}
-use Prim.Native.Nat.{ℕ, _+_, _*_, _/_, _%_, _≤_, _<_}
+use Prim.Native.Nat.{ℕ, _+_, _*_, _/_, _%_, _≤_}
 use native.Mathlib.Omega.{arith}
 use native.Mathlib.Nat.{mul-le-mul}
 use lib.IntN.{ℤ}
@@ -16,23 +16,21 @@ use Rattle.refusal.specs.declared.Outcome.{Outcome}
 use Rattle.refusal.specs.declared.Outcome.the-variants.{Accepted, Refused}
 use Rattle.plan.specs.declared.Plan.{Plan}
 use Rattle.plan.specs.Rules.{keepsRules}
-use Rattle.plan.specs.Sizes.{neededMarks, neededStrips, neededPixels, taskCount}
+use Rattle.plan.specs.Sizes.{neededMarks, neededStrips, neededPixels}
 use Rattle.plan.proofs.Record.{rules}
 use Rattle.plan.proofs.Blocks.{count-bounded}
 use Rattle.plan.proofs.Needed.{bounds}
 use Rattle.plan_reader.specs.Reading.{readPlan}
 use Rattle.plan_reader.proofs.Listed.{listed-length}
 use Rattle.plan_writer.proofs.RoundTripRead.{read-keeps-rules}
-use Rattle.filter.specs.Buffer.{wordAt}
 use Rattle.report.specs.declared.ReportAnswer.{ReportAnswer}
 use Rattle.report.specs.declared.ReportAnswer.the-variants.{Refused as NoReport, Made}
 use Rattle.report.specs.Report.{report}
-use Rattle.blocks.specs.Writes.{mapOf}
-use Rattle.blocks.specs.Matching.{serialResult}
 use Rattle.calls.specs.Calls.{Buffers, tooShort}
 use Rattle.whole_job.specs.WholeJob.{wholeOutcome}
 use Rattle.whole_job.proofs.Steps.{whole-job-done}
 use Rattle.smooth_job.specs.declared.Smoothed.{Smoothed}
+use Rattle.smooth_job.specs.Promises.{SmoothDone}
 use Rattle.smooth_job.specs.Program.{
   pixelLimit,
   stripLimit,
@@ -129,23 +127,7 @@ module _ (plan : Plan) (heights : List ℤ) (given : AsksJob plan heights) where
       enough (jobLists output) (rw (length-replicate {A = ℕ} pixelLimit 0) few-blocks)
       (rw (length-replicate {A = ℕ} stripLimit 0) few-strips) (omega (arith, given .few))
 
--- What is answered to an input that asks for a job: the size, 6MN - 2M - 2N tasks, a tally of two for each pixel, and in the
--- output the words of the serial passes.
-pub record Smooths (plan : Plan) (heights : List ℤ) (output : List ℕ) : Type 0 where
-  pub answer : answerTo (job plan heights) output
-      ≡ record {
-        outcome = Accepted;
-        rows = plan .rows;
-        columns = plan .columns;
-        marked = taskCount plan;
-        tally = 2 * neededPixels plan;
-      }
-  pub words : (q : ℕ) → q < neededPixels plan
-      → wordAt (outputOf (job plan heights) output) q
-      ≡ serialResult plan (mapOf plan heights) 4 (q / plan .columns) (q % plan .columns)
-
-pub smooth-done : (input : List ℕ) (plan : Plan) (heights : List ℤ) (output : List ℕ) → asked input ≡ job plan heights
-    → pixelLimit ≤ length output → Smooths plan heights output
+pub smooth-done : SmoothDone
 unfolding answerTo outputOf jobAfter
 smooth-done input plan heights output e long =
     let done = accepted plan heights (asks-job input plan heights e) output long in

@@ -61,13 +61,7 @@ fn perform_steps(
 }
 
 // Performs the task that the report names, and nothing where it names none.
-pub fn perform_named(
-    plan: Plan,
-    map: &[i32],
-    marks: &mut [u32],
-    strips: &mut [u64],
-    output: &mut [u64],
-)
+fn perform_named(plan: Plan, map: &[i32], marks: &mut [u32], strips: &mut [u64], output: &mut [u64])
     ensures { λ _. ⌜ lists (now (marks .exit)) (now (strips .exit)) (now (output .exit)) ≡ afterStep plan (now (map .entry)) (lists (now (marks .entry)) (now (strips .entry)) (now (output .entry))) ⌝ }
 {
     let answer = report::report(plan, marks);

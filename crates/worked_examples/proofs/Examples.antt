@@ -58,7 +58,7 @@ use Rattle.calls.specs.Calls.{
   afterTask,
   afterCalls,
 }
-use Rattle.worked_examples.specs.Examples.{jobExample, otherExamples, examples}
+use Rattle.worked_examples.specs.Examples.{jobExample, otherExamples, ExamplesHold}
 
 others-hold : map (λ e. e .computed) otherExamples ≡ map (λ e. e .expected) otherExamples
 unfolding modulus minusOne _⊕_ _⊖_ _⊗_ residue allBelow coefficientsKept passKept passesKept keepsRules blockCount
@@ -75,7 +75,7 @@ map-append : (f : Example → List ℕ) (xs ys : List Example) → map f (xs ++ 
 map-append f [] ys = refl
 map-append f (x ∷ xs) ys = ap₂ _∷_ refl (map-append f xs ys)
 
-pub examples-hold : map (λ e. e .computed) examples ≡ map (λ e. e .expected) examples
+pub examples-hold : ExamplesHold
 examples-hold =
     map-append (λ e. e .computed) passesExamples otherExamples
     ∙ ap₂ _++_ passes-hold others-hold

@@ -1,5 +1,6 @@
 -- The starred examples of document 01 in one list: those of the passes, and below them those of plan words, of a refused
 -- rectangle and of a job.
+use mathlib.Core.Path.{_≡_}
 use mathlib.Core.List.{List, [], _∷_, _++_, map}
 use Prim.Native.Nat.{ℕ}
 use lib.IntN.{ℤ, pos, negsuc}
@@ -137,3 +138,7 @@ otherExamples =
 -- All of them.
 abbrev pub examples : List Example
 examples = passesExamples ++ otherExamples
+
+-- The definitions compute what the document gives, in every example.
+abbrev pub ExamplesHold : Type 0
+ExamplesHold = map (λ e. e .computed) examples ≡ map (λ e. e .expected) examples

@@ -1,0 +1,46 @@
+-- What a task writes depends only on the plan, the block's own heights (collect and finish), its own strip (a link) and the
+-- strips in its needs: document 01, below the table of tasks.
+use mathlib.Core.Path.{_≡_}
+use mathlib.Core.List.{List}
+use mathlib.Core.Option.{some}
+use Prim.Native.Nat.{ℕ, suc, _<_}
+use Rattle.plan.specs.declared.Plan.{Plan}
+use Rattle.filter.specs.Buffer.{wordAt}
+use Rattle.blocks.specs.Geometry.{rowsOf, columnsOf, partOf, neighbour}
+use Rattle.blocks.specs.Strips.{orderOf, stripPlace, stripWritten}
+use Rattle.blocks.specs.Writes.{collected, linkWord, finished}
+
+-- Two maps have the same heights in block k.
+abbrev pub SameBlock : Plan → ℕ → (X Y : ℕ → ℕ → ℕ) → Type 0
+SameBlock plan k X Y = (y x : ℕ) → y < rowsOf plan k → x < columnsOf plan k → partOf plan k X y x ≡ partOf plan k Y y x
+
+-- Two lists have the same words in block k's strip of a pass.
+abbrev pub SameStrip : Plan → ℕ → ℕ → (s r : List ℕ) → Type 0
+SameStrip plan k pass s r =
+    (line place : ℕ) → line < plan .side → place < orderOf plan pass
+    → wordAt s (stripPlace plan k pass line place) ≡ wordAt r (stripPlace plan k pass line place)
+
+-- Two lists have the same strips past block k's edges for the first n passes: the needs of a link of pass n-1, and of finish
+-- where n is 4.
+abbrev pub SameNeeds : Plan → ℕ → ℕ → (s r : List ℕ) → Type 0
+SameNeeds plan k n s r = (pass j : ℕ) → pass < n → neighbour plan k pass ≡ some j → SameStrip plan j pass s r
+
+-- What collect writes,
+abbrev pub CollectDepends : Type 0
+CollectDepends =
+    (plan : Plan) (X Y : ℕ → ℕ → ℕ) (k : ℕ) (strips : List ℕ) → SameBlock plan k X Y
+    → collected plan X k strips ≡ collected plan Y k strips
+
+-- what the link of a pass writes,
+abbrev pub LinkDepends : Type 0
+LinkDepends =
+    (plan : Plan) (s r : List ℕ) (k pass : ℕ) (strips : List ℕ) → SameStrip plan k pass s r
+    → SameNeeds plan k (suc pass) s r
+    → stripWritten plan k pass (linkWord plan s k pass) strips
+    ≡ stripWritten plan k pass (linkWord plan r k pass) strips
+
+-- and what finish writes.
+abbrev pub FinishDepends : Type 0
+FinishDepends =
+    (plan : Plan) (X Y : ℕ → ℕ → ℕ) (s r : List ℕ) (k : ℕ) (output : List ℕ) → SameBlock plan k X Y
+    → SameNeeds plan k 4 s r → finished plan X s k output ≡ finished plan Y r k output
