@@ -200,7 +200,7 @@ module _ (plan : Plan) (k : ℕ) (kept : keepsRules plan ≡ true) (here : k < n
   unfolding insideBlock shapeOf
   edge-zero line place b c e =
       let small = lines-small a (rowsOf plan k) (columnsOf plan k) (fits .rows-high) (fits .columns-high) in
-      alone .around _
+      alone .clear .around _
       (outside-block a (rowsOf plan k) (columnsOf plan k) (fits .rows-high) (fits .columns-high) line
       (edgeStart d r n + place) (omega (arith, rules plan kept .side-high)) (edge-in d r n place limited (small .1) c)
       (λ p low high. not-both _ _ e (lt-ltb line _ p) (edge-inside d r n place limited low high)))

@@ -1,6 +1,9 @@
 pub mod Copies
 pub mod Work
+pub mod Cells
+pub mod Neighbours
 pub mod Margins
+pub mod Loads
 pub mod Passes
 pub mod Edges
 pub mod Images

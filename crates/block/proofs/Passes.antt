@@ -1,6 +1,6 @@
 -- The block in the work array after the first passes, with the neighbours' strips or with zeros around it.
 -- Assumes nothing.
-use mathlib.Core.Path.{_≡_, refl, ap, _∙_}
+use mathlib.Core.Path.{_≡_, refl, sym, ap, _∙_}
 use mathlib.Core.Bool.{true}
 use mathlib.Core.List.{List}
 use mathlib.Core.Logic.{_≢_}
@@ -17,21 +17,20 @@ use Rattle.passes.proofs.Passes.{filterLines-reads}
 use Rattle.filter.specs.declared.FilterWords.{FilterWords}
 use Rattle.filter.specs.Buffer.{wordAt}
 use Rattle.filter.specs.Filters.{filterOf, filtersOf, filterWith, filterWords}
-use Rattle.filter.specs.Windows.{pixelPlace, windowPass, windowOf, beyond, wordsBesideWindow}
+use Rattle.filter.specs.Windows.{windowPass, windowOf, beyond, wordsBesideWindow}
 use Rattle.filter.proofs.Filters.{filterWords-filter}
 use Rattle.filter.proofs.Windows.{Passed, windowPass-passed}
 use Rattle.blocks.specs.Geometry.{rowsOf, columnsOf}
-use Rattle.blocks.specs.Strips.{orderOf, pastEdges}
+use Rattle.blocks.specs.Strips.{orderOf, fromEdge, pastEdges}
 use Rattle.blocks.specs.Writes.{blockPasses}
+use Rattle.blocks.proofs.Reading.{from-edge-below}
 use Rattle.strips.specs.declared.BlockShape.{BlockShape}
-use Rattle.strips.specs.declared.Strip.{Strip}
 use Rattle.strips.specs.Shapes.{shapeOf}
 use Rattle.strips.specs.Reading.{stripBefore}
 use Rattle.strips.proofs.Reading.{past-edges-read}
-use Rattle.block.specs.declared.Margin.{Margin}
-use Rattle.block.specs.Work.{workStride, workWords, workWindow, ShapeFits, marginOf, marginLoaded, blockPass}
+use Rattle.block.specs.Work.{workStride, workWords, workWindow, pixelIn, ShapeFits, ClearOutside, MarginClear, MarginLoaded, blockPass}
 use Rattle.block.proofs.Work.{shape-fits, window-fits, lines-small, outside-block}
-use Rattle.block.proofs.Margins.{beside-place, loaded-length, loaded-beside, loaded-block}
+use Rattle.block.proofs.Margins.{beside-place, margin-not-block, margin-clear, margin-beside, margins-apart}
 
 -- The code's pass is the plan's.
 pub block-pass-is : (plan : Plan) (shape : BlockShape) (pass : ℕ) (words : FilterWords) (work after : List ℕ)
@@ -50,10 +49,6 @@ pub words-order : (plan : Plan) (pass : ℕ) (words : FilterWords) → keepsRule
 unfolding filterWords
 words-order plan pass words kept h e = rw e (order-limited-at plan kept pass h)
 
--- The place of a pixel of the block in the work array.
-abbrev pub pixelIn : ℕ → ℕ → ℕ
-pixelIn y x = pixelPlace workStride (orderLimit + y) (orderLimit + x)
-
 module _ (plan : Plan) (k : ℕ) where
   -- The work array holds the block after t passes over Z, with H past its edges.
   pub record Holds (H : ℕ → ℕ → ℕ → ℕ) (Z : ℕ → ℕ → ℕ) (t : ℕ) (work : List ℕ) : Type 0 where
@@ -64,7 +59,11 @@ module _ (plan : Plan) (k : ℕ) where
   -- The work array holds the block filtered alone, and zeros around it.
   pub record Alone (Z : ℕ → ℕ → ℕ) (t : ℕ) (work : List ℕ) : Type 0 where
     pub block : Holds (λ u l i. 0) Z t work
-    pub around : (z : ℕ) → ((y x : ℕ) → y < rowsOf plan k → x < columnsOf plan k → z ≢ pixelIn y x) → wordAt work z ≡ 0
+    pub clear : ClearOutside (shapeOf plan k) work
+
+  -- The margins of the passes from t on are 0.
+  pub record MarginsClear (t : ℕ) (work : List ℕ) : Type 0 where
+    pub of : (u : ℕ) → t ≤ u → u < 4 → MarginClear plan (shapeOf plan k) u work
 
 module _ (plan : Plan) (k : ℕ) (kept : keepsRules plan ≡ true) (here : k < neededMarks plan) where
   abbrev h : ℕ
@@ -106,55 +105,66 @@ module _ (plan : Plan) (k : ℕ) (kept : keepsRules plan ≡ true) (here : k < n
 
   -- ---- finish
 
-  -- A pass with the strips of its neighbour.
-  module _ (strips : List ℕ) (Z : ℕ → ℕ → ℕ) (t : ℕ) (counted : t < 4) (work : List ℕ)
-      (holds : Holds plan k (pastEdges plan strips k) Z t work) where
-    abbrev marginIs : Margin
-    marginIs = marginOf (axisOf t) (directionOf t) (orderOf plan t) (shapeOf plan k)
+  -- Before the passes, with zeros around the block.
+  pub clear-start : (work : List ℕ) → ClearOutside (shapeOf plan k) work → MarginsClear plan k 0 work
+  clear-start work clear =
+      record { of = λ u low h. margin-clear plan (shapeOf plan k) fits u (order-limited-at plan kept u h) work clear }
 
-    abbrev loadedIs : List ℕ
-    loadedIs = marginLoaded (stripBefore plan k t) strips marginIs (orderOf plan t) work
+  -- A pass with the strips of its neighbour.
+  module _ (strips : List ℕ) (Z : ℕ → ℕ → ℕ) (t : ℕ) (counted : t < 4) (work loaded : List ℕ)
+      (holds : Holds plan k (pastEdges plan strips k) Z t work) (clear : MarginsClear plan k t work) (shape : BlockShape)
+      (shaped : shape ≡ shapeOf plan k) (loads : MarginLoaded plan shape t (stripBefore plan k t) strips work loaded) where
+    load : MarginLoaded plan (shapeOf plan k) t (stripBefore plan k t) strips work loaded
+    load = rw shaped at loads
 
     limited : orderOf plan t ≤ orderLimit
     limited = order-limited-at plan kept t counted
 
-    loaded-holds : Holds plan k (pastEdges plan strips k) Z t loadedIs
+    loaded-holds : Holds plan k (pastEdges plan strips k) Z t loaded
     unfolding shapeOf
     loaded-holds =
         record {
-          sized =
-              loaded-length (axisOf t) (directionOf t) (orderOf plan t) (shapeOf plan k) fits limited (stripBefore plan k t) strips work
-              (holds .sized)
-              ∙ holds .sized;
+          sized = load .length-kept ∙ holds .sized;
           inside =
               λ y x p q.
-              loaded-block (axisOf t) (directionOf t) (orderOf plan t) (shapeOf plan k) fits limited (stripBefore plan k t) strips work
-              (holds .sized) y x p q
+              load .elsewhere _ (λ l i b c e. margin-not-block plan (shapeOf plan k) fits t limited l i b c y x p q (sym e))
               ∙ holds .inside y x p q;
         }
 
-    pub finish-more : Holds plan k (pastEdges plan strips k) Z (t + 1) (blockPass plan (shapeOf plan k) t loadedIs)
+    near : (l i : ℕ) → l < across (axisOf t) h w → i < orderOf plan t
+        → wordsBesideWindow (axisOf t) (directionOf t) (workWindow h w) loaded l i ≡ pastEdges plan strips k t l i
     unfolding shapeOf
-    finish-more =
-        holds-more (pastEdges plan strips k) Z t counted loadedIs loaded-holds
-        (λ l i a b.
-        loaded-beside (axisOf t) (directionOf t) (orderOf plan t) (shapeOf plan k) fits limited (stripBefore plan k t) strips work
-        (holds .sized) l i a b
-        ∙ past-edges-read plan strips k t l i b)
+    near l i b c =
+        margin-beside plan (shapeOf plan k) fits t limited loaded l i c
+        ∙ load .at l (fromEdge (directionOf t) (orderOf plan t) i) b (from-edge-below (directionOf t) (orderOf plan t) i c)
+        ∙ past-edges-read plan strips k t l i c
 
-    -- The same with the code's values.
-    pub finish-turn : (shape : BlockShape) (strip : Strip) (margin : Margin) (loaded after : List ℕ) → shape ≡ shapeOf plan k
-        → strip ≡ stripBefore plan k t → margin ≡ marginOf (axisOf t) (directionOf t) (orderOf plan t) shape
-        → loaded ≡ marginLoaded strip strips margin (margin .places) work → after ≡ blockPass plan shape t loaded
-        → Holds plan k (pastEdges plan strips k) Z (t + 1) after
-    unfolding marginOf
-    finish-turn shape strip margin loaded after shaped stripped margined load pass =
-        let e : after ≡ blockPass plan (shapeOf plan k) t loadedIs =
-        pass
-        ∙ ap (λ z. blockPass plan z t loaded) shaped
-        ∙ ap (blockPass plan (shapeOf plan k) t)
-        (load ∙ rw (stripped, margined, shaped)) in
-        rw e finish-more
+    module _ (after : List ℕ) (pass : after ≡ blockPass plan shape t loaded) where
+      after-is : after ≡ blockPass plan (shapeOf plan k) t loaded
+      after-is = pass ∙ ap (λ z. blockPass plan z t loaded) shaped
+
+      pub finish-turn : Holds plan k (pastEdges plan strips k) Z (t + 1) after
+      finish-turn = rw after-is (holds-more (pastEdges plan strips k) Z t counted loaded loaded-holds near)
+
+      -- The later margins are still 0.
+      pub clear-turn : MarginsClear plan k (t + 1) after
+      unfolding shapeOf
+      clear-turn =
+          rw after-is
+          record {
+            of =
+                λ u low high.
+                let limit = order-limited-at plan kept u high in
+                record {
+                  at =
+                      λ l i b c.
+                      pass-elsewhere (pastEdges plan strips k) Z t counted loaded loaded-holds near _
+                      (margin-not-block plan (shapeOf plan k) fits u limit l i b c)
+                      ∙ load .elsewhere _
+                      (λ m j p q. margins-apart plan (shapeOf plan k) fits t u (omega arith) high limited limit m j l i p q b c)
+                      ∙ clear .of u (omega arith) high .at l i b c;
+                };
+          }
 
   -- ---- collect
 
@@ -175,13 +185,18 @@ module _ (plan : Plan) (k : ℕ) (kept : keepsRules plan ≡ true) (here : k < n
       → wordsBesideWindow (axisOf t) (directionOf t) (workWindow h w) work l i ≡ 0 =
       λ l i a b.
       beside-place (axisOf t) (directionOf t) h w work l i
-      ∙ alone .around _
+      ∙ alone .clear .around _
       (outside-block (axisOf t) h w (fits .rows-high) (fits .columns-high) l _ (omega (arith, small .0))
       (beyond-in (directionOf t) (along (axisOf t) h w) i (small .1) (omega (arith, order-limited-at plan kept t counted)))
       (λ _ low high. beyond-outside (directionOf t) (along (axisOf t) h w) i low high)) in
+      let more = holds-more (λ u l i. 0) Z t counted work (alone .block) near in
       record {
-        block = holds-more (λ u l i. 0) Z t counted work (alone .block) near;
-        around = λ z out. pass-elsewhere (λ u l i. 0) Z t counted work (alone .block) near z out ∙ alone .around z out;
+        block = more;
+        clear =
+            record {
+              sized = more .sized;
+              around = λ z out. pass-elsewhere (λ u l i. 0) Z t counted work (alone .block) near z out ∙ alone .clear .around z out;
+            };
       }
 
   -- The same with the code's values.

@@ -19,7 +19,7 @@ use Rattle.filter.proofs.RowMajor.{same-row-column, place-below}
 use Rattle.strips.specs.declared.BlockShape.{BlockShape}
 use Rattle.strips.specs.Shapes.{shapeOf}
 use Rattle.block.specs.Copies.{GridFits}
-use Rattle.block.specs.Work.{workStride, workWords, workCorner, workWindow, workPlace, ShapeFits, marginStart}
+use Rattle.block.specs.Work.{workStride, workWords, workCorner, workWindow, workPlace, ShapeFits}
 
 -- ---- what fits
 
@@ -66,11 +66,6 @@ map-grid-fits plan k n here long =
           mul-le-mul-right (plan .columns) (omega arith) in
           omega arith;
     }
-
-pub margin-start-small : (d : Direction) (order n start : ℕ) → order ≤ orderLimit → n ≤ 32 → start ≡ marginStart d order n
-    → start ≤ 32 + orderLimit
-margin-start-small forward order n start h s e = omega arith
-margin-start-small backward order n start h s e = omega arith
 
 -- The same with the code's values.
 module _ (plan : Plan) (k n : ℕ) (shape : BlockShape) (shaped : shape ≡ shapeOf plan k) (kept : keepsRules plan ≡ true)

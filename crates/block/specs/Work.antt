@@ -2,7 +2,10 @@
 -- around it margins for the words past its edges.
 use mathlib.Core.Bool.{cond}
 use mathlib.Core.List.{List}
+use mathlib.Core.Logic.{_≢_}
+use mathlib.Core.Path.{_≡_}
 use Prim.Native.Nat.{ℕ, _+_, _-_, _*_, _<_, _≤_}
+use lib.ListN.{length}
 use Rattle.plan.specs.declared.Plan.{Plan}
 use Rattle.plan.specs.Rules.{orderLimit}
 use Rattle.passes.specs.Passes.{
@@ -22,12 +25,9 @@ use Rattle.filter.specs.Filters.{filtersOf}
 use Rattle.filter.specs.Windows.{pixelPlace, windowPass}
 use Rattle.blocks.specs.Geometry.{rowsOf, columnsOf, stripNeeded}
 use Rattle.blocks.specs.Strips.{orderOf}
-use Rattle.filter.specs.Written.{written}
 use Rattle.strips.specs.declared.BlockShape.{BlockShape}
 use Rattle.strips.specs.declared.Strip.{Strip}
 use Rattle.strips.specs.Reading.{stripRead}
-use Rattle.block.specs.declared.Margin.{Margin}
-use Rattle.block.specs.Copies.{rectangleWritten}
 
 -- The words of a row.
 abbrev pub workStride : ℕ
@@ -52,6 +52,20 @@ pub record ShapeFits (shape : BlockShape) : Type 0 where
   pub rows-high : shape .rows ≤ 32
   pub columns-high : shape .columns ≤ 32
 
+-- The place of a pixel of the block.
+abbrev pub pixelIn : ℕ → ℕ → ℕ
+pixelIn y x = pixelPlace workStride (orderLimit + y) (orderLimit + x)
+
+-- The array is 0 outside the block's cells.
+pub record ClearOutside (shape : BlockShape) (work : List ℕ) : Type 0 where
+  pub sized : length work ≡ workWords
+  pub around : (z : ℕ) → ((y x : ℕ) → y < shape .rows → x < shape .columns → z ≢ pixelIn y x) → wordAt work z ≡ 0
+
+-- The array holds the block's words, and zeros around them.
+pub record BlockRead (shape : BlockShape) (words : ℕ → ℕ → ℕ) (work : List ℕ) : Type 0 where
+  pub clear : ClearOutside shape work
+  pub inside : (y x : ℕ) → y < shape .rows → x < shape .columns → wordAt work (pixelIn y x) ≡ words y x
+
 -- The place of an index of line l of the block, counted from the array's edge.
 abbrev pub workPlace : Axis → ℕ → ℕ → ℕ
 workPlace a l i = lineOf a (pixelPlace workStride) (orderLimit + l) i
@@ -63,37 +77,26 @@ abbrev pub marginStart : Direction → (order n : ℕ) → ℕ
 marginStart forward order n = orderLimit - order
 marginStart backward order n = orderLimit + n
 
--- The margin of a pass.
-unfoldable pub marginOf : Axis → Direction → (order : ℕ) → BlockShape → Margin
-marginOf a d order shape =
-    record {
-      start = workPlace a 0 (marginStart d order (along a (shape .rows) (shape .columns)));
-      «place_step» = along a workStride 1;
-      «line_step» = across a workStride 1;
-      places = order;
-      lines = across a (shape .rows) (shape .columns);
-    }
+-- The place of line l and place i of the margin of a pass.
+abbrev pub marginPlace : Plan → BlockShape → ℕ → ℕ → ℕ → ℕ
+marginPlace plan shape pass l i =
+    workPlace (axisOf pass) l
+    (marginStart (directionOf pass) (orderOf plan pass) (along (axisOf pass) (shape .rows) (shape .columns)) + i)
 
--- The array after one place of the lines of a strip has gone to places that lie `step` apart.
-unfoldable pub placeLoaded : Strip → List ℕ → (place start step lines : ℕ) → List ℕ → List ℕ
-placeLoaded strip strips place start step lines work =
-    written (λ l. start + l * step) (λ l. stripRead strip strips l place) lines work
+-- The margin of a pass is 0.
+pub record MarginClear (plan : Plan) (shape : BlockShape) (pass : ℕ) (work : List ℕ) : Type 0 where
+  pub at : (l i : ℕ) → l < across (axisOf pass) (shape .rows) (shape .columns) → i < orderOf plan pass
+      → wordAt work (marginPlace plan shape pass l i) ≡ 0
 
--- Those places lie in a list of n words.
-pub record PlaceFits (n start step lines : ℕ) : Type 0 where
-  pub at : (l : ℕ) → l < lines → start + l * step < n
-
--- The array after the first n places of a strip have gone into a margin.
-unfoldable pub marginLoaded : Strip → List ℕ → Margin → ℕ → List ℕ → List ℕ
-marginLoaded strip strips margin n work =
-    rectangleWritten (λ i l. margin .start + i * margin .«place_step» + l * margin .«line_step»)
-    (λ i l. stripRead strip strips l i) (margin .lines) n work
-
--- A margin has lines, and lies in a list of n words.
-pub record MarginFits (n : ℕ) (margin : Margin) : Type 0 where
-  pub some : 0 < margin .lines
-  pub at : (i l : ℕ) → i < margin .places → l < margin .lines
-      → margin .start + i * margin .«place_step» + l * margin .«line_step» < n
+-- The array after a strip has gone into the margin of a pass.
+pub record MarginLoaded (plan : Plan) (shape : BlockShape) (pass : ℕ) (strip : Strip) (strips before after : List ℕ) : Type 0 where
+  pub length-kept : length after ≡ length before
+  pub at : (l i : ℕ) → l < across (axisOf pass) (shape .rows) (shape .columns) → i < orderOf plan pass
+      → wordAt after (marginPlace plan shape pass l i) ≡ stripRead strip strips l i
+  pub elsewhere : (z : ℕ)
+      → ((l i : ℕ) → l < across (axisOf pass) (shape .rows) (shape .columns) → i < orderOf plan pass
+      → z ≢ marginPlace plan shape pass l i)
+      → wordAt after z ≡ wordAt before z
 
 -- ---- passes
 

@@ -3,34 +3,127 @@
 use filter::Window;
 use plan::Plan;
 use strips::BlockShape;
-use strips::Strip;
 ghost use mathlib.Core.Path.{_≡_};
 ghost use mathlib.Core.Bool.{true};
 ghost use Prim.Native.Nat.{_+_, _<_, _≤_};
 ghost use lib.ListN.{length};
 ghost use Rattle.plan.specs.Rules.{orderLimit, keepsRules};
 ghost use Rattle.plan.specs.Sizes.{neededMarks, neededStrips, neededPixels};
-ghost use Rattle.passes.specs.Passes.{axisOf, directionOf};
+ghost use Rattle.passes.specs.Passes.{directionOf};
 ghost use Rattle.blocks.specs.Strips.{stripWritten};
 ghost use Rattle.blocks.specs.Writes.{mapOf, collected, finished};
 ghost use Rattle.strips.specs.Shapes.{shapeOf};
-ghost use Rattle.strips.specs.Reading.{StripFits};
+ghost use Rattle.strips.specs.Reading.{stripBefore};
 ghost use Rattle.block.specs.Copies.{wordsFrom, heightsFrom, noWords, rowWritten, gridWords, gridHeights, gridWritten, GridFits};
-ghost use Rattle.block.specs.Work.{workStride, workWords, workCorner, ShapeFits, marginStart, marginOf, placeLoaded, PlaceFits, marginLoaded, MarginFits, blockPass, edgeStart, workEdge};
+ghost use Rattle.block.specs.Work.{workStride, workWords, workCorner, ShapeFits, ClearOutside, BlockRead, marginStart, MarginClear, MarginLoaded, blockPass, edgeStart, workEdge};
 
 // The margin on each side of the block, and the rows of the work array.
 const MARGIN: usize = plan::ORDER_LIMIT;
 
 const STRIDE: usize = 32 + 2 * plan::ORDER_LIMIT;
 
-// Where the words past a block's edge stand in the work array: line l and place i of the neighbour's strip at
-// `start + i * place_step + l * line_step`.
-struct Margin {
-    start: usize,
-    place_step: usize,
-    line_step: usize,
-    places: usize,
-    lines: usize,
+// The words and the heights of a cache line of 64 bytes.
+const LINE_WORDS: usize = 8;
+
+const LINE_HEIGHTS: usize = 16;
+
+// Block k's four strips: the passes over its pixels, zeros around it.
+pub fn collect(plan: Plan, k: usize, map: &[i32], strips: &mut [u64])
+    requires { ⌜ (keepsRules plan ≡ true) × (k < neededMarks plan) × (neededPixels plan ≤ length (now map)) × (neededStrips plan ≤ length (now strips)) ⌝ }
+    ensures { λ _. ⌜ now (strips .exit) ≡ collected plan (mapOf plan (now (map .entry))) k (now (strips .entry)) ⌝ }
+{
+    let shape = strips::block_shape(plan, k);
+    let corner = shape.first_row * plan.columns + shape.first_column;
+    let mut work = [0; STRIDE * STRIDE];
+    load_block(map, corner, plan.columns, shape, &mut work);
+    let mut pass = 0;
+    while pass < 4 {
+        run_block_pass(plan, shape, pass, &mut work);
+        write_strip(plan, k, pass, shape, &work, strips);
+        pass += 1;
+    }
+}
+
+// Block k's output words: the four passes over its pixels, the neighbours' strips past its edges.
+pub fn finish(plan: Plan, k: usize, map: &[i32], strips: &[u64], output: &mut [u64])
+    requires { ⌜ (keepsRules plan ≡ true) × (k < neededMarks plan) × (neededPixels plan ≤ length (now map)) × (neededStrips plan ≤ length (now strips)) × (neededPixels plan ≤ length (now output)) ⌝ }
+    ensures { λ _. ⌜ now (output .exit) ≡ finished plan (mapOf plan (now (map .entry))) (now (strips .entry)) k (now (output .entry)) ⌝ }
+{
+    let shape = strips::block_shape(plan, k);
+    let corner = shape.first_row * plan.columns + shape.first_column;
+    let mut work = [0; STRIDE * STRIDE];
+    touch_output(output, corner, plan.columns, shape, &mut work);
+    load_block(map, corner, plan.columns, shape, &mut work);
+    let mut pass = 0;
+    while pass < 4 {
+        load_margin(plan, k, pass, shape, strips, &mut work);
+        run_block_pass(plan, shape, pass, &mut work);
+        pass += 1;
+    }
+    copy_rectangle(
+        &work,
+        MARGIN * STRIDE + MARGIN,
+        STRIDE,
+        output,
+        corner,
+        plan.columns,
+        shape.rows,
+        shape.columns,
+    );
+}
+
+// A block's rows lie far apart in the map and in the output, and a copy waits for the cache lines of one row after another.
+// Where one word of each line has been read first, all of them are on their way together. The words read go into cells of
+// the block, which its pixels take afterwards, so that the compiler keeps the reads.
+fn touch_output_row(output: &[u64], start: usize, shape: BlockShape, row: usize, work: &mut [u64])
+    requires { ⌜ (start + shape .columns ≤ length (now output)) × (row < shape .rows) × ShapeFits shape × ClearOutside shape (now work) ⌝ }
+    ensures { λ _. ⌜ ClearOutside shape (now (work .exit)) ⌝ }
+{
+    let work_start = (MARGIN + row) * STRIDE + MARGIN;
+    let last = shape.columns - 1;
+    let mut i = 0;
+    while i < shape.columns + LINE_WORDS {
+        let column = filter::lesser(i, last);
+        work[work_start + column] = output[start + column];
+        i += LINE_WORDS;
+    }
+}
+
+fn touch_output(output: &[u64], start: usize, stride: usize, shape: BlockShape, work: &mut [u64])
+    requires { ⌜ GridFits (length (now output)) start stride (shape .rows) (shape .columns) × ShapeFits shape × ClearOutside shape (now work) ⌝ }
+    ensures { λ _. ⌜ ClearOutside shape (now (work .exit)) ⌝ }
+{
+    let mut row = 0;
+    while row < shape.rows {
+        touch_output_row(output, start + row * stride, shape, row, work);
+        row += 1;
+    }
+}
+
+// The same for the map.
+fn touch_map_row(map: &[i32], start: usize, shape: BlockShape, row: usize, work: &mut [u64])
+    requires { ⌜ (start + shape .columns ≤ length (now map)) × (row < shape .rows) × ShapeFits shape × ClearOutside shape (now work) ⌝ }
+    ensures { λ _. ⌜ ClearOutside shape (now (work .exit)) ⌝ }
+{
+    let work_start = (MARGIN + row) * STRIDE + MARGIN;
+    let last = shape.columns - 1;
+    let mut i = 0;
+    while i < shape.columns + LINE_HEIGHTS {
+        let column = filter::lesser(i, last);
+        work[work_start + column] = filter::read_pixel(map[start + column]);
+        i += LINE_HEIGHTS;
+    }
+}
+
+fn touch_map(map: &[i32], start: usize, stride: usize, shape: BlockShape, work: &mut [u64])
+    requires { ⌜ GridFits (length (now map)) start stride (shape .rows) (shape .columns) × ShapeFits shape × ClearOutside shape (now work) ⌝ }
+    ensures { λ _. ⌜ ClearOutside shape (now (work .exit)) ⌝ }
+{
+    let mut row = 0;
+    while row < shape.rows {
+        touch_map_row(map, start + row * stride, shape, row, work);
+        row += 1;
+    }
 }
 
 fn copy_row(from: &[u64], from_start: usize, to: &mut [u64], to_start: usize, count: usize)
@@ -82,7 +175,6 @@ fn read_row(map: &[i32], map_start: usize, work: &mut [u64], work_start: usize, 
     }
 }
 
-// The block's pixels into the work array.
 fn read_block(
     map: &[i32],
     map_start: usize,
@@ -107,81 +199,13 @@ fn read_block(
     }
 }
 
-fn margin_start(pass: usize, order: usize, extent: usize) -> usize
-    requires { ⌜ (order ≤ orderLimit) × (extent ≤ 32) ⌝ }
-    ensures { λ r. ⌜ r ≡ marginStart (directionOf pass) order extent ⌝ }
+// The block's pixels into a work array that is 0 around them.
+fn load_block(map: &[i32], start: usize, stride: usize, shape: BlockShape, work: &mut [u64])
+    requires { ⌜ GridFits (length (now map)) start stride (shape .rows) (shape .columns) × ShapeFits shape × ClearOutside shape (now work) ⌝ }
+    ensures { λ _. ⌜ BlockRead shape (gridHeights (now (map .entry)) start stride) (now (work .exit)) ⌝ }
 {
-    if pass % 2 == 0 {
-        MARGIN - order
-    } else {
-        MARGIN + extent
-    }
-}
-
-// The margin that a pass of an order comes from: above, below, left or right of the block.
-fn margin_of(shape: BlockShape, pass: usize, order: usize) -> Margin
-    requires { ⌜ (order ≤ orderLimit) × ShapeFits shape ⌝ }
-    ensures { λ r. ⌜ r ≡ marginOf (axisOf pass) (directionOf pass) order shape ⌝ }
-{
-    if pass < 2 {
-        let row = margin_start(pass, order, shape.rows);
-        Margin {
-            start: row * STRIDE + MARGIN,
-            place_step: STRIDE,
-            line_step: 1,
-            places: order,
-            lines: shape.columns,
-        }
-    } else {
-        let column = margin_start(pass, order, shape.columns);
-        Margin {
-            start: MARGIN * STRIDE + column,
-            place_step: 1,
-            line_step: STRIDE,
-            places: order,
-            lines: shape.rows,
-        }
-    }
-}
-
-// One place of all lines of a strip, into a margin.
-fn load_place(
-    strips: &[u64],
-    strip: Strip,
-    place: usize,
-    work: &mut [u64],
-    start: usize,
-    step: usize,
-    lines: usize,
-)
-    requires { ⌜ StripFits (length (now strips)) strip × PlaceFits (length (now work)) start step lines ⌝ }
-    ensures { λ _. ⌜ now (work .exit) ≡ placeLoaded strip (now (strips .entry)) place start step lines (now (work .entry)) ⌝ }
-{
-    let mut line = 0;
-    while line < lines {
-        work[start + line * step] = strips::strip_word(strips, strip, line, place);
-        line += 1;
-    }
-}
-
-// The words past the block's edge, from the strip of the neighbour there.
-fn load_margin(strips: &[u64], strip: Strip, work: &mut [u64], margin: Margin)
-    requires { ⌜ StripFits (length (now strips)) strip × MarginFits (length (now work)) margin ⌝ }
-    ensures { λ _. ⌜ now (work .exit) ≡ marginLoaded strip (now (strips .entry)) margin (margin .places) (now (work .entry)) ⌝ }
-{
-    let mut place = 0;
-    while place < margin.places {
-        load_place(
-            strips,
-            strip,
-            place,
-            work,
-            margin.start + place * margin.place_step,
-            margin.line_step,
-            margin.lines,
-        );
-        place += 1;
-    }
+    touch_map(map, start, stride, shape, work);
+    read_block(map, start, stride, work, shape.rows, shape.columns);
 }
 
 // One pass over the block in the work array, the margin standing for the outputs past its edge.
@@ -201,41 +225,60 @@ fn run_block_pass(plan: Plan, shape: BlockShape, pass: usize, work: &mut [u64])
     filter::run_pass(work, window, pass, entry.order, words);
 }
 
-// Block k's output words: the four passes over its pixels, the neighbours' strips past its edges.
-pub fn finish(plan: Plan, k: usize, map: &[i32], strips: &[u64], output: &mut [u64])
-    requires { ⌜ (keepsRules plan ≡ true) × (k < neededMarks plan) × (neededPixels plan ≤ length (now map)) × (neededStrips plan ≤ length (now strips)) × (neededPixels plan ≤ length (now output)) ⌝ }
-    ensures { λ _. ⌜ now (output .exit) ≡ finished plan (mapOf plan (now (map .entry))) (now (strips .entry)) k (now (output .entry)) ⌝ }
+fn margin_start(pass: usize, order: usize, extent: usize) -> usize
+    requires { ⌜ (order ≤ orderLimit) × (extent ≤ 32) ⌝ }
+    ensures { λ r. ⌜ r ≡ marginStart (directionOf pass) order extent ⌝ }
 {
-    let shape = strips::block_shape(plan, k);
-    let corner = shape.first_row * plan.columns + shape.first_column;
-    let mut work = [0; STRIDE * STRIDE];
-    read_block(
-        map,
-        corner,
-        plan.columns,
-        &mut work,
-        shape.rows,
-        shape.columns,
-    );
-    let mut pass = 0;
-    while pass < 4 {
-        let strip = strips::strip_before(plan, k, pass);
-        let described = plan.passes[pass];
-        let margin = margin_of(shape, pass, described.order);
-        load_margin(strips, strip, &mut work, margin);
-        run_block_pass(plan, shape, pass, &mut work);
-        pass += 1;
+    if pass % 2 == 0 {
+        MARGIN - order
+    } else {
+        MARGIN + extent
     }
-    copy_rectangle(
-        &work,
-        MARGIN * STRIDE + MARGIN,
-        STRIDE,
-        output,
-        corner,
-        plan.columns,
-        shape.rows,
-        shape.columns,
-    );
+}
+
+// The words past the block's edge, from the strip of the neighbour there. Where no word of the neighbour stands, the
+// margin is 0 from the start.
+fn load_margin(
+    plan: Plan,
+    k: usize,
+    pass: usize,
+    shape: BlockShape,
+    strips: &[u64],
+    work: &mut [u64],
+)
+    requires { ⌜ (keepsRules plan ≡ true) × (k < neededMarks plan) × (pass < 4) × (shape ≡ shapeOf plan k) × (neededStrips plan ≤ length (now strips)) × (length (now work) ≡ workWords) × MarginClear plan shape pass (now work) ⌝ }
+    ensures { λ _. ⌜ MarginLoaded plan shape pass (stripBefore plan k pass) (now (strips .entry)) (now (work .entry)) (now (work .exit)) ⌝ }
+{
+    let described = plan.passes[pass];
+    let strip = strips::strip_before(plan, k, pass);
+    let first = strip.first;
+    let places = strip.past - first;
+    let start = strip.start + first * strip.place_step;
+    if pass < 2 {
+        let row = margin_start(pass, described.order, shape.rows) + first;
+        copy_rectangle(
+            strips,
+            start,
+            strip.place_step,
+            work,
+            row * STRIDE + MARGIN,
+            STRIDE,
+            places,
+            strip.lines,
+        );
+    } else {
+        let column = margin_start(pass, described.order, shape.columns) + first;
+        copy_rectangle(
+            strips,
+            start,
+            strip.line_step,
+            work,
+            MARGIN * STRIDE + column,
+            STRIDE,
+            strip.lines,
+            places,
+        );
+    }
 }
 
 fn edge_start(pass: usize, order: usize, extent: usize) -> usize
@@ -304,29 +347,5 @@ fn write_strip(
             side,
             order,
         );
-    }
-}
-
-// Block k's four strips: the passes over its pixels, zeros around it.
-pub fn collect(plan: Plan, k: usize, map: &[i32], strips: &mut [u64])
-    requires { ⌜ (keepsRules plan ≡ true) × (k < neededMarks plan) × (neededPixels plan ≤ length (now map)) × (neededStrips plan ≤ length (now strips)) ⌝ }
-    ensures { λ _. ⌜ now (strips .exit) ≡ collected plan (mapOf plan (now (map .entry))) k (now (strips .entry)) ⌝ }
-{
-    let shape = strips::block_shape(plan, k);
-    let corner = shape.first_row * plan.columns + shape.first_column;
-    let mut work = [0; STRIDE * STRIDE];
-    read_block(
-        map,
-        corner,
-        plan.columns,
-        &mut work,
-        shape.rows,
-        shape.columns,
-    );
-    let mut pass = 0;
-    while pass < 4 {
-        run_block_pass(plan, shape, pass, &mut work);
-        write_strip(plan, k, pass, shape, &work, strips);
-        pass += 1;
     }
 }

@@ -8,7 +8,8 @@ use Rattle.blocks.specs.Geometry.{partOf}
 use Rattle.blocks.specs.Strips.{slotWritten}
 use Rattle.blocks.specs.Writes.{mapOf, aloneWord, collected}
 use Rattle.blocks.proofs.Strips.{slot-none}
-use Rattle.block.proofs.Work.{shape-in-work, block-in-work, block-in-map, corner-in-map}
+use Rattle.block.proofs.Work.{shape-in-work, block-in-map, corner-in-map}
+use Rattle.block.proofs.Cells.{blank-clear}
 use Rattle.block.proofs.Passes.{Alone, alone-turn}
 use Rattle.block.proofs.Edges.{slot-more}
 use Rattle.block.proofs.Images.{alone-start}
@@ -38,15 +39,16 @@ add-corner c =
     let s = c .before .before .before .before .before in
     omega (arith, corner-in-map (s .args .plan) (s .args .k) _ _ (c .before .before .before .block-shape .ensures) (s .pre .0) (s .pre .1) (s .pre .2))
 
-slice-aggregate-read-block : tie.Need-slice-aggregate-read-block Inv-loop μ-loop
-slice-aggregate-read-block c = search needs
+slice-aggregate-load-block : tie.Need-slice-aggregate-load-block Inv-loop μ-loop
+slice-aggregate-load-block c = search needs
 
-read-block-requires : tie.Need-read-block-requires Inv-loop μ-loop
-read-block-requires c κs =
+load-block-requires : tie.Need-load-block-requires Inv-loop μ-loop
+load-block-requires c κs =
     let s = c .before .before .before .before .before .before in
     let shaped = c .before .before .before .before .block-shape .ensures in (
       block-in-map (s .args .plan) (s .args .k) _ _ shaped (s .pre .0) (s .pre .1) (s .pre .2),
-      block-in-work (s .args .plan) (s .args .k) _ _ shaped (s .pre .0) (s .pre .1) refl,
+      shape-in-work (s .args .plan) (s .args .k) 0 _ shaped (s .pre .0) (s .pre .1),
+      blank-clear _,
     )
 
 loop-holds : tie.Need-loop-holds Inv-loop μ-loop
@@ -55,7 +57,7 @@ loop-holds c =
     let shaped = c .before .before .before .before .before .before .block-shape .ensures in (
       omega arith,
       refl,
-      alone-start (s .args .plan) (s .args .k) (s .pre .0) (s .pre .1) (s .args .map .now) _ _ shaped (c .before .read-block .ensures),
+      alone-start (s .args .plan) (s .args .k) (s .pre .0) (s .pre .1) (s .args .map .now) _ _ shaped (c .before .load-block .ensures),
       sym (slot-none (s .args .plan) (s .args .k) _ _),
     )
 
@@ -128,8 +130,8 @@ collect-spec =
     block-shape-requires
     mul-corner
     add-corner
-    slice-aggregate-read-block
-    read-block-requires
+    slice-aggregate-load-block
+    load-block-requires
     loop-holds
     slice-aggregate-run-block-pass
     run-block-pass-requires

@@ -1,101 +1,152 @@
--- `load_margin` has loaded the places passed so far.
-use mathlib.Core.Path.{_≡_, refl}
-use Prim.Native.Nat.{ℕ, _+_, _*_, _-_, _<_, _≤_}
+-- `load_margin` copies the neighbour's rectangle of the strip into the margin.
 use native.Mathlib.Omega.{arith}
 use borrow.Author.Needs.{needs}
 use lib.ListN.{length}
-use Rattle.strips.specs.Reading.{stripRead}
-use Rattle.block.specs.Work.{placeLoaded, marginLoaded}
-use Rattle.block.proofs.Copies.{rectangle-none, rectangle-more}
+use Prim.Native.Nat.{_+_, _≤_}
+use Rattle.plan.proofs.Record.{order-limited-at}
+use Rattle.passes.specs.Passes.{axisOf, across}
+use Rattle.blocks.specs.Strips.{orderOf}
+use Rattle.block.specs.Work.{workStride, ShapeFits}
+use Rattle.block.proofs.Work.{shape-in-work}
+use Rattle.block.proofs.Neighbours.{StripLies}
+use Rattle.block.proofs.Loads.{
+  strip-lies,
+  rows-in-list,
+  columns-in-list,
+  first-in-work,
+  rows-in-work,
+  columns-in-work,
+  rows-loaded,
+  columns-loaded,
+}
 use Rattle.block.proofs.load_margin.Statement.{statement}
 use Rattle.block.proofs.load_margin.Tie as tie
 
-abbrev Inv-loop : tie.InvT-loop
-Inv-loop strips strip work₀ margin place₀ work place =
-    (place ≤ margin .places)
-    × (length work ≡ length work₀)
-    × (work ≡ marginLoaded strip strips margin place work₀)
+fits : (c : tie.Start) → ShapeFits (c .args .shape)
+fits c = shape-in-work (c .args .t1) (c .args .k) 0 (c .args .shape) (c .pre .3) (c .pre .0) (c .pre .1)
 
-abbrev μ-loop : tie.MeasureT-loop
-μ-loop strips strip work₀ margin place₀ work place = margin .places - place
+lies : (c : tie.After-strip-before)
+    → let a = c .before .before .before .before .args in
+    StripLies (axisOf (a .pass)) (length (a .strips .now)) (orderOf (a .t1) (a .pass))
+    (across (axisOf (a .pass)) (a .shape .rows) (a .shape .columns)) (c .strip-before .result)
+lies c =
+    let s = c .before .before .before .before in
+    strip-lies (s .args .t1) (s .args .k) (s .args .pass) (s .pre .0) (s .pre .1) (s .pre .2) (s .args .shape) (s .pre .3) _
+    (c .strip-before .ensures) _ (s .pre .4)
 
--- The lines of this place are in the work array.
-there : (c : tie.Then1 Inv-loop μ-loop) (line : ℕ)
-    → let a = c .before .before .before .before .before .args in
-    line < a .margin .lines
-    → a .margin .start + c .before .before .loop .place * a .margin .«place_step» + line * a .margin .«line_step»
-    < length (a .work .now)
-there c line h =
-    c .before .before .before .before .before .pre .1 .at (c .before .before .loop .place) line (c .if1 .taken) h
+row-small : (c : tie.After-margin-start) → c .margin-start .result + c .before .before .before .before .before .strip-before .result .first ≤ workStride
+row-small c =
+    let s = c .before .before .before .before .before .before .before .before .before in
+    first-in-work (s .args .t1) (s .args .k) (s .args .pass) (s .pre .0) (s .pre .1) (s .pre .2) (s .args .shape) (s .pre .3) _
+    (c .before .before .before .before .before .strip-before .ensures) _ (s .pre .4) _ _ (fits s .rows-high) (c .margin-start .ensures)
 
-first : (c : tie.Then1 Inv-loop μ-loop)
-    → let a = c .before .before .before .before .before .args in
-    a .margin .start + c .before .before .loop .place * a .margin .«place_step» < length (a .work .now)
-first c = omega (arith, there c 0 (c .before .before .before .before .before .pre .1 .some))
+column-small : (c : tie.After-margin-start2) → c .margin-start2 .result + c .before .before .before .before .before .strip-before .result .first ≤ workStride
+column-small c =
+    let s = c .before .before .before .before .before .before .before .before .before in
+    first-in-work (s .args .t1) (s .args .k) (s .args .pass) (s .pre .0) (s .pre .1) (s .pre .2) (s .args .shape) (s .pre .3) _
+    (c .before .before .before .before .before .strip-before .ensures) _ (s .pre .4) _ _ (fits s .columns-high) (c .margin-start2 .ensures)
 
-loop-holds : tie.Need-loop-holds Inv-loop μ-loop
-unfolding marginLoaded
-loop-holds c =
-    let a = c .before .before .args in (
-      omega arith,
-      refl,
-      rectangle-none (λ i l. a .margin .start + i * a .margin .«place_step» + l * a .margin .«line_step»)
-          (λ i l. stripRead (a .strip) (a .strips .now) l i) _ _,
+mul-described : tie.Need-mul-described
+mul-described c = search needs
+
+element-copy-out-described : tie.Need-element-copy-out-described
+element-copy-out-described c = search needs
+
+strip-before-requires : tie.Need-strip-before-requires
+strip-before-requires c κs = search needs
+
+sub-places : tie.Need-sub-places
+sub-places c = lies (c .before) .ordered
+
+mul-start : tie.Need-mul-start
+mul-start c = omega (arith, lies (c .before .before) .start-in)
+
+add-start : tie.Need-add-start
+add-start c = omega (arith, lies (c .before .before .before) .start-in)
+
+margin-start-requires : tie.Need-margin-start-requires
+margin-start-requires c κs = let s = c .before .before .before .before .before .before .before .before in (order-limited-at (s .args .t1) (s .pre .0) (s .args .pass) (s .pre .2), fits s .rows-high)
+
+add-row : tie.Need-add-row
+add-row c = omega (arith, row-small c)
+
+mul-copy-rectangle : tie.Need-mul-copy-rectangle
+mul-copy-rectangle c = omega (arith, row-small (c .before))
+
+add-copy-rectangle : tie.Need-add-copy-rectangle
+add-copy-rectangle c = omega (arith, row-small (c .before))
+
+copy-rectangle-requires : tie.Need-copy-rectangle-requires
+copy-rectangle-requires c κs =
+    let s = c .before .before .before .before .before .before .before .before .before .before in (
+      rows-in-list (s .args .t1) (s .args .k) (s .args .pass) (s .pre .0) (s .pre .1) (s .pre .2) (s .args .shape) (s .pre .3) _
+          (c .before .before .before .before .before .before .strip-before .ensures) _ (s .pre .4) (c .before .before .if1 .taken),
+      rows-in-work (s .args .t1) (s .args .k) (s .args .pass) (s .pre .0) (s .pre .1) (s .pre .2) (s .args .shape) (s .pre .3) _
+          (c .before .before .before .before .before .before .strip-before .ensures) _ (s .pre .4) _ _ (fits s .rows-high) (c .before .margin-start .ensures) _ (s .pre .5),
     )
 
-mul-load-place : tie.Need-mul-load-place Inv-loop μ-loop
-mul-load-place c = let h = first (c .before .before) in omega arith
+margin-start-requires-2 : tie.Need-margin-start-requires-2
+margin-start-requires-2 c κs = let s = c .before .before .before .before .before .before .before .before in (order-limited-at (s .args .t1) (s .pre .0) (s .args .pass) (s .pre .2), fits s .columns-high)
 
-add-load-place : tie.Need-add-load-place Inv-loop μ-loop
-add-load-place c = let h = first (c .before .before .before) in omega arith
+add-column : tie.Need-add-column
+add-column c = omega (arith, column-small c)
 
-load-place-requires : tie.Need-load-place-requires Inv-loop μ-loop
-load-place-requires c κs =
-    let t = c .before .before .before in (
-      t .before .before .before .before .before .pre .0,
-      record { at = λ line h. rw (t .before .before .loop .inv .1) (there t line h) },
+mul-copy-rectangle-2 : tie.Need-mul-copy-rectangle-2
+mul-copy-rectangle-2 c = search needs
+
+add-copy-rectangle-2 : tie.Need-add-copy-rectangle-2
+add-copy-rectangle-2 c = omega (arith, column-small (c .before))
+
+copy-rectangle-requires-2 : tie.Need-copy-rectangle-requires-2
+copy-rectangle-requires-2 c κs =
+    let s = c .before .before .before .before .before .before .before .before .before .before in (
+      columns-in-list (s .args .t1) (s .args .k) (s .args .pass) (s .pre .0) (s .pre .1) (s .pre .2) (s .args .shape) (s .pre .3) _
+          (c .before .before .before .before .before .before .strip-before .ensures) _ (s .pre .4) (c .before .before .if1 .left),
+      columns-in-work (s .args .t1) (s .args .k) (s .args .pass) (s .pre .0) (s .pre .1) (s .pre .2) (s .args .shape) (s .pre .3) _
+          (c .before .before .before .before .before .before .strip-before .ensures) _ (s .pre .4) _ _ (fits s .columns-high) (c .before .margin-start2 .ensures) _ (s .pre .5),
     )
 
-add-place : tie.Need-add-place Inv-loop μ-loop
-add-place c = search needs
-
-loop-less : tie.Need-loop-less Inv-loop μ-loop
-loop-less c = search needs
-
-loop-again : tie.Need-loop-again Inv-loop μ-loop
-unfolding marginLoaded placeLoaded
-loop-again c =
-    let f = c .before .before in
-    let l = f .before .before .before .before .before .before in
-    let a = l .before .before .before .args in (
-      omega arith,
-      omega (arith, f .load-place .kept, l .loop .inv .1),
-      rectangle-more (λ i l. a .margin .start + i * a .margin .«place_step» + l * a .margin .«line_step»)
-          (λ i l. stripRead (a .strip) (a .strips .now) l i) _ (l .loop .place) _ (l .loop .work) _ (l .loop .inv .2)
-          (f .load-place .ensures),
-    )
-
-same-length : tie.Need-same-length Inv-loop μ-loop
+same-length : tie.Need-same-length
 same-length c = search needs
 
-returns : tie.Need-returns Inv-loop μ-loop
+returns : tie.Need-returns
 returns c =
-    let l = c .before .before in
-    let e : l .loop .place ≡ l .before .before .before .args .margin .places = omega arith in
-    rw e at (l .loop .inv .2)
+    let s = c .before .before .before .before .before .before .before .before .before .before .before .before .before in
+    rows-loaded (s .args .t1) (s .args .k) (s .args .pass) (s .pre .0) (s .pre .1) (s .pre .2) (s .args .shape) (s .pre .3) _
+    (c .before .before .before .before .before .before .before .before .before .strip-before .ensures) _ (s .pre .4) _ _ _ (s .pre .5) (s .pre .6) _ (c .before .before .before .before .before .if1 .taken)
+    (c .before .before .before .before .margin-start .ensures) (c .before .before .copy-rectangle .ensures)
+
+same-length-2 : tie.Need-same-length-2
+same-length-2 c = search needs
+
+returns-2 : tie.Need-returns-2
+returns-2 c =
+    let s = c .before .before .before .before .before .before .before .before .before .before .before .before .before in
+    columns-loaded (s .args .t1) (s .args .k) (s .args .pass) (s .pre .0) (s .pre .1) (s .pre .2) (s .args .shape) (s .pre .3) _
+    (c .before .before .before .before .before .before .before .before .before .strip-before .ensures) _ (s .pre .4) _ _ _ (s .pre .5) (s .pre .6) _ (c .before .before .before .before .before .if1 .left)
+    (c .before .before .before .before .margin-start2 .ensures) (c .before .before .copy-rectangle2 .ensures)
 
 pub load-margin-spec : {M : Type 1} → statement M
 load-margin-spec =
     tie.close
     (tie.spec
-    Inv-loop
-    μ-loop
-    loop-holds
-    mul-load-place
-    add-load-place
-    load-place-requires
-    add-place
-    loop-less
-    loop-again
+    mul-described
+    element-copy-out-described
+    strip-before-requires
+    sub-places
+    mul-start
+    add-start
+    margin-start-requires
+    add-row
+    mul-copy-rectangle
+    add-copy-rectangle
+    copy-rectangle-requires
+    margin-start-requires-2
+    add-column
+    mul-copy-rectangle-2
+    add-copy-rectangle-2
+    copy-rectangle-requires-2
     same-length
-    returns)
+    returns
+    same-length-2
+    returns-2)
