@@ -1,17 +1,13 @@
 -- The histories of the lines, added to the responses. Assumes nothing.
-use mathlib.Core.Bool.{Bool, true, false, _&&_, cond}
 use mathlib.Core.Path.{_≡_, refl, ap, ap₂, sym, _∙_}
-use mathlib.Core.Logic.{_≢_}
 use mathlib.Core.List.{List, []}
-use Prim.Native.Nat.{ℕ, suc, _+_, _-_, _*_, _<_, _≤_}
+use Prim.Native.Nat.{ℕ, suc, _+_, _-_, _*_, _^_, _<_, _≤_}
 use native.Mathlib.Omega.{arith}
 use native.Mathlib.Numerals.{add-one}
 use native.Mathlib.Decide.{decLt, ℕ-discrete}
-use borrow.Author.Tests.{lt-ltb, le-ltb, le-leb, lt-leb}
-use lib.Dec.{ltb, leb}
 use lib.ListN.{length, set, getD}
-use lib.Seq.{getD-set-same, getD-set-other}
-use Rattle.word.specs.Word.{_⊕_}
+use Rattle.word.proofs.Ring.{add-assoc, zero-mul, zero-right, reduced-small}
+use Rattle.word.specs.Word.{_⊕_, _⊗_}
 use Rattle.plan.specs.Rules.{orderLimit}
 use Rattle.plan.specs.declared.Plan.{Plan}
 use Rattle.passes.specs.Filter.{Filter}
@@ -27,121 +23,131 @@ use Rattle.strips.specs.declared.Strip.{Strip}
 use Rattle.squares.specs.LinePasses.{passSquare, withHistories, crossed, response}
 use Rattle.squares.specs.Lines.{rowWords, rowsBefore, filterAt}
 use Rattle.link.specs.Courses.{indexAt, CourseFits, LinkFits}
-use Rattle.link.specs.Words.{responseWords, LinesReady, responsePlace, historyWord, lineAdded, LinesAdded, Carried, Held, linkedWord}
+use Rattle.link.specs.Words.{responseWords, LinesReady, responsePlace, linesInside, multipleAdded, weightsAt, MultiplesAdded, DistanceAdded, historyWord, HistoriesAdded, Carried, Held}
 use Rattle.link.specs.declared.Course.{Course}
-use Rattle.link.proofs.Buffers.{written-more, written-ahead}
+use Rattle.link.proofs.Buffers.{written-more}
 use Rattle.link.proofs.Courses.{link-orders, past-edges}
-use Rattle.link.proofs.Weights.{sum-reads, sum-of-order}
+use Rattle.link.proofs.Reading.{read-inside, read-outside}
+use Rattle.link.proofs.Weights.{sum-reads}
 
--- One place of a line more.
-pub line-added-next : (at : ℕ) (history : List ℕ) (square : List (List ℕ)) (n : ℕ) (before : List ℕ) {b : List ℕ} {sum v : ℕ}
-    → b ≡ lineAdded at history square n before
-    → sum ≡ weightedSum orderLimit (wordAt history) (wordAt (getD square n []))
-    → v ≡ wordAt b (at + n) ⊕ sum
-    → set b (at + n) v ≡ lineAdded at history square (n + 1) before
-unfolding lineAdded
-line-added-next at history square n before e f g =
-    written-more (λ p. at + p) _ n before e
-    (g ∙ ap₂ _⊕_ (ap (λ z. wordAt z (at + n)) e ∙ written-ahead at _ n before) f)
+-- ---- multiples of words that lie apart
 
--- No line yet.
-pub lines-none : (order : ℕ) (H : ℕ → ℕ → ℕ) (square : List (List ℕ)) (before : List ℕ) → LinesAdded 0 order H square before before
-lines-none order H square before =
+pub multiple-next : (place : ℕ) (strips : List ℕ) (at step weight n : ℕ) (before : List ℕ) {b : List ℕ} {m v : ℕ}
+    → b ≡ multipleAdded place strips at step weight n before → m ≡ wordAt strips (at + n * step) ⊗ weight
+    → v ≡ wordAt b (responsePlace n place) ⊕ m
+    → set b (responsePlace n place) v ≡ multipleAdded place strips at step weight (n + 1) before
+unfolding multipleAdded
+multiple-next place strips at step weight n before e f g =
+    written-more (λ l. responsePlace l place) _ n before e
+    (g
+    ∙ ap₂ _⊕_
+    (ap (λ z. wordAt z (responsePlace n place)) e
+    ∙ written-other (λ l. responsePlace l place) _ n before _ (λ i h q. omega arith))
+    f)
+
+-- No place yet.
+pub multiples-none : (lines : ℕ) (words weights : ℕ → ℕ) (before : List ℕ) → MultiplesAdded lines 0 words weights before before
+multiples-none lines words weights before =
     record { length-kept = refl; at = λ line place h b. absurd (omega arith); rest = λ line place h b. refl }
 
--- One line more.
-pub lines-next : (n order : ℕ) (H : ℕ → ℕ → ℕ) (square : List (List ℕ)) (before : List ℕ) → order ≤ orderLimit → n < 32
-    → length before ≡ responseWords → (history : List ℕ) {b after : List ℕ} → LinesAdded n order H square before b
-    → ((j : ℕ) → j < orderLimit → wordAt history j ≡ H n j)
-    → after ≡ lineAdded ((orderLimit + n) * orderLimit) history square order b
-    → LinesAdded (n + 1) order H square before after
-unfolding lineAdded
-lines-next n order H square before few here long history {b} {after} added e f =
+-- One place more.
+pub multiples-next : (lines n : ℕ) (strips : List ℕ) (at step : ℕ) (weights : ℕ → ℕ) (before : List ℕ) → lines ≤ 32
+    → n < orderLimit → length before ≡ responseWords → {b after : List ℕ}
+    → MultiplesAdded lines n (λ l. wordAt strips (at + l * step)) weights before b
+    → after ≡ multipleAdded n strips at step (weights n) lines b
+    → MultiplesAdded lines (n + 1) (λ l. wordAt strips (at + l * step)) weights before after
+unfolding multipleAdded
+multiples-next lines n strips at step weights before few here long {b} {after} added f =
     record {
-      length-kept = ap length f ∙ written-length place word order b ∙ added .length-kept;
+      length-kept = ap length f ∙ written-length to word lines b ∙ added .length-kept;
       at = λ line p h c.
-          elim (decLt line n) [
-            | yes l ↦ elsewhere line p (omega arith) (omega arith) ∙ added .at line p l c
-            | no l ↦
-                let q : line ≡ n = omega arith in
+          elim (ℕ-discrete p n) [
+            | yes q ↦
                 rw q
-                (ap (λ z. wordAt z (responsePlace n p)) f
-                ∙ written-at place word order b (λ i j x y z. omega arith)
-                (λ i x. omega (arith, added .length-kept)) p c
-                ∙ ap₂ _⊕_ (added .rest n p (omega arith) (omega arith)) (sum-reads _ _ _ _ orderLimit e (λ j x. refl)))
+                (ap (λ z. wordAt z (responsePlace line n)) f
+                ∙ written-at to word lines b (λ i j x y z. omega arith) (λ i x. omega (arith, added .length-kept)) line h
+                ∙ ap (_⊕ (wordAt strips (at + line * step) ⊗ weights n)) (added .rest line n here (λ x y. omega arith)))
+            | no q ↦ elsewhere line p (omega arith) (λ x y. q y) ∙ added .at line p h (omega arith)
           ];
-      rest = λ line p h c. elsewhere line p (omega arith) c ∙ added .rest line p (omega arith) c;
+      rest = λ line p c out.
+          elsewhere line p c (λ x y. out x (omega arith)) ∙ added .rest line p c (λ x y. out x (omega arith));
     }
   where
-    place : ℕ → ℕ
-    place p = (orderLimit + n) * orderLimit + p
+    to : ℕ → ℕ
+    to l = responsePlace l n
 
     word : ℕ → ℕ
-    word p = wordAt b (place p) ⊕ weightedSum orderLimit (wordAt history) (wordAt (getD square p []))
+    word l = wordAt b (to l) ⊕ wordAt strips (at + l * step) ⊗ weights n
 
-    elsewhere : (line p : ℕ) → line ≢ n → p < orderLimit → wordAt after (responsePlace line p) ≡ wordAt b (responsePlace line p)
-    elsewhere line p h c =
+    elsewhere : (line p : ℕ) → p < orderLimit → (line < lines → p ≡ n → ⊥)
+        → wordAt after (responsePlace line p) ≡ wordAt b (responsePlace line p)
+    elsewhere line p c out =
         ap (λ z. wordAt z (responsePlace line p)) f
-        ∙ written-other place word order b _
+        ∙ written-other to word lines b _
         (λ i x z.
-        h (omega (arith, same-row-column orderLimit (orderLimit + line) p (orderLimit + n) i c (omega arith) z .0)))
+        let same = same-row-column orderLimit (orderLimit + line) p (orderLimit + i) n c here z in
+        out (omega (arith, same .0)) (same .1))
 
--- ---- the history of a line
+-- ---- the histories of the lines
+
+-- A word with 0 added.
+add-none : (a b c : ℕ) → a < 2 ^ 64 → b ≡ 0 → a ≡ a ⊕ b ⊗ c
+add-none a b c h e = sym (rw (e, zero-mul, zero-right) (reduced-small a h))
+
+-- The words of a place in the block.
+pub distance-some : (strip : Strip) (place lines places : ℕ) (strips : List ℕ) (weights : ℕ → ℕ) (before : List ℕ)
+    → ((z : ℕ) → wordAt before z < 2 ^ 64) → places ≤ orderLimit → {n : ℕ} {after : List ℕ} → n ≡ linesInside strip place lines
+    → MultiplesAdded n places (λ l. wordAt strips (strip .start + place * strip .«place_step» + l * strip .«line_step»))
+    weights before after
+    → DistanceAdded lines places (λ l. stripRead strip strips l place) weights before after
+distance-some strip place lines places strips weights before small few {n} e added =
+    record {
+      length-kept = added .length-kept;
+      at = λ line p h b.
+          elim (decLt line n) [
+            | yes l ↦
+                added .at line p l b
+                ∙ ap (λ z. wordAt before (responsePlace line p) ⊕ z ⊗ weights p)
+                (sym (read-inside strip place lines strips line (omega arith)))
+            | no l ↦
+                added .rest line p (omega arith) (λ x y. l x)
+                ∙ add-none _ _ (weights p) (small _) (read-outside strip place lines strips line (omega arith) h)
+          ];
+    }
+
+-- A place outside the block.
+pub distance-none : (strip : Strip) (place lines places : ℕ) (strips : List ℕ) (weights : ℕ → ℕ) (before : List ℕ)
+    → ((z : ℕ) → wordAt before z < 2 ^ 64) → linesInside strip place lines ≡ 0
+    → DistanceAdded lines places (λ l. stripRead strip strips l place) weights before before
+distance-none strip place lines places strips weights before small e =
+    record {
+      length-kept = refl;
+      at = λ line p h b.
+          add-none _ _ (weights p) (small _) (read-outside strip place lines strips line (omega arith) h);
+    }
+
+-- No distance yet.
+pub histories-none : (lines places : ℕ) (H : ℕ → ℕ → ℕ) (square : List (List ℕ)) (before : List ℕ)
+    → ((z : ℕ) → wordAt before z < 2 ^ 64) → HistoriesAdded lines places 0 H square before before
+unfolding weightedSum
+histories-none lines places H square before small =
+    record { length-kept = refl; at = λ line p h b. sym (zero-right _ ∙ reduced-small _ (small _)) }
 
 -- One distance more.
-pub history-next : (f : ℕ → ℕ) (n : ℕ) (history : List ℕ) {v : ℕ} → n < length history → v ≡ f n
-    → ((j : ℕ) → j < orderLimit → wordAt history j ≡ cond (ltb j n) (f j) 0)
-    → (j : ℕ) → j < orderLimit → wordAt (set history n v) j ≡ cond (ltb j (n + 1)) (f j) 0
-history-next f n history {v} h e g j b =
-    elim (ℕ-discrete j n) [
-      | yes q ↦ rw (q, lt-ltb n (n + 1) (omega arith)) (getD-set-same history n v 0 h ∙ e)
-      | no q ↦ getD-set-other history n j v 0 q ∙ g j b ∙ ap (λ z. cond z (f j) 0) (same-test j n q)
-    ]
-  where
-    same-test : (j n : ℕ) → j ≢ n → ltb j n ≡ ltb j (n + 1)
-    same-test j n q =
-        elim (decLt j n) [
-          | yes l ↦ lt-ltb j n l ∙ sym (lt-ltb j (n + 1) (omega arith))
-          | no l ↦ le-ltb j n (omega arith) ∙ sym (le-ltb j (n + 1) (omega arith))
-        ]
-
--- ---- a word of the strip
-
-pub linked-inside : (course : Course) (responses : List ℕ) (own line place : ℕ) {v : ℕ} → line < course .lines
-    → orderLimit ≤ course .from + place → course .from + place < orderLimit + course .places
-    → v ≡ own ⊕ wordAt responses (responsePlace line place) → v ≡ linkedWord course responses own line place
-unfolding linkedWord
-linked-inside course responses own line place a b c e =
-    rw (
-      lt-ltb line (course .lines) a,
-      le-leb orderLimit (course .from + place) b,
-      lt-ltb (course .from + place) (orderLimit + course .places) c,
-    )
-    e
-
-pub linked-line-outside : (course : Course) (responses : List ℕ) (own line place : ℕ) → course .lines ≤ line
-    → 0 ≡ linkedWord course responses own line place
-unfolding linkedWord
-linked-line-outside course responses own line place a = rw (le-ltb line (course .lines) a)
-
-linked-outside : (a b c : Bool) (v : ℕ) → (b && c) ≡ false → 0 ≡ cond (a && (b && c)) v 0
-linked-outside true b c v e = rw e
-linked-outside false b c v e = refl
-
-pub linked-place-low : (course : Course) (responses : List ℕ) (own line place : ℕ) → course .from + place < orderLimit
-    → 0 ≡ linkedWord course responses own line place
-unfolding linkedWord
-linked-place-low course responses own line place h =
-    linked-outside (ltb line (course .lines)) (leb orderLimit (course .from + place))
-    (ltb (course .from + place) (orderLimit + course .places)) _ (rw (lt-leb orderLimit (course .from + place) h))
-
-pub linked-place-high : (course : Course) (responses : List ℕ) (own line place : ℕ)
-    → orderLimit + course .places ≤ course .from + place → 0 ≡ linkedWord course responses own line place
-unfolding linkedWord
-linked-place-high course responses own line place h =
-    linked-outside (ltb line (course .lines)) (leb orderLimit (course .from + place))
-    (ltb (course .from + place) (orderLimit + course .places)) _
-    (rw (le-ltb (course .from + place) (orderLimit + course .places) h, le-leb orderLimit (course .from + place) (omega arith)))
+pub histories-more : (lines places n : ℕ) (H : ℕ → ℕ → ℕ) (square : List (List ℕ)) (before : List ℕ) {b after : List ℕ}
+    {words : ℕ → ℕ} → HistoriesAdded lines places n H square before b → ((line : ℕ) → words line ≡ H line n)
+    → DistanceAdded lines places words (weightsAt square n) b after
+    → HistoriesAdded lines places (n + 1) H square before after
+unfolding weightedSum
+histories-more lines places n H square before held e added =
+    rw (add-one n)
+    (record {
+      length-kept = added .length-kept ∙ held .length-kept;
+      at = λ line p h b.
+          added .at line p h b
+          ∙ ap₂ (λ s t. s ⊕ t ⊗ weightsAt square n p) (held .at line p h b) (e line)
+          ∙ add-assoc _ _ _;
+    })
 
 -- ---- the histories of a pass, weighted by its square
 
@@ -153,10 +159,9 @@ pub histories-carried : {plan : Plan} {k : ℕ} {course : Course} {filters : Lis
     {before after : List ℕ}
     → ((p j : ℕ) → p < orderLimit → j < orderLimit
     → wordAt (getD square p []) j ≡ wordAt lines ((row + j) * rowWords + (course .from + p)))
-    → LinesAdded (course .lines) (course .order)
+    → HistoriesAdded (course .lines) (course .order) (filterAt filters pass .order)
     (historyWord (directionOf pass) (filterAt filters pass .order) strip strips) square before after
     → Carried (filterAt filters) course pass (pastEdges plan strips k pass) before after
-unfolding historyWord
 histories-carried {plan} {k} {course} {filters} fits pass a b strips lines ready strip s {row} r {square} {before} q added =
     let h : pass < 4 = omega (arith, fits .course-fits .passes-counted) in
     let order = filterAt filters pass .order in
@@ -166,15 +171,9 @@ histories-carried {plan} {k} {course} {filters} fits pass a b strips lines ready
       at = λ line place l i.
           added .at line place l (i .below)
           ∙ ap (wordAt before (responsePlace line place) ⊕_)
-          (sum-of-order _ (wordAt (getD square place [])) order orderLimit few
+          (sum-reads _ _ _ _ order
           (λ j c.
-          ap (λ z. cond z (stripRead strip strips line (fromEdge (directionOf pass) order j)) 0) (le-ltb j order c))
-          ∙ sum-reads _ _ _ _ order
-          (λ j c.
-          ap
-          (λ z. cond z (stripRead strip strips line (fromEdge (directionOf pass) order j)) 0)
-          (lt-ltb j order c)
-          ∙ ap (λ z. stripRead z strips line (fromEdge (directionOf pass) order j)) s
+          ap (λ z. stripRead z strips line (fromEdge (directionOf pass) order j)) s
           ∙ past-edges fits strips pass h line j c)
           (λ j c.
           let low = i .low in

@@ -107,13 +107,6 @@ counted pass =
     by (suc zero) = omega arith
     by (suc (suc pass)) = omega arith
 
-last-pass : (pass : ℕ) → pass < 4 → pass < axisStart pass + axisPasses pass
-last-pass zero h = omega arith
-last-pass (suc zero) h = omega arith
-last-pass (suc (suc zero)) h = omega arith
-last-pass (suc (suc (suc zero))) h = omega arith
-last-pass (suc (suc (suc (suc pass)))) h = absurd (omega arith)
-
 ends-in-line : (d : Direction) (n order : ℕ) → endsFrom d n order ≤ orderLimit + n
 ends-in-line forward n order = omega arith
 ends-in-line backward n order = omega arith
@@ -148,7 +141,6 @@ course-fits plan k pass kept here h some =
       passes-counted = c .passes-counted;
       first-is = refl;
       passes-are = refl;
-      pass-in = last-pass pass h;
     }
 
 -- ---- filters and strips
@@ -181,7 +173,3 @@ module _ {plan : Plan} {k : ℕ} {course : Course} {filters : List FilterWords} 
 
   pub before-strip-fits : (pass : ℕ) → pass < 4 → StripFits n (stripBefore plan k pass)
   before-strip-fits pass h = before-fits plan k pass n (fits .counted) h (fits .strips-long)
-
-  -- The link's own pass has an order.
-  pub own-some : 0 < filterAt filters (course .pass) .order
-  own-some = rw (fits .own-order) (fits .course-fits .some-order)

@@ -8,7 +8,7 @@ use Prim.Native.Nat.{ℕ, zero, suc, _+_, _-_, _*_, _<_, _≤_}
 use native.Mathlib.Decide.{decLt}
 use native.Mathlib.Omega.{arith}
 use native.Mathlib.Numerals.{add-one}
-use native.Mathlib.Nat.{zero-add, mul-le-mul-right}
+use native.Mathlib.Nat.{zero-add, add-zero, sub-zero, mul-le-mul-right}
 use borrow.Author.Tests.{lt-ltb, le-ltb}
 use lib.ListN.{length}
 use Rattle.plan.specs.Rules.{orderLimit}
@@ -25,17 +25,17 @@ use Rattle.filter.specs.declared.Window.{Window}
 use Rattle.blocks.specs.Strips.{fromEdge}
 use Rattle.strips.specs.Reading.{stripRead}
 use Rattle.strips.specs.declared.Strip.{Strip}
-use Rattle.squares.proofs.LinePasses.{linePasses-late, onlyAt-other}
-use Rattle.squares.proofs.Lines.{margin-below, beside-lines, passed-along, lines-passed}
-use Rattle.squares.proofs.Rows.{row-passed, rows-next, rows-few, rows-in}
+use Rattle.squares.proofs.Lines.{margin-below, beside-lines, passed-along}
+use Rattle.squares.proofs.Rows.{row-passed, rows-next, rows-in}
 use Rattle.squares.proofs.Units.{margin-apart, units-filled}
 use Rattle.squares.specs.LinePasses.{onlyAt, linePasses, passSquare, rowEnd, crossed}
-use Rattle.squares.specs.Lines.{rowWords, lineRows, lineWords, rowsBefore, linesPassed, unitLines, OrdersFit}
-use Rattle.squares.specs.Rows.{ZerosFrom, RowsFilled}
+use Rattle.squares.specs.Lines.{rowWords, lineWords, rowsBefore, unitLines, OrdersFit}
+use Rattle.squares.specs.Rows.{JoinsAt, LinesPassed, ZerosFrom, RowsFilled}
 use Rattle.link.specs.Courses.{indexAt, CourseFits}
-use Rattle.link.specs.Words.{stripLines, rowHistory, rowInput, LinesFilled, LinesReady, responseWords, endsCopied, responsePlace, Crossed, Held}
+use Rattle.link.specs.Words.{linesInside, stripLines, rowHistory, rowInput, LinesFilled, LinesReady, responseWords, endsCopied, responsePlace, Crossed, Held}
 use Rattle.link.specs.declared.Course.{Course}
 use Rattle.link.proofs.Buffers.{rows-length, rows-other, rows-at}
+use Rattle.link.proofs.Reading.{lines-few, read-outside}
 
 -- ---- the lines of a strip in rows of zeros
 
@@ -47,33 +47,58 @@ module _ (places t m row : ℕ) (few-places : places ≤ 32) (d : Direction) (or
   abbrev lineWord : ℕ → ℕ → ℕ
   lineWord k j = stripRead strip strips j (fromEdge d order k)
 
+  abbrev lineWidth : ℕ → ℕ
+  lineWidth k = linesInside strip (fromEdge d order k) places
+
+  narrow : (k : ℕ) → lineWidth k ≤ places
+  narrow k = lines-few strip (fromEdge d order k) places
+
   abbrev filled : List ℕ
   filled = stripLines d order strip strips row places order before
+
+  -- Two places of the lines that are one.
+  same-line : (i j l p : ℕ) → j < places → p < places → lineStart i + j ≡ lineStart l + p → (i ≡ l) × (j ≡ p)
+  same-line i j l p a b e =
+      let same = same-row-column rowWords (row + i) (orderLimit + j) (row + l) (orderLimit + p) (omega arith) (omega arith)
+      (omega arith) in
+      (omega (arith, same .0), omega (arith, same .1))
+
+  line-inside : (k j : ℕ) → k < order → j < places → wordAt filled (lineStart k + j) ≡ lineWord k j
+  unfolding stripLines
+  line-inside k j h b =
+      elim (decLt j (lineWidth k)) [
+        | yes w ↦
+            rows-at lineStart lineWord lineWidth before order
+            (λ i l j p a b c e q. same-line i j l p (omega (arith, narrow i)) (omega (arith, narrow l)) q .0)
+            (λ l j a c. omega (arith, narrow l)) k j h w
+        | no w ↦
+            rows-other lineStart lineWord lineWidth before order _
+            (λ y x e f q.
+            let same = same-line k j y x b (omega (arith, narrow y)) q in
+            let here : y ≡ k = omega (arith, same .0) in
+            w (omega (arith, same .1, (rw here at f))))
+            ∙ zeros _ (omega arith)
+            ∙ sym (read-outside strip (fromEdge d order k) places strips j (omega arith) b)
+      ]
 
   pub strips-filled : RowsFilled places t m row order (λ k u i. 0) lineWord before filled
   unfolding stripLines
   strips-filled =
       record {
-        length-kept = rows-length lineStart lineWord places before order;
-        below = λ z h. rows-other lineStart lineWord places before order z (λ k j a b e. absurd (omega arith));
-        above = λ z h. rows-other lineStart lineWord places before order z (λ k j a b e. absurd (omega arith));
+        length-kept = rows-length lineStart lineWord lineWidth before order;
+        below = λ z h. rows-other lineStart lineWord lineWidth before order z (λ k j a b e. absurd (omega arith));
+        above = λ z h.
+            rows-other lineStart lineWord lineWidth before order z (λ k j a b e. absurd (omega (arith, narrow k)));
         lines = λ k h.
             record {
               inside = λ j b.
                   let place : pixelPlace rowWords (row + k) (orderLimit + j) ≡ lineStart k + j = omega arith in
-                  ap (wordAt filled) place
-                  ∙ rows-at lineStart lineWord places before order
-                  (λ i l j p a b c e q.
-                  omega (
-                    arith,
-                    same-row-column rowWords (row + i) (orderLimit + j) (row + l) (orderLimit + p) (omega arith) (omega arith)
-                        (omega arith) .0,
-                  ))
-                  (λ l j a c. omega arith) k j h b;
+                  ap (wordAt filled) place ∙ line-inside k j h b;
               beside = λ u i a b c.
-                  rows-other lineStart lineWord places before order _
+                  rows-other lineStart lineWord lineWidth before order _
                   (λ y x e f q.
-                  beside-lines (directionOf u) places (row + k) i (row + y) x few-places c f (q ∙ omega arith))
+                  beside-lines (directionOf u) places (row + k) i (row + y) x few-places c (omega (arith, narrow y))
+                  (q ∙ omega arith))
                   ∙ zeros _ (omega arith);
             };
       }
@@ -212,75 +237,53 @@ filled-more filters course H pass fits held filled =
 
 -- ---- after the passes
 
--- There are rows, and the buffer has as many.
-pub link-rows : (filters : ℕ → Filter) (course : Course) → CourseFits course → OrdersFit filters
-    → 0 < filters (course .pass) .order → {rows : ℕ} → rows ≡ rowsBefore filters (course .first + course .passes)
-    → (0 < rows) × (rows ≤ lineRows)
-link-rows filters course fits orders some e =
-    let count = course .first + course .passes in
-    rw e (
-      omega (arith, some, rows-grow filters (course .pass) count (fits .pass-in)),
-      omega (arith, rows-few filters orders count (fits .passes-counted), fits .passes-counted),
-    )
+rows-rise : (filters : ℕ → Filter) (u v : ℕ) → u ≤ v → rowsBefore filters u ≤ rowsBefore filters v
+rows-rise filters u v h =
+    elim (decLt u v) [
+      | yes l ↦ omega (arith, rows-grow filters u v l)
+      | no l ↦ let e : u ≡ v = omega arith in rw e (omega arith)
+    ]
 
 -- What `link_lines` makes.
 pub lines-ready : (filters : ℕ → Filter) (course : Course) (H : ℕ → ℕ → ℕ → ℕ) → CourseFits course → OrdersFit filters
-    → 0 < filters (course .pass) .order → {before after : List ℕ} {rows : ℕ}
-    → LinesFilled filters course H (course .first + course .passes) before
-    → rows ≡ rowsBefore filters (course .first + course .passes)
-    → after ≡ linesPassed filters rows (course .places) (course .first) (course .passes) before
-    → LinesReady filters course H after
+    → {before after : List ℕ} → LinesFilled filters course H (course .first + course .passes) before
+    → LinesPassed filters (course .places) (course .first) (course .passes) before after → LinesReady filters course H after
 unfolding rowEnd passSquare
-lines-ready filters course H fits orders some {before} {after} {rows} filled r e =
+lines-ready filters course H fits orders {before} {after} filled lined =
     record {
-      length-is =
-          ap length e
-          ∙ lines-passed filters rows (course .places) some-rows few-rows (fits .some-places) (fits .few-places) orders
-          (course .first) (course .passes) (fits .passes-counted) before long .length-kept
-          ∙ filled .length-is;
+      length-is = lined .length-kept ∙ filled .length-is;
       ends = λ pass k i h b c.
-          passed pass k i (omega (arith, fits .some-passes)) b c
-          ∙ ap₂ (λ P x. linePasses filters (course .places) P x (course .first) (course .passes) i)
+          passed pass 0 k i (omega (arith, fits .some-passes)) (omega arith) b c
+          (record {
+            not-before = λ v a. absurd (omega arith);
+            from-there = λ v a d. omega (arith, rows-grow filters pass (course .first + v + 1) (omega arith));
+          })
+          ∙ ap₂ (λ P x. linePasses filters (course .places) P x (course .first + 0) (course .passes - 0) i)
           (strip-history course H pass k h) (strip-input course H pass k h)
-          ∙ ap₂ (λ t m. linePasses filters (course .places) (λ v k. 0) (λ j. H pass j k) t m i) (fits .first-is)
-          (fits .passes-are);
+          ∙ ap₂ (λ t m. linePasses filters (course .places) (λ v k. 0) (λ j. H pass j k) t m i)
+          (add-zero (course .first) ∙ fits .first-is) (sub-zero (course .passes) ∙ fits .passes-are);
       squares = λ pass k i h b c d.
           let s : ℕ = pass - course .first in
-          let m : ℕ = (course .first + course .passes) - pass in
           let at : course .first + s ≡ pass = omega arith in
-          let count : course .passes ≡ s + m = omega arith in
-          passed pass k i b c d
-          ∙ ap₂ (λ P x. linePasses filters (course .places) P x (course .first) (course .passes) i)
+          let count : course .passes - s ≡ (course .first + course .passes) - pass = omega arith in
+          passed pass s k i b (omega arith) c d
+          (record {
+            not-before = λ v a. omega (arith, rows-rise filters (course .first + v + 1) pass (omega arith));
+            from-there = λ v a e. omega (arith, rows-grow filters pass (course .first + v + 1) (omega arith));
+          })
+          ∙ ap₂ (λ P x. linePasses filters (course .places) P x (course .first + s) (course .passes - s) i)
           (unit-history course H pass k h) (unit-input course H pass k h)
-          ∙ ap
-          (λ z. linePasses filters (course .places) (onlyAt pass (unitHistory k)) (λ i. 0) (course .first) z i)
-          count
-          ∙ linePasses-late filters (course .places) (onlyAt pass (unitHistory k)) (course .first) s m i
-          (λ u j a q. onlyAt-other pass (unitHistory k) u j (omega arith))
-          ∙ ap (λ z. linePasses filters (course .places) (onlyAt pass (unitHistory k)) (λ i. 0) z m i) at;
+          ∙ ap₂ (λ t m. linePasses filters (course .places) (onlyAt pass (unitHistory k)) (λ i. 0) t m i) at count;
     }
   where
-    count : ℕ
-    count = course .first + course .passes
-
-    long : lineWords ≤ length before
-    long = omega (arith, filled .length-is)
-
-    few-rows : rows ≤ lineRows
-    few-rows = link-rows filters course fits orders some r .1
-
-    some-rows : 0 < rows
-    some-rows = link-rows filters course fits orders some r .0
-
-    passed : (pass k i : ℕ) → pass < count → k < filters pass .order → i < course .places
+    passed : (pass s k i : ℕ) → pass < course .first + course .passes → s ≤ course .passes → k < filters pass .order
+        → i < course .places → JoinsAt filters (course .first) s (course .passes) (rowsBefore filters pass + k)
         → wordAt after (pixelPlace rowWords (rowsBefore filters pass + k) (orderLimit + i))
-        ≡ linePasses filters (course .places) (rowHistory course pass k) (rowInput course H pass k) (course .first)
-        (course .passes) i
-    passed pass k i h b c =
-        ap (λ z. wordAt z (pixelPlace rowWords (rowsBefore filters pass + k) (orderLimit + i))) e
-        ∙ row-passed filters rows (course .places) (course .first) (course .passes) some-rows few-rows (fits .some-places)
-        (fits .few-places) orders (fits .passes-counted) before long (rowHistory course pass k) (rowInput course H pass k)
-        (rowsBefore filters pass + k) (rw r (omega (arith, rows-grow filters pass count h))) (filled .lines pass k h b) i c
+        ≡ linePasses filters (course .places) (rowHistory course pass k) (rowInput course H pass k) (course .first + s)
+        (course .passes - s) i
+    passed pass s k i h a b c joins =
+        row-passed filters (course .places) (course .first) s (course .passes) orders (fits .passes-counted) a lined
+        (rowHistory course pass k) (rowInput course H pass k) (rowsBefore filters pass + k) joins (filled .lines pass k h b) i c
 
 -- ---- the ends in the margin of the responses
 
@@ -297,18 +300,21 @@ module _ (course : Course) (fits : CourseFits course) (d : Direction) (row order
   abbrev endWord : ℕ → ℕ → ℕ
   endWord k p = wordAt lines ((row + k) * rowWords + course .from + p)
 
+  abbrev endWidth : ℕ → ℕ
+  endWidth k = course .order
+
   abbrev loaded : List ℕ
   loaded = endsCopied d course row lines order before
 
   ends-length : length loaded ≡ length before
   unfolding endsCopied
-  ends-length = rows-length endStart endWord (course .order) before order
+  ends-length = rows-length endStart endWord endWidth before order
 
   ends-at : (k p : ℕ) → k < order → p < course .order → wordAt loaded (endStart k + p) ≡ endWord k p
   unfolding endsCopied
   ends-at k p h b =
       let few = fits .order-limited in
-      rows-at endStart endWord (course .order) before order
+      rows-at endStart endWord endWidth before order
       (λ i k j p a b c e q.
       margin-apart d (course .lines) i k (omega arith) (omega arith)
       (same-row-column orderLimit _ j _ p (omega arith) (omega arith) q .0))
@@ -318,7 +324,7 @@ module _ (course : Course) (fits : CourseFits course) (d : Direction) (row order
       → wordAt loaded (responsePlace line place) ≡ wordAt before (responsePlace line place)
   unfolding endsCopied
   ends-rest line place h b =
-      rows-other endStart endWord (course .order) before order _
+      rows-other endStart endWord endWidth before order _
       (λ k j a c q.
       margin-outside d (course .lines) k line (omega arith) h
       (same-row-column orderLimit (orderLimit + line) place _ j b (omega (arith, fits .order-limited)) q .0))

@@ -1,5 +1,6 @@
 pub mod Courses
 pub mod Buffers
+pub mod Reading
 pub mod Weights
 pub mod Crossing
 pub mod Carrying

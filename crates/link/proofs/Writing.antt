@@ -3,13 +3,14 @@ use mathlib.Core.Bool.{Bool, true, false, _&&_, cond}
 use mathlib.Core.List.{List}
 use mathlib.Core.Path.{_≡_, refl, ap, ap₂, sym, _∙_}
 use mathlib.Core.Logic.{_≢_}
-use Prim.Native.Nat.{ℕ, zero, suc, _+_, _-_, _*_, _/_, _%_, _<_, _≤_}
+use Prim.Native.Nat.{ℕ, zero, suc, _+_, _-_, _*_, _<_, _≤_}
 use native.Mathlib.Decide.{ℕ-discrete, decLe, decLt}
 use native.Mathlib.Omega.{arith}
-use native.Mathlib.Nat.{div-add-mod', mod-lt, add-mul, zero-div, zero-mod}
-use borrow.Author.Tests.{eq-eqb, ne-eqb, ltb-true, leb-true, lt-ltb, le-ltb, le-leb, lt-leb}
+use native.Mathlib.Nat.{div-add-mod', mul-le-mul-right}
+use borrow.Author.Tests.{ltb-true, leb-true, lt-ltb, le-ltb, le-leb, lt-leb}
 use lib.Dec.{ltb, leb}
-use lib.ListN.{set}
+use lib.ListN.{length, set}
+use lib.Seq.{ext-getD}
 use Rattle.word.proofs.Ring.{zero-add}
 use Rattle.word.specs.Word.{_⊕_}
 use Rattle.plan.proofs.Record.{rules, order-limited-at}
@@ -19,88 +20,285 @@ use Rattle.plan.specs.Sizes.{neededMarks, neededStrips}
 use Rattle.plan.specs.declared.Plan.{Plan}
 use Rattle.passes.specs.Filter.{Filter}
 use Rattle.passes.specs.Passes.{Axis, columns, rows, Direction, forward, backward, axisOf, directionOf, along, across, lineOf, filterLines, passesOver}
-use Rattle.filter.proofs.RowMajor.{row-of, column-of}
-use Rattle.filter.proofs.Written.{written-none, written-same-words}
+use Rattle.filter.proofs.Written.{written-none, written-length, written-same-words, written-other, written-at}
 use Rattle.filter.specs.Buffer.{wordAt}
 use Rattle.filter.specs.Filters.{filterOf, filtersOf}
+use Rattle.filter.specs.Written.{written}
 use Rattle.filter.specs.declared.FilterWords.{FilterWords}
 use Rattle.blocks.proofs.Geometry.{lines-in-side}
-use Rattle.blocks.proofs.Strips.{line-below, line-place-below, strip-in-list}
+use Rattle.blocks.proofs.Strips.{place-of-place, in-strip, line-below, line-place-below, strip-in-list}
 use Rattle.blocks.specs.Geometry.{rowsOf, columnsOf}
 use Rattle.blocks.specs.Strips.{orderOf, stripStart, placeInStrip, lineInStrip, placeInLine, stripPlace, placeInside, indexOfPlace, insideBlock, edgeWord, stripWord, pastEdges, stripWrittenTo}
 use Rattle.blocks.specs.Writes.{blockPasses, linkWord, linked}
 use Rattle.squares.proofs.Response.{response-is}
 use Rattle.squares.specs.LinePasses.{response}
 use Rattle.squares.specs.Lines.{filterAt}
-use Rattle.link.specs.Courses.{planFilters, endsFrom, courseOf, Inside, LinkFits}
-use Rattle.link.specs.Words.{responsePlace, Held, linkedWord, positionAt, nextPosition, linkedTo, StripLong}
+use Rattle.link.specs.Courses.{planFilters, endsFrom, courseOf, Inside, CourseFits, LinkFits}
+use Rattle.link.specs.Words.{WordsFit, responsePlace, Held, placeTest, courseLines, linkedWord, responsesAdded, linesCleared, PlaceWritten, laidAt, PlacesWritten, StripLaid, linkedTo, StripLong}
 use Rattle.link.specs.declared.Course.{Course}
-use Rattle.link.specs.declared.Position.{Position}
-use Rattle.link.proofs.Buffers.{written-more, written-ahead}
+use Rattle.link.proofs.Buffers.{written-more}
 use Rattle.link.proofs.Courses.{filter-is, course-fits}
 
--- ---- positions
+-- ---- the lines of the course that have a word at a place
 
--- The next place of rows of w words.
-row-next : (w q : ℕ) → 1 ≤ w → q % w + 1 ≢ w → ((q + 1) / w ≡ q / w) × ((q + 1) % w ≡ q % w + 1)
-row-next w q h n =
-    let d = div-add-mod' q w in
-    let l = mod-lt q h in
-    let e : q + 1 ≡ q / w * w + (q % w + 1) = omega arith in
-    (ap (_/ w) e ∙ row-of w (q / w) (q % w + 1) (omega arith), ap (_% w) e ∙ column-of w (q / w) (q % w + 1) (omega arith))
+module _ (course : Course) (place : ℕ) where
+  pub lines-inside : orderLimit ≤ course .from + place → course .from + place < orderLimit + course .places
+      → course .lines ≡ courseLines course place
+  unfolding courseLines
+  lines-inside a b =
+      rw (
+        le-leb orderLimit (course .from + place) a,
+        lt-ltb (course .from + place) (orderLimit + course .places) b,
+      )
 
-row-ends : (w q : ℕ) → 1 ≤ w → q % w + 1 ≡ w → ((q + 1) / w ≡ q / w + 1) × ((q + 1) % w ≡ 0)
-row-ends w q h n =
-    let d = div-add-mod' q w in
-    let e : q + 1 ≡ (q / w + 1) * w + 0 = rw add-mul (omega arith) in
-    (ap (_/ w) e ∙ row-of w (q / w + 1) 0 (omega arith), ap (_% w) e ∙ column-of w (q / w + 1) 0 (omega arith))
+  pub lines-low : course .from + place < orderLimit → 0 ≡ courseLines course place
+  unfolding courseLines
+  lines-low a = rw (lt-leb orderLimit (course .from + place) a)
 
-pub position-next : (a : Axis) (side order q : ℕ) → 1 ≤ side → 1 ≤ order
-    → nextPosition a side order (positionAt a side order q) ≡ positionAt a side order (q + 1)
-position-next columns side order q s o =
-    elim (ℕ-discrete (q % side + 1) side) [
-      | yes e ↦
-          let p = row-ends side q s e in
-          rw (eq-eqb (q % side + 1) side e) (ap₂ (λ l p. record { line = l; place = p }) (sym (p .1)) (sym (p .0)))
-      | no e ↦
-          let p = row-next side q s e in
-          rw (ne-eqb (q % side + 1) side e) (ap₂ (λ l p. record { line = l; place = p }) (sym (p .1)) (sym (p .0)))
-    ]
-position-next rows side order q s o =
-    elim (ℕ-discrete (q % order + 1) order) [
-      | yes e ↦
-          let p = row-ends order q o e in
-          rw (eq-eqb (q % order + 1) order e) (ap₂ (λ l p. record { line = l; place = p }) (sym (p .0)) (sym (p .1)))
-      | no e ↦
-          let p = row-next order q o e in
-          rw (ne-eqb (q % order + 1) order e) (ap₂ (λ l p. record { line = l; place = p }) (sym (p .0)) (sym (p .1)))
-    ]
+  pub lines-high : orderLimit + course .places ≤ course .from + place → 0 ≡ courseLines course place
+  unfolding courseLines
+  lines-high a =
+      rw (
+        le-leb orderLimit (course .from + place) (omega arith),
+        le-ltb (course .from + place) (orderLimit + course .places) a,
+      )
 
-pub position-first : (a : Axis) (side order : ℕ) → record { line = 0; place = 0 } ≡ positionAt a side order 0
-position-first columns side order =
-    ap₂ (λ l p. record { line = l; place = p }) (sym (zero-mod side)) (sym (zero-div side))
-position-first rows side order =
-    ap₂ (λ l p. record { line = l; place = p }) (sym (zero-div order)) (sym (zero-mod order))
+  pub lines-few : courseLines course place ≤ course .lines
+  unfolding courseLines
+  lines-few = by (placeTest course place)
+    where
+      by : (test : Bool) → cond test (course .lines) 0 ≤ course .lines
+      by true = omega arith
+      by false = omega arith
 
-pub position-below : (a : Axis) (side order q : ℕ) (position : Position) → q < side * order
-    → position ≡ positionAt a side order q → (position .line < side) × (position .place < order)
-position-below a side order q position h e = rw e (line-below side order a q h, line-place-below side order a q h)
+  linked-inside : (responses : List ℕ) (own line : ℕ) → line < courseLines course place
+      → linkedWord course responses own line place ≡ own ⊕ wordAt responses (responsePlace line place)
+  unfolding linkedWord courseLines
+  linked-inside responses own line h =
+      rw (lt-ltb line (course .lines) (omega (arith, lines-few))) (by (placeTest course place) h)
+    where
+      by : (test : Bool) → line < cond test (course .lines) 0
+          → cond test (own ⊕ wordAt responses (responsePlace line place)) 0
+          ≡ own ⊕ wordAt responses (responsePlace line place)
+      by true h = refl
+      by false h = absurd (omega arith)
 
--- ---- one word more
+  linked-outside : (responses : List ℕ) (own line : ℕ) → courseLines course place ≤ line
+      → linkedWord course responses own line place ≡ 0
+  unfolding linkedWord courseLines
+  linked-outside responses own line h = by (ltb line (course .lines)) (placeTest course place) refl h
+    where
+      by : (s t : Bool) → ltb line (course .lines) ≡ s → cond t (course .lines) 0 ≤ line
+          → cond (s && t) (own ⊕ wordAt responses (responsePlace line place)) 0 ≡ 0
+      by false t e h = refl
+      by true false e h = refl
+      by true true e h = absurd (omega (arith, ltb-true line (course .lines) e))
 
-pub linked-to-next : (course : Course) (responses : List ℕ) (side start n : ℕ) (before : List ℕ) {b : List ℕ} {v : ℕ}
-    {position : Position}
-    → b ≡ linkedTo course responses side start n before
-    → position ≡ positionAt (axisOf (course .pass)) side (course .order) n
-    → v ≡ linkedWord course responses (wordAt b (start + n)) (position .line) (position .place)
-    → set b (start + n) v ≡ linkedTo course responses side start (n + 1) before
-unfolding linkedTo
-linked-to-next course responses side start n before {b} e p f =
-    written-more (λ q. start + q) _ n before e
+-- ---- one place of the strip
+
+steps-apart : (at step i j : ℕ) → 0 < step → j < i → at + i * step ≢ at + j * step
+steps-apart at step i j h b e = let m : suc j * step ≤ i * step = mul-le-mul-right step b in omega arith
+
+pub responses-next : (at step : ℕ) (responses : List ℕ) (place n : ℕ) (before : List ℕ) → 0 < step → {b : List ℕ} {v : ℕ}
+    → b ≡ responsesAdded at step responses place n before
+    → v ≡ wordAt b (at + n * step) ⊕ wordAt responses (responsePlace n place)
+    → set b (at + n * step) v ≡ responsesAdded at step responses place (n + 1) before
+unfolding responsesAdded
+responses-next at step responses place n before some e f =
+    written-more (λ l. at + l * step) _ n before e
     (f
-    ∙ ap₂
-    (λ own (at : Position). linkedWord course responses own (at .line) (at .place))
-    (ap (λ z. wordAt z (start + n)) e ∙ written-ahead start _ n before) p)
+    ∙ ap (_⊕ wordAt responses (responsePlace n place))
+    (ap (λ z. wordAt z (at + n * step)) e
+    ∙ written-other (λ l. at + l * step) _ n before _ (λ i h. steps-apart at step n i some h)))
+
+pub cleared-next : (at step first n : ℕ) (before : List ℕ) {b : List ℕ} → b ≡ linesCleared at step first n before
+    → set b (at + (first + n) * step) 0 ≡ linesCleared at step first (n + 1) before
+unfolding linesCleared
+cleared-next at step first n before e = written-more (λ l. at + (first + l) * step) _ n before e refl
+
+-- What `write_place` does.
+pub place-written : (course : Course) (responses : List ℕ) (place at step side : ℕ) (before : List ℕ) → 0 < step
+    → course .lines ≤ side → WordsFit (length before) at step side → {n : ℕ} {added after : List ℕ}
+    → n ≡ courseLines course place → added ≡ responsesAdded at step responses place n before
+    → after ≡ linesCleared at step n (side - n) added
+    → PlaceWritten at step side (λ l. linkedWord course responses (wordAt before (at + l * step)) l place) before after
+unfolding responsesAdded linesCleared
+place-written course responses place at step side before some low fit {n} {added} {after} count e f =
+    record {
+      length-kept = ap length f ∙ written-length rest-at (λ l. 0) (side - n) added ∙ kept;
+      here = λ line h.
+          elim (decLt line n) [
+            | yes l ↦
+                ap (λ z. wordAt z (at + line * step)) f
+                ∙ written-other rest-at (λ l. 0) (side - n) added _
+                (λ i c q. steps-apart at step (n + i) line some (omega arith) (sym q))
+                ∙ ap (λ z. wordAt z (at + line * step)) e
+                ∙ written-at line-at word n before (λ i j c d. steps-apart at step i j some c)
+                (λ i c. fit .inside i (omega (arith, few))) line l
+                ∙ sym (linked-inside course place responses _ line (omega arith))
+            | no l ↦
+                let q : line ≡ n + (line - n) = omega arith in
+                ap (λ z. wordAt after (at + z * step)) q
+                ∙ ap (λ z. wordAt z (at + (n + (line - n)) * step)) f
+                ∙ written-at rest-at (λ l. 0) (side - n) added
+                (λ i j c d. steps-apart at step (n + i) (n + j) some (omega arith))
+                (λ i c. rw kept (fit .inside (n + i) (omega (arith, few)))) (line - n) (omega (arith, few))
+                ∙ sym (linked-outside course place responses _ line (omega arith))
+          ];
+      rest = λ z out.
+          ap (λ y. wordAt y z) f
+          ∙ written-other rest-at (λ l. 0) (side - n) added z (λ i c. out (n + i) (omega (arith, few)))
+          ∙ ap (λ y. wordAt y z) e
+          ∙ written-other line-at word n before z (λ i c. out i (omega (arith, few)));
+    }
+  where
+    few : n ≤ side
+    few = omega (arith, lines-few course place)
+
+    line-at : ℕ → ℕ
+    line-at l = at + l * step
+
+    rest-at : ℕ → ℕ
+    rest-at l = at + (n + l) * step
+
+    word : ℕ → ℕ
+    word l = wordAt before (line-at l) ⊕ wordAt responses (responsePlace l place)
+
+    kept : length added ≡ length before
+    kept = ap length e ∙ written-length line-at word n before
+
+-- ---- all places
+
+pub places-none : (start lineStep placeStep side : ℕ) (words : ℕ → ℕ → ℕ → ℕ) (before : List ℕ)
+    → PlacesWritten start lineStep placeStep side 0 words before before
+places-none start lineStep placeStep side words before =
+    record { length-kept = refl; here = λ line place h b. absurd (omega arith); rest = λ z out. refl }
+
+pub places-next : {m : ℕ} (course : Course) (start lineStep placeStep side n : ℕ) (words : ℕ → ℕ → ℕ → ℕ) (before : List ℕ)
+    → StripLaid m course start lineStep placeStep side → n < course .order → {b after : List ℕ}
+    → PlacesWritten start lineStep placeStep side n words before b
+    → PlaceWritten (start + n * placeStep) lineStep side
+    (λ l. words (wordAt b (start + n * placeStep + l * lineStep)) l n) b after
+    → PlacesWritten start lineStep placeStep side (n + 1) words before after
+places-next course start lineStep placeStep side n words before laid below held now =
+    record {
+      length-kept = now .length-kept ∙ held .length-kept;
+      here = λ line place h c.
+          elim (ℕ-discrete place n) [
+            | yes q ↦
+                rw q
+                (now .here line h
+                ∙ ap (λ z. words z line n)
+                (held .rest (laidAt start lineStep placeStep line n)
+                (λ l p x y e. omega (arith, laid .apart line n l p h below x (omega arith) e))))
+            | no q ↦
+                now .rest (laidAt start lineStep placeStep line place)
+                (λ l x e. q (laid .apart line place l n h (omega arith) x below e))
+                ∙ held .here line place h (omega arith)
+          ];
+      rest = λ z out.
+          now .rest z (λ l x. out l n x (omega arith)) ∙ held .rest z (λ l p x y. out l p x (omega arith));
+    }
+
+-- ---- the strip whole
+
+-- A strip's word stands at its line and place.
+same-place : (a : Axis) (side order q : ℕ)
+    → placeInStrip a side order (lineInStrip a side order q) (placeInLine a side order q) ≡ q
+same-place columns side order q = div-add-mod' q side
+same-place rows side order q = div-add-mod' q order
+
+module _ (course : Course) (side start : ℕ) (a : Axis) where
+  abbrev lineStep : ℕ
+  lineStep = along a 1 (course .order)
+
+  abbrev placeStep : ℕ
+  placeStep = along a side 1
+
+  laid-is : (line place : ℕ)
+      → laidAt start lineStep placeStep line place ≡ start + placeInStrip a side (course .order) line place
+  laid-is line place = by a
+    where
+      by : (a : Axis)
+          → laidAt start (along a 1 (course .order)) (along a side 1) line place
+          ≡ start + placeInStrip a side (course .order) line place
+      by columns = omega arith
+      by rows = omega arith
+
+  pub strip-laid : {n : ℕ} → CourseFits course → StripLong n course side start
+      → StripLaid n course start lineStep placeStep side
+  strip-laid fits long =
+      record {
+        some-step = by a;
+        side-high = long .side-high;
+        lines-in-side = long .lines-in-side;
+        inside = λ line place h b.
+            rw (laid-is line place) (omega (arith, in-strip side (course .order) a line place h b, long .long));
+        apart = λ line place l p h b c d e.
+            let q : start + placeInStrip a side (course .order) line place ≡ start + placeInStrip a side (course .order) l p =
+            sym (laid-is line place) ∙ e ∙ laid-is l p in
+            sym (place-of-place side (course .order) a line place h b)
+            ∙ ap (placeInLine a side (course .order)) (omega arith)
+            ∙ place-of-place side (course .order) a l p c d;
+      }
+    where
+      by : (a : Axis) → 0 < along a 1 (course .order)
+      by columns = omega arith
+      by rows = fits .some-order
+
+  -- What `write_strip` does.
+  pub strip-whole : axisOf (course .pass) ≡ a → (responses before : List ℕ) {after : List ℕ}
+      → StripLong (length before) course side start
+      → PlacesWritten start lineStep placeStep side (course .order) (linkedWord course responses) before after
+      → after ≡ linkedTo course responses side start (side * course .order) before
+  unfolding linkedTo
+  strip-whole axis responses before {after} long held =
+      rw axis
+      (ext-getD 0 after strip (held .length-kept ∙ sym (written-length to word count before))
+      (λ z h.
+      elim (decLt z start) [
+        | yes l ↦ outside z (λ q c e. omega arith)
+        | no l ↦
+            elim (decLt z (start + count)) [
+              | yes b ↦
+                  let at : start + (z - start) ≡ z = omega arith in
+                  rw at at (inside (z - start) (omega arith))
+              | no b ↦ outside z (λ q c e. omega arith)
+            ]
+      ]))
+    where
+      count : ℕ
+      count = side * course .order
+
+      to : ℕ → ℕ
+      to q = start + q
+
+      word : ℕ → ℕ
+      word q =
+          linkedWord course responses (wordAt before (start + q)) (lineInStrip a side (course .order) q)
+          (placeInLine a side (course .order) q)
+
+      strip : List ℕ
+      strip = written to word count before
+
+      inside : (q : ℕ) → q < count → wordAt after (start + q) ≡ wordAt strip (start + q)
+      inside q h =
+          let line = lineInStrip a side (course .order) q in
+          let place = placeInLine a side (course .order) q in
+          let at : laidAt start lineStep placeStep line place ≡ start + q =
+          laid-is line place ∙ ap (start +_) (same-place a side (course .order) q) in
+          ap (wordAt after) (sym at)
+          ∙ held .here line place (line-below side (course .order) a q h) (line-place-below side (course .order) a q h)
+          ∙ ap (λ z. linkedWord course responses (wordAt before z) line place) at
+          ∙ sym (written-at to word count before (λ i j c d e. omega arith) (λ i c. omega (arith, long .long)) q h)
+
+      outside : (z : ℕ) → ((q : ℕ) → q < count → z ≢ start + q) → wordAt after z ≡ wordAt strip z
+      outside z out =
+          held .rest z
+          (λ line place h b e.
+          out (placeInStrip a side (course .order) line place) (in-strip side (course .order) a line place h b)
+          (e ∙ laid-is line place))
+          ∙ sym (written-other to word count before z out)
 
 -- ---- what is written is the link
 
@@ -140,12 +338,6 @@ same-index : (d : Direction) (n order place : ℕ) → order ≤ orderLimit → 
     → (endsFrom d n order + place) - orderLimit ≡ indexOfPlace d n order place
 same-index forward n order place few h b = omega arith
 same-index backward n order place few h b = omega arith
-
--- A strip's word stands at its line and place.
-same-place : (a : Axis) (side order q : ℕ)
-    → placeInStrip a side order (lineInStrip a side order q) (placeInLine a side order q) ≡ q
-same-place columns side order q = div-add-mod' q side
-same-place rows side order q = div-add-mod' q order
 
 -- The passes depend on the filters of the passes alone.
 passes-filters : (f g : ℕ → Filter) (h w : ℕ) (H : ℕ → ℕ → ℕ → ℕ) (X : ℕ → ℕ → ℕ) (t : ℕ)
@@ -252,9 +444,6 @@ module _ (plan : Plan) (kept : keepsRules plan ≡ true) (k pass : ℕ) (counted
         counted = counted;
         course-fits = rw course-is (course-fits plan k pass kept counted here some-order);
         filters-are = filters-are;
-        own-order =
-            rw (filters-are, course-is)
-            (ap (λ (f : Filter). f .order) (filter-is plan pass here));
         strips-long = long;
       }
 

@@ -12,7 +12,6 @@ use Rattle.filter.specs.declared.FilterWords.{FilterWords}
 use Rattle.blocks.specs.Geometry.{rowsOf, columnsOf}
 use Rattle.blocks.specs.Strips.{orderOf}
 use Rattle.squares.specs.LinePasses.{axisStart, axisPasses}
-use Rattle.squares.specs.Lines.{filterAt}
 use Rattle.link.specs.declared.Course.{Course}
 
 -- The words of the four filters of a plan.
@@ -74,7 +73,6 @@ pub record CourseFits (course : Course) : Type 0 where
   pub passes-counted : course .first + course .passes ≤ 4
   pub first-is : course .first ≡ axisStart (course .pass)
   pub passes-are : course .passes ≡ axisPasses (course .pass)
-  pub pass-in : course .pass < course .first + course .passes
 
 -- What a link of block k along a course wants, with strips of so many words: the filters are the plan's.
 pub record LinkFits (plan : Plan) (k : ℕ) (course : Course) (filters : List FilterWords) (strips : ℕ) : Type 0 where
@@ -82,5 +80,4 @@ pub record LinkFits (plan : Plan) (k : ℕ) (course : Course) (filters : List Fi
   pub counted : k < neededMarks plan
   pub course-fits : CourseFits course
   pub filters-are : filters ≡ planFilters plan
-  pub own-order : filterAt filters (course .pass) .order ≡ course .order
   pub strips-long : neededStrips plan ≤ strips

@@ -2,13 +2,14 @@
 use mathlib.Core.Path.{_≡_}
 use mathlib.Core.Bool.{Bool, _&&_, cond}
 use mathlib.Core.List.{List, []}
-use Prim.Native.Nat.{ℕ, zero, suc, _+_, _-_, _*_, _<_, _≤_}
+use mathlib.Core.Logic.{_≢_}
+use Prim.Native.Nat.{ℕ, zero, suc, _+_, _-_, _*_, _<_, _≤_, min}
 use lib.ListN.{length, getD}
-use lib.Dec.{ltb, leb, eqb}
-use Rattle.word.specs.Word.{_⊕_}
+use lib.Dec.{ltb, leb}
+use Rattle.word.specs.Word.{_⊕_, _⊗_}
 use Rattle.plan.specs.Rules.{orderLimit}
 use Rattle.passes.specs.Filter.{Filter}
-use Rattle.passes.specs.Passes.{Axis, columns, rows, Direction, axisOf, directionOf, filterLine}
+use Rattle.passes.specs.Passes.{Direction, axisOf, directionOf, filterLine}
 use Rattle.passes.specs.Square.{unitHistory, weightedSum}
 use Rattle.filter.specs.Buffer.{wordAt}
 use Rattle.filter.specs.Windows.{pixelPlace, beyond}
@@ -21,27 +22,39 @@ use Rattle.squares.specs.Lines.{rowWords, lineWords, rowsBefore}
 use Rattle.squares.specs.Rows.{LineIs, ZerosFrom}
 use Rattle.link.specs.Courses.{Inside, indexAt}
 use Rattle.link.specs.declared.Course.{Course}
-use Rattle.link.specs.declared.Position.{Position}
 
 -- ---- rows of words in a buffer
 
 -- A buffer after n rows of words have gone to it, row k to the places from `start k` on.
-unfoldable pub rowsWritten : (start : ℕ → ℕ) → (words : ℕ → ℕ → ℕ) → (width n : ℕ) → List ℕ → List ℕ
+unfoldable pub rowsWritten : (start : ℕ → ℕ) → (words : ℕ → ℕ → ℕ) → (width : ℕ → ℕ) → ℕ → List ℕ → List ℕ
 rowsWritten start words width zero buffer = buffer
 rowsWritten start words width (suc n) buffer =
-    written (λ j. start n + j) (words n) width (rowsWritten start words width n buffer)
+    written (λ j. start n + j) (words n) (width n) (rowsWritten start words width n buffer)
+
+-- The words of so many lines, which lie `step` apart, stand in a list of n words.
+pub record WordsFit (n at step lines : ℕ) : Type 0 where
+  pub inside : (line : ℕ) → line < lines → at + line * step < n
+
+-- A buffer after `count` words of another, which lie `step` apart, have gone to it.
+unfoldable pub copied : (to : ℕ) → List ℕ → (at step count : ℕ) → List ℕ → List ℕ
+copied to from at step count buffer = written (λ p. to + p) (λ p. wordAt from (at + p * step)) count buffer
 
 -- ---- the lines past a block's edges
 
--- A buffer after the words of a strip at one place of its lines have gone to a row of lines.
+-- How many of the first n lines of a strip have a word in the block at a place.
+unfoldable pub linesInside : Strip → (place n : ℕ) → ℕ
+linesInside strip place n = cond (leb (strip .first) place && ltb place (strip .past)) (min n (strip .lines)) 0
+
+-- A buffer after the words of a strip at one place of its lines, where they lie in the block, have gone to a row of lines.
 unfoldable pub stripLine : Strip → List ℕ → (place row places : ℕ) → List ℕ → List ℕ
 stripLine strip strips place row places buffer =
-    written (λ j. row * rowWords + orderLimit + j) (λ j. stripRead strip strips j place) places buffer
+    written (λ j. row * rowWords + orderLimit + j) (λ j. stripRead strip strips j place) (linesInside strip place places) buffer
 
 -- The same of the first n distances from the edge that a pass leaves by, each to its row, from a row on.
 unfoldable pub stripLines : Direction → (order : ℕ) → Strip → List ℕ → (row places n : ℕ) → List ℕ → List ℕ
 stripLines d order strip strips row places n buffer =
-    rowsWritten (λ k. (row + k) * rowWords + orderLimit) (λ k j. stripRead strip strips j (fromEdge d order k)) places n buffer
+    rowsWritten (λ k. (row + k) * rowWords + orderLimit) (λ k j. stripRead strip strips j (fromEdge d order k))
+    (λ k. linesInside strip (fromEdge d order k) places) n buffer
 
 -- ---- the lines of a link: H u j k stands for place j of line k past the block's edge where pass u comes from
 
@@ -83,16 +96,12 @@ responseWords = rowWords * orderLimit
 abbrev pub responsePlace : ℕ → ℕ → ℕ
 responsePlace line place = (orderLimit + line) * orderLimit + place
 
--- A buffer after `count` words of another have gone to it.
-unfoldable pub copied : (to : ℕ) → List ℕ → (at count : ℕ) → List ℕ → List ℕ
-copied to from at count buffer = written (λ p. to + p) (λ p. wordAt from (at + p)) count buffer
-
 -- The buffer of responses after the ends of n rows of lines, from a row on, have gone to its margin, on the side where a
 -- pass comes from.
 unfoldable pub endsCopied : Direction → Course → (row : ℕ) → List ℕ → ℕ → List ℕ → List ℕ
 endsCopied d course row lines n buffer =
     rowsWritten (λ k. beyond d orderLimit (course .lines) k * orderLimit)
-    (λ k p. wordAt lines ((row + k) * rowWords + course .from + p)) (course .order) n buffer
+    (λ k p. wordAt lines ((row + k) * rowWords + course .from + p)) (λ k. course .order) n buffer
 
 -- A pass over the responses of all lines, the ends of the rows of lines standing past them.
 pub record Crossed (filters : ℕ → Filter) (course : Course) (pass : ℕ) (lines before after : List ℕ) : Type 0 where
@@ -103,26 +112,41 @@ pub record Crossed (filters : ℕ → Filter) (course : Course) (pass : ℕ) (li
       (λ k. wordAt lines ((rowsBefore filters pass + k) * rowWords + course .from + place))
       (λ y. wordAt before (responsePlace y place)) line
 
--- The history of a line of a strip, nearest first.
-unfoldable pub historyWord : Direction → (order : ℕ) → Strip → List ℕ → (line distance : ℕ) → ℕ
-historyWord d order strip strips line distance =
-    cond (ltb distance order) (stripRead strip strips line (fromEdge d order distance)) 0
-
--- The buffer after the first n words from a place on have each got their history added, weighted by a row of a square.
-unfoldable pub lineAdded : (at : ℕ) → List ℕ → List (List ℕ) → ℕ → List ℕ → List ℕ
-lineAdded at history square n buffer =
-    written (λ p. at + p)
-    (λ p. wordAt buffer (at + p) ⊕ weightedSum orderLimit (wordAt history) (wordAt (getD square p [])))
+-- The responses after n lines have got a multiple of words of the strips added at one place.
+unfoldable pub multipleAdded : (place : ℕ) → List ℕ → (at step weight n : ℕ) → List ℕ → List ℕ
+multipleAdded place strips at step weight n buffer =
+    written (λ l. responsePlace l place)
+    (λ l. wordAt buffer (responsePlace l place) ⊕ wordAt strips (at + l * step) ⊗ weight)
     n buffer
 
--- The histories H of the lines have been added to the first words of the responses, weighted by a square.
-pub record LinesAdded (lines order : ℕ) (H : ℕ → ℕ → ℕ) (square : List (List ℕ)) (before after : List ℕ) : Type 0 where
+-- What the places of a strip weigh at a distance.
+abbrev pub weightsAt : List (List ℕ) → (distance place : ℕ) → ℕ
+weightsAt square distance place = wordAt (getD square place []) distance
+
+-- Multiples of a word for each line have been added to the first places of the responses, and no other has changed.
+pub record MultiplesAdded (lines places : ℕ) (words weights : ℕ → ℕ) (before after : List ℕ) : Type 0 where
   pub length-kept : length after ≡ length before
-  pub at : (line place : ℕ) → line < lines → place < order
-      → wordAt after (responsePlace line place)
-      ≡ wordAt before (responsePlace line place) ⊕ weightedSum orderLimit (H line) (wordAt (getD square place []))
-  pub rest : (line place : ℕ) → lines ≤ line → place < orderLimit
+  pub at : (line place : ℕ) → line < lines → place < places
+      → wordAt after (responsePlace line place) ≡ wordAt before (responsePlace line place) ⊕ words line ⊗ weights place
+  pub rest : (line place : ℕ) → place < orderLimit → (line < lines → place < places → ⊥)
       → wordAt after (responsePlace line place) ≡ wordAt before (responsePlace line place)
+
+-- The same, saying nothing of other responses.
+pub record DistanceAdded (lines places : ℕ) (words weights : ℕ → ℕ) (before after : List ℕ) : Type 0 where
+  pub length-kept : length after ≡ length before
+  pub at : (line place : ℕ) → line < lines → place < places
+      → wordAt after (responsePlace line place) ≡ wordAt before (responsePlace line place) ⊕ words line ⊗ weights place
+
+-- The history of a line of a strip, nearest first.
+abbrev pub historyWord : Direction → (order : ℕ) → Strip → List ℕ → (line distance : ℕ) → ℕ
+historyWord d order strip strips line distance = stripRead strip strips line (fromEdge d order distance)
+
+-- The first n places of the histories H of the lines have been added to the responses, weighted by a square.
+pub record HistoriesAdded (lines places n : ℕ) (H : ℕ → ℕ → ℕ) (square : List (List ℕ)) (before after : List ℕ) : Type 0 where
+  pub length-kept : length after ≡ length before
+  pub at : (line place : ℕ) → line < lines → place < places
+      → wordAt after (responsePlace line place)
+      ≡ wordAt before (responsePlace line place) ⊕ weightedSum n (H line) (wordAt (getD square place []))
 
 -- The history H of a pass has been added to the responses, weighted by its square.
 pub record Carried (filters : ℕ → Filter) (course : Course) (pass : ℕ) (H : ℕ → ℕ → ℕ) (before after : List ℕ) : Type 0 where
@@ -140,29 +164,55 @@ pub record Held (course : Course) (words : ℕ → ℕ → ℕ) (buffer : List �
 
 -- ---- the strip
 
--- Whether a line and a place of the strip lie in the block.
-abbrev pub insideTest : Course → (line place : ℕ) → Bool
-insideTest course line place =
-    ltb line (course .lines)
-    && (leb orderLimit (course .from + place) && ltb (course .from + place) (orderLimit + course .places))
+-- Whether a place of the strip lies in the lines.
+abbrev pub placeTest : Course → (place : ℕ) → Bool
+placeTest course place = leb orderLimit (course .from + place) && ltb (course .from + place) (orderLimit + course .places)
 
--- The word that is written there, where the strip has the word `own`.
+-- How many lines have a word in the block there.
+unfoldable pub courseLines : Course → (place : ℕ) → ℕ
+courseLines course place = cond (placeTest course place) (course .lines) 0
+
+-- The word that is written at a line and a place, where the strip has the word `own`.
 unfoldable pub linkedWord : Course → List ℕ → (own line place : ℕ) → ℕ
 linkedWord course responses own line place =
-    cond (insideTest course line place) (own ⊕ wordAt responses (responsePlace line place)) 0
+    cond (ltb line (course .lines) && placeTest course place) (own ⊕ wordAt responses (responsePlace line place)) 0
 
--- The line and the place that word q of a strip belongs to.
-abbrev pub positionAt : Axis → (side order q : ℕ) → Position
-positionAt a side order q = record { line = lineInStrip a side order q; place = placeInLine a side order q }
+-- The strips after the responses of n lines at a place have been added to words that lie `step` apart.
+unfoldable pub responsesAdded : (at step : ℕ) → List ℕ → (place n : ℕ) → List ℕ → List ℕ
+responsesAdded at step responses place n strips =
+    written (λ l. at + l * step) (λ l. wordAt strips (at + l * step) ⊕ wordAt responses (responsePlace l place)) n strips
 
--- The line and the place after these.
-abbrev pub nextPosition : Axis → (side order : ℕ) → Position → Position
-nextPosition columns side order position =
-    cond (eqb (position .line + 1) side) (record { line = 0; place = position .place + 1 })
-    (record { line = position .line + 1; place = position .place })
-nextPosition rows side order position =
-    cond (eqb (position .place + 1) order) (record { line = position .line + 1; place = 0 })
-    (record { line = position .line; place = position .place + 1 })
+-- The strips after n words that lie `step` apart, from that of a line on, have been cleared.
+unfoldable pub linesCleared : (at step first n : ℕ) → List ℕ → List ℕ
+linesCleared at step first n strips = written (λ l. at + (first + l) * step) (λ l. 0) n strips
+
+-- One place of the strip has these words, by line, and no other word has changed.
+pub record PlaceWritten (at step side : ℕ) (words : ℕ → ℕ) (before after : List ℕ) : Type 0 where
+  pub length-kept : length after ≡ length before
+  pub here : (line : ℕ) → line < side → wordAt after (at + line * step) ≡ words line
+  pub rest : (z : ℕ) → ((line : ℕ) → line < side → z ≢ at + line * step) → wordAt after z ≡ wordAt before z
+
+-- Where the word at a line and a place of a strip stands.
+abbrev pub laidAt : (start lineStep placeStep line place : ℕ) → ℕ
+laidAt start lineStep placeStep line place = start + place * placeStep + line * lineStep
+
+-- The first n places of a strip have these words, by the word that was there, line and place, and no other has changed.
+pub record PlacesWritten (start lineStep placeStep side n : ℕ) (words : ℕ → ℕ → ℕ → ℕ) (before after : List ℕ) : Type 0 where
+  pub length-kept : length after ≡ length before
+  pub here : (line place : ℕ) → line < side → place < n
+      → wordAt after (laidAt start lineStep placeStep line place)
+      ≡ words (wordAt before (laidAt start lineStep placeStep line place)) line place
+  pub rest : (z : ℕ) → ((line place : ℕ) → line < side → place < n → z ≢ laidAt start lineStep placeStep line place)
+      → wordAt after z ≡ wordAt before z
+
+-- What the writing of a strip wants of its steps: its words are in the list, and those of two places lie apart.
+pub record StripLaid (n : ℕ) (course : Course) (start lineStep placeStep side : ℕ) : Type 0 where
+  pub some-step : 0 < lineStep
+  pub side-high : side ≤ 32
+  pub lines-in-side : course .lines ≤ side
+  pub inside : (line place : ℕ) → line < side → place < course .order → laidAt start lineStep placeStep line place < n
+  pub apart : (line place l p : ℕ) → line < side → place < course .order → l < side → p < course .order
+      → laidAt start lineStep placeStep line place ≡ laidAt start lineStep placeStep l p → place ≡ p
 
 -- The strips after the first n words of a strip from `start` on, in the order of their addresses.
 unfoldable pub linkedTo : Course → List ℕ → (side start n : ℕ) → List ℕ → List ℕ
@@ -173,7 +223,7 @@ linkedTo course responses side start n strips =
     (placeInLine (axisOf (course .pass)) side (course .order) q))
     n strips
 
--- What the writing of a strip wants.
+-- What the writing of a strip whole wants.
 pub record StripLong (n : ℕ) (course : Course) (side start : ℕ) : Type 0 where
   pub side-low : 1 ≤ side
   pub side-high : side ≤ 32

@@ -11,17 +11,16 @@ ghost use Prim.Native.Nat.{ℕ, _+_, _-_, _*_, _<_, _≤_};
 ghost use lib.ListN.{length};
 ghost use Rattle.plan.specs.Rules.{orderLimit, keepsRules};
 ghost use Rattle.plan.specs.Sizes.{neededMarks, neededStrips};
-ghost use Rattle.passes.specs.Passes.{axisOf, directionOf};
+ghost use Rattle.passes.specs.Passes.{directionOf};
 ghost use Rattle.filter.specs.Buffer.{wordAt};
 ghost use Rattle.blocks.specs.Strips.{fromEdge, pastEdges};
 ghost use Rattle.blocks.specs.Writes.{linked};
-ghost use Rattle.strips.specs.Reading.{StripFits};
-ghost use Rattle.passes.specs.Square.{weightedSum};
+ghost use Rattle.strips.specs.Reading.{stripRead, StripFits};
 ghost use Rattle.squares.specs.LinePasses.{response, crossed};
 ghost use Rattle.squares.specs.Lines.{lineRows, lineWords, filterAt, OrdersFit, rowsBefore};
 ghost use Rattle.squares.specs.Rows.{ZerosFrom, RowsFilled};
 ghost use Rattle.link.specs.Courses.{planFilters, courseAlong, courseOf, CourseFits, LinkFits};
-ghost use Rattle.link.specs.Words.{stripLine, stripLines, rowHistory, rowInput, LinesFilled, LinesReady, responseWords, copied, endsCopied, Crossed, historyWord, lineAdded, LinesAdded, Carried, Held, linkedWord, nextPosition, linkedTo, StripLong};
+ghost use Rattle.link.specs.Words.{stripLine, stripLines, rowHistory, rowInput, LinesFilled, LinesReady, responseWords, copied, endsCopied, Crossed, linesInside, WordsFit, multipleAdded, weightsAt, MultiplesAdded, DistanceAdded, historyWord, HistoriesAdded, Carried, Held, courseLines, linkedWord, responsesAdded, linesCleared, PlaceWritten, PlacesWritten, StripLaid, linkedTo, StripLong};
 
 // The passes along the axis of a link, `passes` of them from `first` on; the lines that they run along and the places of each;
 // and the column, in a row of lines, of the first place of the strip.
@@ -37,12 +36,6 @@ pub struct Course {
 
 // The words of a buffer of responses: a row of ORDER_LIMIT words for each line, between margins of ORDER_LIMIT rows.
 const RESPONSES: usize = squares::ROW * plan::ORDER_LIMIT;
-
-// A line and a place of a strip.
-struct Position {
-    line: usize,
-    place: usize,
-}
 
 // The words of the four filters of a plan.
 fn plan_filters(plan: Plan) -> [FilterWords; 4]
@@ -113,7 +106,31 @@ fn from_edge(pass: usize, order: usize, distance: usize) -> usize
     }
 }
 
-// Puts the words of a strip at one place of its lines into a row of lines.
+// How many of the first `count` lines of a strip have a word in the block at a place.
+fn lines_inside(strip: Strip, place: usize, count: usize) -> usize
+    ensures { λ r. ⌜ r ≡ linesInside strip place count ⌝ }
+{
+    if strip.first <= place {
+        if place < strip.past {
+            return filter::lesser(count, strip.lines);
+        }
+    }
+    0
+}
+
+// Puts words that lie `step` apart into a buffer, one after another.
+fn copy_words(buffer: &mut [u64], to: usize, words: &[u64], at: usize, step: usize, count: usize)
+    requires { ⌜ (to + count ≤ length (now buffer)) × WordsFit (length (now words)) at step count ⌝ }
+    ensures { λ _. ⌜ now (buffer .exit) ≡ copied to (now (words .entry)) at step count (now (buffer .entry)) ⌝ }
+{
+    let mut p = 0;
+    while p < count {
+        buffer[to + p] = words[at + p * step];
+        p += 1;
+    }
+}
+
+// Puts the words of a strip at one place of its lines into a row of lines; the words outside the block are left out.
 fn strip_line(
     lines: &mut [u64],
     row: usize,
@@ -125,11 +142,16 @@ fn strip_line(
     requires { ⌜ (row < lineRows) × ((places ≤ 32) × ((lineWords ≤ length (now lines)) × StripFits (length (now strips)) strip)) ⌝ }
     ensures { λ _. ⌜ now (lines .exit) ≡ stripLine strip (now (strips .entry)) place row places (now (lines .entry)) ⌝ }
 {
-    let mut j = 0;
-    while j < places {
-        let word = strips::strip_word(strips, strip, j, place);
-        lines[row * squares::ROW + plan::ORDER_LIMIT + j] = word;
-        j += 1;
+    let count = lines_inside(strip, place, places);
+    if 0 < count {
+        copy_words(
+            lines,
+            row * squares::ROW + plan::ORDER_LIMIT,
+            strips,
+            strip.start + place * strip.place_step,
+            strip.line_step,
+            count,
+        );
     }
 }
 
@@ -215,26 +237,7 @@ fn link_lines(
     ensures { λ _. ⌜ LinesReady (filterAt filters) course (pastEdges plan (now (strips .entry)) k) (now (lines .exit)) ⌝ }
 {
     fill_lines(lines, strips, plan, k, course, filters);
-    let rows = squares::rows_before(filters, course.first + course.passes);
-    squares::run_lines(
-        lines,
-        rows,
-        course.places,
-        filters,
-        course.first,
-        course.passes,
-    );
-}
-
-fn copy_words(buffer: &mut [u64], to: usize, words: &[u64], at: usize, count: usize)
-    requires { ⌜ (to + count ≤ length (now buffer)) × (at + count ≤ length (now words)) ⌝ }
-    ensures { λ _. ⌜ now (buffer .exit) ≡ copied to (now (words .entry)) at count (now (buffer .entry)) ⌝ }
-{
-    let mut p = 0;
-    while p < count {
-        buffer[to + p] = words[at + p];
-        p += 1;
-    }
+    squares::run_lines(lines, course.places, filters, course.first, course.passes);
 }
 
 // Puts the ends of lines, from a row on, into the margin of the responses.
@@ -257,6 +260,7 @@ fn copy_ends(
             to * plan::ORDER_LIMIT,
             lines,
             (row + distance) * squares::ROW + course.from,
+            1,
             course.order,
         );
         distance += 1;
@@ -300,62 +304,80 @@ fn cross(responses: &mut [u64], lines: &[u64], course: Course, filters: [FilterW
     }
 }
 
-// A history, weighted by a row of a square.
-fn weighted_sum(history: [u64; plan::ORDER_LIMIT], weights: [u64; plan::ORDER_LIMIT]) -> u64
-    ensures { λ r. ⌜ r ≡ weightedSum orderLimit (wordAt history) (wordAt weights) ⌝ }
-{
-    let mut sum = 0;
-    let mut j = 0;
-    while j < plan::ORDER_LIMIT {
-        sum = word::add(sum, word::mul(history[j], weights[j]));
-        j += 1;
-    }
-    sum
-}
-
-// The history of a line, from a strip.
-fn history_of(
-    strips: &[u64],
-    strip: Strip,
-    pass: usize,
-    order: usize,
-    line: usize,
-) -> [u64; plan::ORDER_LIMIT]
-    requires { ⌜ (order ≤ orderLimit) × StripFits (length (now strips)) strip ⌝ }
-    ensures { λ r. ⌜ ((distance : ℕ) → distance < orderLimit → wordAt r distance ≡ historyWord (directionOf pass) order strip (now (strips .entry)) line distance) ⌝ }
-{
-    let mut history = [0; plan::ORDER_LIMIT];
-    let mut distance = 0;
-    while distance < order {
-        let place = from_edge(pass, order, distance);
-        history[distance] = strips::strip_word(strips, strip, line, place);
-        distance += 1;
-    }
-    history
-}
-
-// Adds the history of a line to its responses.
-fn add_line(
+// Adds a multiple of words that lie `step` apart in the strips, one for each line, to a place of the responses.
+fn add_multiple(
     responses: &mut [u64],
+    place: usize,
+    strips: &[u64],
     at: usize,
-    order: usize,
-    history: [u64; plan::ORDER_LIMIT],
-    square: &[[u64; plan::ORDER_LIMIT]; plan::ORDER_LIMIT],
+    step: usize,
+    lines: usize,
+    weight: u64,
 )
-    requires { ⌜ (order ≤ orderLimit) × (at + order ≤ length (now responses)) ⌝ }
-    ensures { λ _. ⌜ now (responses .exit) ≡ lineAdded at history (now (square .entry)) order (now (responses .entry)) ⌝ }
+    requires { ⌜ (place < orderLimit) × ((lines ≤ 32) × ((length (now responses) ≡ responseWords) × WordsFit (length (now strips)) at step lines)) ⌝ }
+    ensures { λ _. ⌜ now (responses .exit) ≡ multipleAdded place (now (strips .entry)) at step weight lines (now (responses .entry)) ⌝ }
+{
+    let mut line = 0;
+    while line < lines {
+        let to = (plan::ORDER_LIMIT + line) * plan::ORDER_LIMIT + place;
+        let product = word::mul(strips[at + line * step], weight);
+        responses[to] = word::add(responses[to], product);
+        line += 1;
+    }
+}
+
+// Adds such words to all places of the responses, each times its weight for a distance.
+fn add_multiples(
+    responses: &mut [u64],
+    order: usize,
+    strips: &[u64],
+    at: usize,
+    step: usize,
+    lines: usize,
+    square: &[[u64; plan::ORDER_LIMIT]; plan::ORDER_LIMIT],
+    distance: usize,
+)
+    requires { ⌜ (order ≤ orderLimit) × ((distance < orderLimit) × ((lines ≤ 32) × ((length (now responses) ≡ responseWords) × WordsFit (length (now strips)) at step lines))) ⌝ }
+    ensures { λ _. ⌜ MultiplesAdded lines order (λ l. wordAt (now (strips .entry)) (at + l * step)) (weightsAt (now (square .entry)) distance) (now (responses .entry)) (now (responses .exit)) ⌝ }
 {
     let mut place = 0;
     while place < order {
         let weights = square[place];
-        let sum = weighted_sum(history, weights);
-        responses[at + place] = word::add(responses[at + place], sum);
+        add_multiple(responses, place, strips, at, step, lines, weights[distance]);
         place += 1;
     }
 }
 
-// Adds the histories of all lines to the responses.
-fn add_lines(
+// Adds the words of a strip at one place of its lines, which is a distance from the edge, to the responses.
+fn add_distance(
+    responses: &mut [u64],
+    strips: &[u64],
+    strip: Strip,
+    course: Course,
+    place: usize,
+    square: &[[u64; plan::ORDER_LIMIT]; plan::ORDER_LIMIT],
+    distance: usize,
+)
+    requires { ⌜ CourseFits course × ((distance < orderLimit) × ((length (now responses) ≡ responseWords) × StripFits (length (now strips)) strip)) ⌝ }
+    ensures { λ _. ⌜ DistanceAdded (course .lines) (course .order) (λ l. stripRead strip (now (strips .entry)) l place) (weightsAt (now (square .entry)) distance) (now (responses .entry)) (now (responses .exit)) ⌝ }
+{
+    let lines = lines_inside(strip, place, course.lines);
+    if 0 < lines {
+        add_multiples(
+            responses,
+            course.order,
+            strips,
+            strip.start + place * strip.place_step,
+            strip.line_step,
+            lines,
+            square,
+            distance,
+        );
+    }
+}
+
+// Adds the histories of all lines to the responses, weighted by a square.
+fn add_histories(
     responses: &mut [u64],
     strips: &[u64],
     strip: Strip,
@@ -365,19 +387,13 @@ fn add_lines(
     square: [[u64; plan::ORDER_LIMIT]; plan::ORDER_LIMIT],
 )
     requires { ⌜ CourseFits course × ((order ≤ orderLimit) × ((length (now responses) ≡ responseWords) × StripFits (length (now strips)) strip)) ⌝ }
-    ensures { λ _. ⌜ LinesAdded (course .lines) (course .order) (historyWord (directionOf pass) order strip (now (strips .entry))) square (now (responses .entry)) (now (responses .exit)) ⌝ }
+    ensures { λ _. ⌜ HistoriesAdded (course .lines) (course .order) order (historyWord (directionOf pass) order strip (now (strips .entry))) square (now (responses .entry)) (now (responses .exit)) ⌝ }
 {
-    let mut line = 0;
-    while line < course.lines {
-        let history = history_of(strips, strip, pass, order, line);
-        add_line(
-            responses,
-            (plan::ORDER_LIMIT + line) * plan::ORDER_LIMIT,
-            course.order,
-            history,
-            &square,
-        );
-        line += 1;
+    let mut distance = 0;
+    while distance < order {
+        let place = from_edge(pass, order, distance);
+        add_distance(responses, strips, strip, course, place, &square, distance);
+        distance += 1;
     }
 }
 
@@ -400,7 +416,7 @@ fn carry_pass(
     let row = squares::rows_before(filters, pass);
     let square = squares::square_from(lines, row, course.from);
     let past_edge = strips::strip_before(plan, k, pass);
-    add_lines(
+    add_histories(
         responses,
         strips,
         past_edge,
@@ -442,71 +458,108 @@ fn carry(
     }
 }
 
-// The word of the strip at a line and a place: 0 outside the block.
-fn linked_word(course: Course, responses: &[u64], own: u64, line: usize, place: usize) -> u64
-    requires { ⌜ CourseFits course × ((place < course .order) × (length (now responses) ≡ responseWords)) ⌝ }
-    ensures { λ r. ⌜ r ≡ linkedWord course (now (responses .entry)) own line place ⌝ }
+// How many lines have a word of the link's strip in the block at a place.
+fn course_lines(course: Course, place: usize) -> usize
+    requires { ⌜ CourseFits course × (place < course .order) ⌝ }
+    ensures { λ r. ⌜ r ≡ courseLines course place ⌝ }
 {
     let column = course.from + place;
-    if line < course.lines {
-        if plan::ORDER_LIMIT <= column {
-            if column < plan::ORDER_LIMIT + course.places {
-                let at = (plan::ORDER_LIMIT + line) * plan::ORDER_LIMIT + place;
-                return word::add(own, responses[at]);
-            }
+    if plan::ORDER_LIMIT <= column {
+        if column < plan::ORDER_LIMIT + course.places {
+            return course.lines;
         }
     }
     0
 }
 
-// The next line and place of a strip, in the order of addresses: the lines run first in rows of words (down, up), the places
-// in rows of places (right, left).
-fn next_position(position: Position, pass: usize, side: usize, order: usize) -> Position
-    requires { ⌜ (position .line < 64) × (position .place < 64) ⌝ }
-    ensures { λ r. ⌜ r ≡ nextPosition (axisOf pass) side order position ⌝ }
+// Adds the responses of the first lines at a place to words of the strips that lie `step` apart.
+fn add_responses(
+    strips: &mut [u64],
+    at: usize,
+    step: usize,
+    lines: usize,
+    responses: &[u64],
+    place: usize,
+)
+    requires { ⌜ (place < orderLimit) × ((lines ≤ 32) × ((0 < step) × ((length (now responses) ≡ responseWords) × WordsFit (length (now strips)) at step lines))) ⌝ }
+    ensures { λ _. ⌜ now (strips .exit) ≡ responsesAdded at step (now (responses .entry)) place lines (now (strips .entry)) ⌝ }
 {
-    let line = position.line;
-    let place = position.place;
-    if pass < 2 {
-        if line + 1 == side {
-            return Position {
-                line: 0,
-                place: place + 1,
-            };
-        }
-        Position {
-            line: line + 1,
-            place: place,
-        }
-    } else {
-        if place + 1 == order {
-            return Position {
-                line: line + 1,
-                place: 0,
-            };
-        }
-        Position {
-            line: line,
-            place: place + 1,
-        }
+    let mut line = 0;
+    while line < lines {
+        let to = at + line * step;
+        let response = responses[(plan::ORDER_LIMIT + line) * plan::ORDER_LIMIT + place];
+        strips[to] = word::add(strips[to], response);
+        line += 1;
     }
 }
 
-// Writes the strip whole.
+// Clears `count` words of the strips that lie `step` apart, from that of line `first` on.
+fn clear_lines(strips: &mut [u64], at: usize, step: usize, first: usize, count: usize)
+    requires { ⌜ (first + count ≤ 32) × WordsFit (length (now strips)) at step (first + count) ⌝ }
+    ensures { λ _. ⌜ now (strips .exit) ≡ linesCleared at step first count (now (strips .entry)) ⌝ }
+{
+    let mut cleared = 0;
+    while cleared < count {
+        strips[at + (first + cleared) * step] = 0;
+        cleared += 1;
+    }
+}
+
+// Writes the strip at one place of its lines, whose words lie `step` apart: 0 outside the block.
+fn write_place(
+    strips: &mut [u64],
+    at: usize,
+    step: usize,
+    side: usize,
+    course: Course,
+    responses: &[u64],
+    place: usize,
+)
+    requires { ⌜ CourseFits course × ((place < course .order) × ((course .lines ≤ side) × ((side ≤ 32) × ((0 < step) × ((length (now responses) ≡ responseWords) × WordsFit (length (now strips)) at step side))))) ⌝ }
+    ensures { λ _. ⌜ PlaceWritten at step side (λ l. linkedWord course (now (responses .entry)) (wordAt (now (strips .entry)) (at + l * step)) l place) (now (strips .entry)) (now (strips .exit)) ⌝ }
+{
+    let lines = course_lines(course, place);
+    add_responses(strips, at, step, lines, responses, place);
+    clear_lines(strips, at, step, lines, side - lines);
+}
+
+// Writes the strip at all places of its lines.
+fn write_places(
+    strips: &mut [u64],
+    start: usize,
+    line_step: usize,
+    place_step: usize,
+    side: usize,
+    course: Course,
+    responses: &[u64],
+)
+    requires { ⌜ CourseFits course × (StripLaid (length (now strips)) course start «line_step» «place_step» side × (length (now responses) ≡ responseWords)) ⌝ }
+    ensures { λ _. ⌜ PlacesWritten start «line_step» «place_step» side (course .order) (linkedWord course (now (responses .entry))) (now (strips .entry)) (now (strips .exit)) ⌝ }
+{
+    let mut place = 0;
+    while place < course.order {
+        write_place(
+            strips,
+            start + place * place_step,
+            line_step,
+            side,
+            course,
+            responses,
+            place,
+        );
+        place += 1;
+    }
+}
+
+// Writes the strip whole: in rows of words one to a line (down, up), or in rows of places (right, left).
 fn write_strip(strips: &mut [u64], start: usize, side: usize, course: Course, responses: &[u64])
     requires { ⌜ CourseFits course × (StripLong (length (now strips)) course side start × (length (now responses) ≡ responseWords)) ⌝ }
     ensures { λ _. ⌜ now (strips .exit) ≡ linkedTo course (now (responses .entry)) side start (side * course .order) (now (strips .entry)) ⌝ }
 {
-    let count = side * course.order;
-    let mut position = Position { line: 0, place: 0 };
-    let mut offset = 0;
-    while offset < count {
-        let at = start + offset;
-        let word = linked_word(course, responses, strips[at], position.line, position.place);
-        strips[at] = word;
-        let next = next_position(position, course.pass, side, course.order);
-        position = next;
-        offset += 1;
+    if course.pass < 2 {
+        write_places(strips, start, 1, side, side, course, responses);
+    } else {
+        write_places(strips, start, course.order, 1, side, course, responses);
     }
 }
 

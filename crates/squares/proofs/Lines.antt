@@ -1,10 +1,12 @@
 -- Passes along the rows of a buffer are the passes over its lines. Assumes nothing.
 use mathlib.Core.List.{List}
-use mathlib.Core.Path.{_≡_, refl, ap, _∙_}
+use mathlib.Core.Path.{_≡_, refl, ap, sym, _∙_}
 use mathlib.Core.Logic.{_≢_}
 use Prim.Native.Nat.{ℕ, zero, suc, _+_, _-_, _%_, _<_, _≤_}
 use native.Mathlib.Omega.{arith}
-use native.Mathlib.Numerals.{add-one}
+use native.Mathlib.Decide.{decLt}
+use native.Mathlib.Nat.{zero-add}
+use borrow.Author.Tests.{lt-ltb, le-ltb}
 use lib.ListN.{length, replicate}
 use Rattle.plan.specs.Rules.{orderLimit}
 use Rattle.passes.proofs.Passes.{filterLine-reads}
@@ -14,10 +16,11 @@ use Rattle.filter.proofs.Numbers.{axis-rows}
 use Rattle.filter.proofs.RowMajor.{same-row-column}
 use Rattle.filter.proofs.Windows.{Passed, windowPass-passed}
 use Rattle.filter.specs.Buffer.{wordAt}
-use Rattle.filter.specs.Windows.{pixelPlace, windowOf, beyond, wordsBesideWindow, windowPass, WindowFits}
+use Rattle.filter.specs.Windows.{pixelPlace, beyond, wordsBesideWindow, windowPass, WindowFits}
 use Rattle.filter.specs.declared.Window.{Window}
 use Rattle.squares.specs.LinePasses.{linePasses}
-use Rattle.squares.specs.Lines.{rowWords, lineRows, lineWords, lineWindow, rowPass, OrdersFit, linesPassed}
+use Rattle.squares.specs.Lines.{rowWords, lineRows, lineWords, lineWindow, rowPass, OrdersFit, rowsBefore, linePass}
+use Rattle.squares.specs.Rows.{JoinsAt, LinesPassed}
 
 -- A buffer of zeros.
 pub zeros-at : (n z : ℕ) → wordAt (replicate n 0) z ≡ 0
@@ -85,54 +88,149 @@ pub passed-along : {a b : Axis} {d e : Direction} {W : Window} {f : Filter} {bef
     → Passed b e W f (wordsBesideWindow b e W before) before after
 passed-along p q passed = rw (← p, ← q) passed
 
--- One pass more.
-pub pass-next : (filters : ℕ → Filter) (count places t m : ℕ) (before : List ℕ) {b a : List ℕ}
-    → b ≡ linesPassed filters count places t m before
-    → a ≡ windowPass (rowPass (t + m)) (lineWindow count places) orderLimit (filters (t + m)) b
-    → a ≡ linesPassed filters count places t (m + 1) before
-unfolding linesPassed
-pass-next filters count places t m before e f = rw (add-one m)
-    (f ∙ ap (windowPass (rowPass (t + m)) (lineWindow count places) orderLimit (filters (t + m))) e)
+-- ---- one pass more
 
--- A buffer after the passes t, .. t+m-1 along the lines of its first rows.
-pub record Lined (filters : ℕ → Filter) (count places t m : ℕ) (before after : List ℕ) : Type 0 where
-  pub length-kept : length after ≡ length before
-  pub at : (l i : ℕ) → l < count → i < places
-      → windowOf (lineWindow count places) after l i
-      ≡ linePasses filters places
-      (λ u. wordsBesideWindow rows (directionOf u) (lineWindow count places) before l)
-      (windowOf (lineWindow count places) before l) t m i
-  pub beside : (d : Direction) (l k : ℕ) → l < count → k < orderLimit
-      → wordsBesideWindow rows d (lineWindow count places) after l k
-      ≡ wordsBesideWindow rows d (lineWindow count places) before l k
+-- No pass yet.
+pub passed-none : (filters : ℕ → Filter) (places t : ℕ) (buffer : List ℕ) → LinesPassed filters places t 0 buffer buffer
+unfolding linePasses
+passed-none filters places t buffer =
+    record {
+      length-kept = refl;
+      at = λ s l i h joins b. let none : 0 - s ≡ 0 = omega arith in rw none;
+      beside = λ d l k h. refl;
+    }
 
-module _ (filters : ℕ → Filter) (count places : ℕ) (some-count : 0 < count) (few-count : count ≤ lineRows)
-    (some-places : 0 < places) (few-places : places ≤ 32) (fit : OrdersFit filters) where
-  abbrev W : Window
-  W = lineWindow count places
+module _ (filters : ℕ → Filter) (places t m : ℕ) (before : List ℕ) where
+  abbrev P : ℕ → ℕ → ℕ → ℕ
+  P l u k = wordAt before (pixelPlace rowWords l (beyond (directionOf u) orderLimit places k))
 
-  one-pass : (u : ℕ) → u < 4 → (buffer : List ℕ) → lineWords ≤ length buffer
-      → Passed rows (directionOf u) W (filters u) (wordsBesideWindow rows (directionOf u) W buffer) buffer
-      (windowPass (rowPass u) W orderLimit (filters u) buffer)
-  one-pass u h buffer b =
-      passed-along (row-axis u) (row-direction u)
-      (windowPass-passed (rowPass u) W (filters u) orderLimit _ buffer
-      (lines-fit (length buffer) count places u some-count few-count some-places few-places b)
-      (record { near = λ l k a b c. refl; far = λ l k a b c. absurd (omega (arith, fit .order-limited u h)) }))
+  abbrev x : ℕ → ℕ → ℕ
+  x l j = wordAt before (pixelPlace rowWords l (orderLimit + j))
 
-  pub lines-passed : (t m : ℕ) → t + m ≤ 4 → (buffer : List ℕ) → lineWords ≤ length buffer
-      → Lined filters count places t m buffer (linesPassed filters count places t m buffer)
-  unfolding linePasses linesPassed filterLines
-  lines-passed t zero h buffer b = record { length-kept = refl; at = λ l i p q. refl; beside = λ d l k p q. refl }
-  lines-passed t (suc m) h buffer b =
-      let before = lines-passed t m (omega arith) buffer b in
-      let now = one-pass (t + m) (omega arith) (linesPassed filters count places t m buffer) (omega (arith, before .length-kept)) in
+  -- A row that pass t+m leaves out has not taken part yet.
+  waiting : {b : List ℕ} → LinesPassed filters places t m before b → (s l i : ℕ) → s ≤ m + 1
+      → JoinsAt filters t s (m + 1) l → rowsBefore filters (t + m + 1) ≤ l → i < places
+      → wordAt b (pixelPlace rowWords l (orderLimit + i)) ≡ linePasses filters places (P l) (x l) (t + s) ((m + 1) - s) i
+  unfolding linePasses
+  waiting held s l i h joins out c =
+      elim (decLt m s) [
+        | yes late ↦
+            let none : (m + 1) - s ≡ 0 = omega arith in
+            let done : m - m ≡ 0 = omega arith in
+            rw none
+            (rw done at
+            (held .at m l i (omega arith)
+            (record {
+              not-before = λ v b. joins .not-before v (omega arith);
+              from-there = λ v a b. absurd (omega arith);
+            })
+            c))
+        | no late ↦ absurd (omega (arith, joins .from-there m (omega arith) (omega arith)))
+      ]
+
+  -- A pass along no rows.
+  passed-idle : {b : List ℕ} → LinesPassed filters places t m before b → rowsBefore filters (t + m + 1) ≡ 0
+      → LinesPassed filters places t (m + 1) before b
+  passed-idle held none =
       record {
-        length-kept = now .length-kept ∙ before .length-kept;
-        at = λ l i p q.
-            now .at l i p q
-            ∙ filterLine-reads (directionOf (t + m)) (filters (t + m)) places _ _ _ _
-            (λ k c. before .beside (directionOf (t + m)) l k p (omega (arith, fit .order-limited (t + m) (omega arith))))
-            (λ j c. before .at l j p c) i q;
-        beside = λ d l k p q. now .elsewhere _ (λ y x a b. beside-lines d places (0 + l) k (0 + y) x few-places q b) ∙ before .beside d l k p q;
+        length-kept = held .length-kept;
+        at = λ s l i h joins c. waiting held s l i h joins (omega arith) c;
+        beside = held .beside;
       }
+
+  -- A pass along the rows of the passes up to it.
+  passed-more : OrdersFit filters → t + m < 4 → 0 < places → places ≤ 32 → {b after : List ℕ} (count : ℕ)
+      → lineWords ≤ length b → LinesPassed filters places t m before b → count ≡ rowsBefore filters (t + m + 1) → 0 < count
+      → count ≤ lineRows → after ≡ windowPass (rowPass (t + m)) (lineWindow count places) orderLimit (filters (t + m)) b
+      → LinesPassed filters places t (m + 1) before after
+  unfolding linePasses filterLines
+  passed-more fit h some few {b} {after} count long held r some-count few-count e =
+      record {
+        length-kept = ap length e ∙ now .length-kept ∙ held .length-kept;
+        at = λ s l i a joins c.
+            elim (decLt l count) [
+              | yes in-rows ↦
+                  let early : s ≤ m = not-late s l a joins in-rows in
+                  let more : (m + 1) - s ≡ suc (m - s) = omega arith in
+                  let here : t + s + (m - s) ≡ t + m = omega arith in
+                  ap (λ z. wordAt z (pixelPlace rowWords l (orderLimit + i))) e
+                  ∙ ap (λ z. wordAt passed (pixelPlace rowWords z (orderLimit + i))) (sym (zero-add l))
+                  ∙ now .at l i in-rows c
+                  ∙ filterLine-reads (directionOf (t + m)) (filters (t + m)) places _ _ _ _
+                  (λ k q.
+                  ap (λ z. wordAt b (pixelPlace rowWords z (beyond (directionOf (t + m)) orderLimit places k))) (zero-add l)
+                  ∙ held .beside (directionOf (t + m)) l k (omega (arith, fit .order-limited (t + m) h)))
+                  (λ j q.
+                  ap (λ z. wordAt b (pixelPlace rowWords z (orderLimit + j))) (zero-add l)
+                  ∙ held .at s l j early
+                  (record {
+                    not-before = joins .not-before;
+                    from-there = λ v a b. joins .from-there v a (omega arith);
+                  })
+                  q)
+                  i c
+                  ∙ rw (more, here)
+              | no in-rows ↦
+                  ap (λ z. wordAt z (pixelPlace rowWords l (orderLimit + i))) e
+                  ∙ now .elsewhere _
+                  (λ y x p q z.
+                  in-rows
+                  (omega (
+                    arith,
+                    same-row-column rowWords l (orderLimit + i) (0 + y) (orderLimit + x) (omega arith) (omega arith) z .0,
+                  )))
+                  ∙ waiting held s l i a joins (omega (arith, r)) c
+            ];
+        beside = λ d l k c.
+            ap (λ z. wordAt z (pixelPlace rowWords l (beyond d orderLimit places k))) e
+            ∙ now .elsewhere _ (λ y x a q. beside-lines d places l k (0 + y) x few c q)
+            ∙ held .beside d l k c;
+      }
+    where
+      W : Window
+      W = lineWindow count places
+
+      passed : List ℕ
+      passed = windowPass (rowPass (t + m)) W orderLimit (filters (t + m)) b
+
+      now : Passed rows (directionOf (t + m)) W (filters (t + m))
+          (wordsBesideWindow rows (directionOf (t + m)) W b) b passed
+      now =
+          passed-along (row-axis (t + m)) (row-direction (t + m))
+          (windowPass-passed (rowPass (t + m)) W (filters (t + m)) orderLimit _ b
+          (lines-fit (length b) count places (t + m) some-count few-count some few long)
+          (record {
+            near = λ l k a b c. refl;
+            far = λ l k a b c. absurd (omega (arith, fit .order-limited (t + m) h));
+          }))
+
+      not-late : (s l : ℕ) → s ≤ m + 1 → JoinsAt filters t s (m + 1) l → l < count → s ≤ m
+      not-late s l a joins b =
+          elim (decLt m s) [
+            | yes late ↦ absurd (omega (arith, r, joins .not-before m late))
+            | no late ↦ omega arith
+          ]
+
+  -- The next pass.
+  pub passed-next : OrdersFit filters → t + m < 4 → 0 < places → places ≤ 32 → {b after : List ℕ} → lineWords ≤ length b
+      → LinesPassed filters places t m before b → rowsBefore filters (t + m + 1) ≤ lineRows
+      → after ≡ linePass filters places (t + m) b → LinesPassed filters places t (m + 1) before after
+  unfolding linePass
+  passed-next fit h some few long held few-rows e =
+      let count = rowsBefore filters (t + m + 1) in
+      elim (decLt 0 count) [
+        | yes l ↦ passed-more fit h some few count long held refl l few-rows (rw (lt-ltb 0 count l) at e)
+        | no l ↦ rw (rw (le-ltb 0 count (omega arith)) at e) (passed-idle held (omega arith))
+      ]
+
+-- What `line_pass` does.
+module _ (filters : ℕ → Filter) (places pass : ℕ) (buffer : List ℕ) {rows : ℕ} (r : rows ≡ rowsBefore filters (pass + 1)) where
+  pub pass-some : 0 < rows → {after : List ℕ}
+      → after ≡ windowPass (rowPass pass) (lineWindow rows places) orderLimit (filters pass) buffer
+      → after ≡ linePass filters places pass buffer
+  unfolding linePass
+  pass-some h e = rw (← r) (rw (lt-ltb 0 rows h) e)
+
+  pub pass-none : (0 < rows → ⊥) → buffer ≡ linePass filters places pass buffer
+  unfolding linePass
+  pass-none h = rw (← r) (rw (le-ltb 0 rows (omega arith)))

@@ -1,6 +1,8 @@
 -- Lines in a buffer, one to a row, with room beside each for the outputs past its ends.
+use mathlib.Core.Bool.{cond}
 use mathlib.Core.List.{List, []}
 use Prim.Native.Nat.{ℕ, zero, suc, _+_, _*_, _%_, _<_, _≤_}
+use lib.Dec.{ltb}
 use lib.ListN.{getD}
 use Rattle.plan.specs.Rules.{orderLimit}
 use Rattle.passes.specs.Filter.{Filter}
@@ -44,12 +46,12 @@ lineWindow rows places = record { stride = rowWords; top = 0; left = orderLimit;
 abbrev pub rowPass : ℕ → ℕ
 rowPass pass = 2 + pass % 2
 
--- The buffer after the passes t, t+1, .. t+m-1 along the lines of the first rows.
-unfoldable pub linesPassed : (ℕ → Filter) → (rows places t m : ℕ) → List ℕ → List ℕ
-linesPassed filters rows places t zero buffer = buffer
-linesPassed filters rows places t (suc m) buffer =
-    windowPass (rowPass (t + m)) (lineWindow rows places) orderLimit (filters (t + m))
-    (linesPassed filters rows places t m buffer)
+-- The buffer after a pass along its lines, in the rows of the passes up to it.
+unfoldable pub linePass : (ℕ → Filter) → (places pass : ℕ) → List ℕ → List ℕ
+linePass filters places pass buffer =
+    cond (ltb 0 (rowsBefore filters (pass + 1)))
+    (windowPass (rowPass pass) (lineWindow (rowsBefore filters (pass + 1)) places) orderLimit (filters pass) buffer)
+    buffer
 
 -- The buffer with a 1 at distance j past the end of line j from a row on, where a pass comes from, for each j below the
 -- order: of zeros it makes the unit histories.
@@ -57,10 +59,8 @@ unfoldable pub unitLines : Direction → (row places order : ℕ) → List ℕ �
 unitLines d row places order buffer =
     written (λ j. (row + j) * rowWords + beyond d orderLimit places j) (λ j. 1) order buffer
 
--- What the passes t, .. t+m-1 along the first rows of a buffer of n words want.
-pub record LinesFit (n : ℕ) (filters : ℕ → Filter) (rows places t m : ℕ) : Type 0 where
-  pub some-rows : 0 < rows
-  pub few-rows : rows ≤ lineRows
+-- What the passes t, .. t+m-1 along the rows of a buffer of n words want.
+pub record LinesFit (n : ℕ) (filters : ℕ → Filter) (places t m : ℕ) : Type 0 where
   pub some-places : 0 < places
   pub few-places : places ≤ 32
   pub long : lineWords ≤ n

@@ -1,19 +1,39 @@
 -- Lines in the rows of a buffer.
 use mathlib.Core.Path.{_≡_}
 use mathlib.Core.List.{List}
-use Prim.Native.Nat.{ℕ, _+_, _*_, _<_, _≤_}
+use Prim.Native.Nat.{ℕ, _+_, _-_, _*_, _<_, _≤_}
 use lib.ListN.{length}
 use Rattle.plan.specs.Rules.{orderLimit}
-use Rattle.passes.specs.Passes.{directionOf}
+use Rattle.passes.specs.Filter.{Filter}
+use Rattle.passes.specs.Passes.{Direction, directionOf}
 use Rattle.filter.specs.Buffer.{wordAt}
 use Rattle.filter.specs.Windows.{pixelPlace, beyond}
-use Rattle.squares.specs.Lines.{rowWords}
+use Rattle.squares.specs.LinePasses.{linePasses}
+use Rattle.squares.specs.Lines.{rowWords, rowsBefore}
 
 -- Row l of a buffer has the line x, and past its ends P u k for the passes t, .. t+m-1.
 pub record LineIs (places t m : ℕ) (P : ℕ → ℕ → ℕ) (x : ℕ → ℕ) (buffer : List ℕ) (l : ℕ) : Type 0 where
   pub inside : (i : ℕ) → i < places → wordAt buffer (pixelPlace rowWords l (orderLimit + i)) ≡ x i
   pub beside : (u k : ℕ) → t ≤ u → u < t + m → k < orderLimit
       → wordAt buffer (pixelPlace rowWords l (beyond (directionOf u) orderLimit places k)) ≡ P u k
+
+-- Of the passes t, .. t+m-1, each along the rows of the passes up to it, row l takes part in those from pass t+s on.
+pub record JoinsAt (filters : ℕ → Filter) (t s m l : ℕ) : Type 0 where
+  pub not-before : (v : ℕ) → v < s → rowsBefore filters (t + v + 1) ≤ l
+  pub from-there : (v : ℕ) → s ≤ v → v < m → l < rowsBefore filters (t + v + 1)
+
+-- A buffer after these passes: each row has the passes that it takes part in over its line, and the words beside the lines
+-- are as they were.
+pub record LinesPassed (filters : ℕ → Filter) (places t m : ℕ) (before after : List ℕ) : Type 0 where
+  pub length-kept : length after ≡ length before
+  pub at : (s l i : ℕ) → s ≤ m → JoinsAt filters t s m l → i < places
+      → wordAt after (pixelPlace rowWords l (orderLimit + i))
+      ≡ linePasses filters places
+      (λ u k. wordAt before (pixelPlace rowWords l (beyond (directionOf u) orderLimit places k)))
+      (λ j. wordAt before (pixelPlace rowWords l (orderLimit + j))) (t + s) (m - s) i
+  pub beside : (d : Direction) (l k : ℕ) → k < orderLimit
+      → wordAt after (pixelPlace rowWords l (beyond d orderLimit places k))
+      ≡ wordAt before (pixelPlace rowWords l (beyond d orderLimit places k))
 
 -- All words from a row on are 0.
 abbrev pub ZerosFrom : ℕ → List ℕ → Type 0

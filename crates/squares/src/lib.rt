@@ -10,7 +10,8 @@ ghost use Rattle.plan.specs.Rules.{orderLimit};
 ghost use Rattle.passes.specs.Passes.{directionOf};
 ghost use Rattle.filter.specs.Buffer.{wordAt};
 ghost use Rattle.filter.specs.Windows.{beyond};
-ghost use Rattle.squares.specs.Lines.{rowWords, filterAt, OrdersFit, rowsBefore, linesPassed, unitLines, LinesFit, UnitsFit};
+ghost use Rattle.squares.specs.Lines.{rowWords, filterAt, OrdersFit, rowsBefore, linePass, unitLines, LinesFit, UnitsFit};
+ghost use Rattle.squares.specs.Rows.{LinesPassed};
 
 // The words of a row of lines: the longest line, and a history at both ends.
 pub const ROW: usize = 32 + 2 * plan::ORDER_LIMIT;
@@ -31,34 +32,6 @@ pub fn margin(pass: usize, extent: usize, distance: usize) -> usize
     }
 }
 
-// The passes from `first` on, `count` of them, along the lines of the first `rows` rows of a buffer.
-pub fn run_lines(
-    lines: &mut [u64],
-    rows: usize,
-    places: usize,
-    filters: [FilterWords; 4],
-    first: usize,
-    count: usize,
-)
-    requires { ⌜ LinesFit (length (now lines)) (filterAt filters) rows places first count ⌝ }
-    ensures { λ _. ⌜ now (lines .exit) ≡ linesPassed (filterAt filters) rows places first count (now (lines .entry)) ⌝ }
-{
-    let mut done = 0;
-    while done < count {
-        let pass = first + done;
-        let filter = filters[pass];
-        let window = Window {
-            stride: ROW,
-            top: 0,
-            left: plan::ORDER_LIMIT,
-            height: rows,
-            width: places,
-        };
-        filter::run_pass(lines, window, 2 + pass % 2, plan::ORDER_LIMIT, filter);
-        done += 1;
-    }
-}
-
 // The rows of the passes before a pass.
 pub fn rows_before(filters: [FilterWords; 4], pass: usize) -> usize
     requires { ⌜ OrdersFit (filterAt filters) × (pass ≤ 4) ⌝ }
@@ -72,6 +45,43 @@ pub fn rows_before(filters: [FilterWords; 4], pass: usize) -> usize
         before += 1;
     }
     rows
+}
+
+// A pass along the lines of a buffer, in the rows of the passes up to it: the rows of later passes wait for theirs.
+fn line_pass(lines: &mut [u64], places: usize, filters: [FilterWords; 4], pass: usize)
+    requires { ⌜ LinesFit (length (now lines)) (filterAt filters) places pass 1 ⌝ }
+    ensures { λ _. ⌜ now (lines .exit) ≡ linePass (filterAt filters) places pass (now (lines .entry)) ⌝ }
+{
+    let rows = rows_before(filters, pass + 1);
+    if 0 < rows {
+        let filter = filters[pass];
+        let window = Window {
+            stride: ROW,
+            top: 0,
+            left: plan::ORDER_LIMIT,
+            height: rows,
+            width: places,
+        };
+        filter::run_pass(lines, window, 2 + pass % 2, plan::ORDER_LIMIT, filter);
+    }
+}
+
+// The passes from `first` on, `count` of them, along the lines of a buffer.
+pub fn run_lines(
+    lines: &mut [u64],
+    places: usize,
+    filters: [FilterWords; 4],
+    first: usize,
+    count: usize,
+)
+    requires { ⌜ LinesFit (length (now lines)) (filterAt filters) places first count ⌝ }
+    ensures { λ _. ⌜ LinesPassed (filterAt filters) places first count (now (lines .entry)) (now (lines .exit)) ⌝ }
+{
+    let mut done = 0;
+    while done < count {
+        line_pass(lines, places, filters, first + done);
+        done += 1;
+    }
 }
 
 // Puts the unit history j beside line j, from a row on, for each j below the order.

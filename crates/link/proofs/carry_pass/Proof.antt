@@ -37,8 +37,8 @@ square-from-requires c κs =
 strip-before-requires : tie.Need-strip-before-requires
 strip-before-requires c κs = search needs
 
-add-lines-requires : tie.Need-add-lines-requires
-add-lines-requires c κs =
+add-histories-requires : tie.Need-add-histories-requires
+add-histories-requires c κs =
     let s = c .before in
     let a = s .before .before .before .before .before .before .before in
     let fits = a .pre .0 .0 in
@@ -65,7 +65,7 @@ returns c =
     let a = r .before .before .before .before .before in
     histories-carried (a .pre .0 .0) (a .args .pass) (a .pre .0 .1 .0) (a .pre .0 .1 .1 .0) (a .args .strips .now) (a .args .lines .now)
     (a .pre .1) (s .strip-before .result) (s .strip-before .ensures) (r .rows-before .ensures) (q .square-from .ensures)
-    (p .add-lines .ensures)
+    (p .add-histories .ensures)
 
 pub carry-pass-spec : {M : Type 1} → statement M
 carry-pass-spec =
@@ -76,6 +76,6 @@ carry-pass-spec =
     rows-before-requires
     square-from-requires
     strip-before-requires
-    add-lines-requires
+    add-histories-requires
     same-length
     returns)

@@ -1,83 +1,76 @@
--- `strip_line` has put the words of the places so far into their row.
-use mathlib.Core.Path.{_≡_, refl, _∙_}
-use Prim.Native.Nat.{_-_, _≤_}
+-- `strip_line` copies the words of a place that lie in the block.
+use Prim.Native.Nat.{_+_, _*_, _<_}
 use native.Mathlib.Omega.{arith}
 use borrow.Author.Needs.{needs}
-use lib.ListN.{length, length-set}
-use Rattle.filter.specs.Written.{written}
-use Rattle.link.specs.Words.{stripLine}
-use Rattle.link.proofs.Buffers.{strip-line-next}
+use lib.ListN.{length}
+use Rattle.link.proofs.Reading.{lines-few, words-fit, first-word, line-some, line-none}
 use Rattle.link.proofs.strip_line.Statement.{statement}
 use Rattle.link.proofs.strip_line.Tie as tie
 
-abbrev Inv-loop : tie.InvT-loop
-Inv-loop lines₀ row places strips strip place j₀ lines j =
-    (j ≤ places) × (length lines ≡ length lines₀) × (lines ≡ stripLine strip strips place row j lines₀)
+lines-inside-requires : tie.Need-lines-inside-requires
+lines-inside-requires c κs = search needs
 
-abbrev μ-loop : tie.MeasureT-loop
-μ-loop lines₀ row places strips strip place j₀ lines j = places - j
+-- The first word of the place is in the strips.
+first : (c : tie.Then1)
+    → let a = c .before .before .before .before in
+    a .args .strip .start + a .args .place * a .args .strip .«place_step» < length (a .args .strips .now)
+first c =
+    let n = c .before in
+    let a = n .before .before .before in
+    first-word (a .args .strip) (a .args .place) (a .args .places) (a .pre .1 .1 .1) (omega (arith, n .lines-inside .ensures))
 
-loop-holds : tie.Need-loop-holds Inv-loop μ-loop
-unfolding stripLine written
-loop-holds c = (omega arith, refl, refl)
+mul-copy-words : tie.Need-mul-copy-words
+mul-copy-words c = search needs
 
-strip-word-requires : tie.Need-strip-word-requires Inv-loop μ-loop
-strip-word-requires c κs = search needs
+add-copy-words : tie.Need-add-copy-words
+add-copy-words c = search needs
 
-mul-lines : tie.Need-mul-lines Inv-loop μ-loop
-mul-lines c = search needs
+mul-copy-words-2 : tie.Need-mul-copy-words-2
+mul-copy-words-2 c = let h = first (c .before .before) in omega arith
 
-add-lines : tie.Need-add-lines Inv-loop μ-loop
-add-lines c = search needs
+add-copy-words-2 : tie.Need-add-copy-words-2
+add-copy-words-2 c = let h = first (c .before .before .before) in omega arith
 
-add-lines-2 : tie.Need-add-lines-2 Inv-loop μ-loop
-add-lines-2 c = search needs
-
-mul-lines-2 : tie.Need-mul-lines-2 Inv-loop μ-loop
-mul-lines-2 c = search needs
-
-slice-write-lines : tie.Need-slice-write-lines Inv-loop μ-loop
-slice-write-lines c = search needs
-
-add-j : tie.Need-add-j Inv-loop μ-loop
-add-j c = search needs
-
-loop-less : tie.Need-loop-less Inv-loop μ-loop
-loop-less c = search needs
-
-loop-again : tie.Need-loop-again Inv-loop μ-loop
-loop-again c =
-    let l = c .before .before in
-    let a = l .before .before .before .args in (
-      omega arith,
-      length-set (l .loop .lines) _ _ ∙ l .loop .inv .1,
-      strip-line-next (a .strip) (a .strips .now) (a .place) (a .row) (l .loop .j) (a .lines .now) (l .loop .inv .2)
-          (c .strip-word .ensures),
+copy-words-requires : tie.Need-copy-words-requires
+copy-words-requires c κs =
+    let n = c .before .before .before .before in
+    let a = n .before .before .before in (
+      omega (
+        arith,
+        a .pre .1 .1 .0,
+        n .lines-inside .ensures,
+        lines-few (a .args .strip) (a .args .place) (a .args .places),
+      ),
+      rw (n .lines-inside .ensures) (words-fit (a .args .strip) (a .args .place) (a .args .places) (a .pre .1 .1 .1)),
     )
 
-same-length : tie.Need-same-length Inv-loop μ-loop
+same-length : tie.Need-same-length
 same-length c = search needs
 
-returns : tie.Need-returns Inv-loop μ-loop
+returns : tie.Need-returns
 returns c =
-    let e : c .before .loop .j ≡ c .before .before .before .before .args .places = omega arith in
-    rw e at (c .before .loop .inv .2)
+    let p = c .before .before in
+    let n = p .before .before .before .before .before in
+    let a = n .before .before .before .args in
+    line-some (a .strip) (a .strips .now) (a .place) (a .row) (a .places) (a .lines .now) (n .lines-inside .ensures)
+    (p .copy-words .ensures)
+
+returns-2 : tie.Need-returns-2
+returns-2 c =
+    let n = c .before in
+    let a = n .before .before .before .args in
+    line-none (a .strip) (a .strips .now) (a .place) (a .row) (a .places) (a .lines .now) (omega (arith, n .lines-inside .ensures))
 
 pub strip-line-spec : {M : Type 1} → statement M
 strip-line-spec =
     tie.close
     (tie.spec
-    Inv-loop
-    μ-loop
-    loop-holds
-    strip-word-requires
-    mul-lines
-    add-lines
-    add-lines-2
-    mul-lines-2
-    slice-write-lines
-    add-j
-    loop-less
-    loop-again
+    lines-inside-requires
+    mul-copy-words
+    add-copy-words
+    mul-copy-words-2
+    add-copy-words-2
+    copy-words-requires
     same-length
-    returns)
+    returns
+    returns-2)

@@ -1,0 +1,81 @@
+-- `add_multiples` has added the multiples of the places so far.
+use Prim.Native.Nat.{_+_, _-_, _*_, _≤_}
+use mathlib.Core.Path.{_≡_}
+use native.Mathlib.Omega.{arith}
+use borrow.Author.Needs.{needs}
+use Rattle.filter.specs.Buffer.{wordAt}
+use Rattle.link.specs.Words.{weightsAt, MultiplesAdded}
+use Rattle.link.proofs.Carrying.{multiples-none, multiples-next}
+use Rattle.link.proofs.add_multiples.Statement.{statement}
+use Rattle.link.proofs.add_multiples.Tie as tie
+
+abbrev Inv-loop : tie.InvT-loop
+Inv-loop responses₀ order strips at step lines square distance place₀ responses place =
+    (place ≤ order)
+    × MultiplesAdded lines place (λ l. wordAt strips (at + l * step)) (weightsAt square distance) responses₀ responses
+
+abbrev μ-loop : tie.MeasureT-loop
+μ-loop responses₀ order strips at step lines square distance place₀ responses place = order - place
+
+loop-holds : tie.Need-loop-holds Inv-loop μ-loop
+loop-holds c = (omega arith, multiples-none _ _ _ _)
+
+mul-weights : tie.Need-mul-weights Inv-loop μ-loop
+mul-weights c = search needs
+
+element-copy-out-weights : tie.Need-element-copy-out-weights Inv-loop μ-loop
+element-copy-out-weights c = search needs
+
+mul-add-multiple : tie.Need-mul-add-multiple Inv-loop μ-loop
+mul-add-multiple c = search needs
+
+array-read-add-multiple : tie.Need-array-read-add-multiple Inv-loop μ-loop
+array-read-add-multiple c = search needs
+
+add-multiple-requires : tie.Need-add-multiple-requires Inv-loop μ-loop
+add-multiple-requires c κs =
+    let l = c .before .before .before in
+    let a = l .before .before .before in
+    (omega arith, (a .pre .1 .1 .0, (omega (arith, l .loop .inv .1 .length-kept), a .pre .1 .1 .1 .1)))
+
+add-place : tie.Need-add-place Inv-loop μ-loop
+add-place c = search needs
+
+loop-less : tie.Need-loop-less Inv-loop μ-loop
+loop-less c = search needs
+
+loop-again : tie.Need-loop-again Inv-loop μ-loop
+loop-again c =
+    let f = c .before .before in
+    let l = f .before .before .before .before in
+    let a = l .before .before .before in (
+      omega arith,
+      multiples-next (a .args .lines) (l .loop .place) (a .args .strips .now) (a .args .at) (a .args .step) _ (a .args .responses .now)
+          (a .pre .1 .1 .0) (omega arith) (a .pre .1 .1 .1 .0) (l .loop .inv .1) (f .add-multiple .ensures),
+    )
+
+same-length : tie.Need-same-length Inv-loop μ-loop
+same-length c = search needs
+
+returns : tie.Need-returns Inv-loop μ-loop
+returns c =
+    let e : c .before .loop .place ≡ c .before .before .before .before .args .order = omega arith in
+    rw e at (c .before .loop .inv .1)
+
+pub add-multiples-spec : {M : Type 1} → statement M
+add-multiples-spec =
+    tie.close
+    (tie.spec
+    Inv-loop
+    μ-loop
+    loop-holds
+    mul-weights
+    element-copy-out-weights
+    mul-add-multiple
+    array-read-add-multiple
+    add-multiple-requires
+    add-place
+    loop-less
+    loop-again
+    same-length
+    returns)
