@@ -1,15 +1,19 @@
 -- The words of a pass's filter are that filter. Assumes nothing.
+use mathlib.Core.Logic.{_≢_}
 use mathlib.Core.Path.{_≡_, refl, sym, ap, _∙_, fun-ext}
 use mathlib.Core.List.{List, map}
-use Prim.Native.Nat.{ℕ}
+use Prim.Native.Nat.{ℕ, zero, suc}
 use native.Mathlib.Omega.{arith}
 use lib.IntN.{ℤ, pos}
 use lib.ListN.{getD, length, length-map, List·getD-map}
 use lib.Seq.{ext-getD}
 use Rattle.word.specs.Word.{modulus, residue}
 use Rattle.plan.specs.declared.Pass.{Pass}
+use Rattle.plan.specs.declared.Plan.{Plan}
+use Rattle.plan.specs.Rules.{passAt}
+use Rattle.passes.specs.Gains.{gainsFrom, gainsFirst}
 use Rattle.filter.specs.Buffer.{wordAt}
-use Rattle.filter.specs.Filters.{filterOf, filterWith, filterWords}
+use Rattle.filter.specs.Filters.{filterOf, filtersOf, filterWith, filterWords, withGain, gainsFirstWords}
 use Rattle.filter.proofs.Buffers.{HoldsBelow}
 
 residue-zero : residue (pos 0) ≡ 0
@@ -31,3 +35,36 @@ unfolding filterWords filterOf
 filterWords-filter pass =
     ap (λ d. record { gain = residue (pass .gain); order = pass .order; coefficient = d })
     (fun-ext (residues-at (pass .coefficients)))
+
+-- A filter's words with another gain are the filter with that gain.
+withGain-filter : (gain : ℕ) (pass : Pass)
+    → filterWith (withGain gain (filterWords pass))
+    ≡ record { gain = gain; order = filterOf pass .order; coefficient = filterOf pass .coefficient }
+unfolding filterWords filterOf
+withGain-filter gain pass =
+    ap (λ d. record { gain = gain; order = pass .order; coefficient = d }) (fun-ext (residues-at (pass .coefficients)))
+
+-- The first pass has all gains,
+pub gainsFirstWords-first : (plan : Plan) (pass : ℕ) → pass ≡ 0
+    → withGain (gainsFrom (filtersOf plan) 0 4) (filterWords (passAt plan 0)) ≡ gainsFirstWords plan pass
+unfolding gainsFirstWords
+gainsFirstWords-first plan zero e = refl
+gainsFirstWords-first plan (suc pass) e = absurd (omega arith)
+
+-- and each other gain 1.
+pub gainsFirstWords-other : (plan : Plan) (pass : ℕ) → pass ≢ 0
+    → withGain 1 (filterWords (passAt plan pass)) ≡ gainsFirstWords plan pass
+unfolding gainsFirstWords
+gainsFirstWords-other plan zero e = absurd (e refl)
+gainsFirstWords-other plan (suc pass) e = refl
+
+pub gainsFirstWords-filter : (plan : Plan) (pass : ℕ)
+    → filterWith (gainsFirstWords plan pass) ≡ gainsFirst (filtersOf plan) 4 pass
+unfolding gainsFirstWords
+gainsFirstWords-filter plan zero = withGain-filter _ _
+gainsFirstWords-filter plan (suc pass) = withGain-filter _ _
+
+pub gainsFirstWords-order : (plan : Plan) (pass : ℕ) → gainsFirstWords plan pass .order ≡ passAt plan pass .order
+unfolding gainsFirstWords filterWords
+gainsFirstWords-order plan zero = refl
+gainsFirstWords-order plan (suc pass) = refl

@@ -26,6 +26,7 @@ use Rattle.filter.specs.Kernel.{
   firstTaps,
   filterInPlace,
   LinesFit,
+  Apart,
 }
 use Rattle.filter.proofs.Written.{written-length, written-other, written-at}
 
@@ -71,7 +72,7 @@ wordsBefore-reads p q y z (suc o) e f (suc k) = wordsBefore-reads p q y z o e (�
 
 -- ---- one place of many lines
 
-outputAt-reads : (f : Filter) (forth back : ℕ) (a b : List ℕ) (c : ℕ) → wordAt a c ≡ wordAt b c
+pub outputAt-reads : (f : Filter) (forth back : ℕ) (a b : List ℕ) (c : ℕ) → wordAt a c ≡ wordAt b c
     → ((k : ℕ) → k < f .order → wordAt a (tapPlace forth back c k) ≡ wordAt b (tapPlace forth back c k))
     → outputAt f forth back a c ≡ outputAt f forth back b c
 unfolding outputAt
@@ -96,13 +97,7 @@ module _ (f : Filter) (forth back apart c m : ℕ) (b : List ℕ)
 
 -- ---- all places
 
--- The first `places` places of all lines are apart.
-abbrev pub Apart : Lines → ℕ → Type 0
-Apart L places =
-    (l j t u : ℕ) → l < L .count → j < L .count → t < places → u < places
-    → linePlace L l t ≡ linePlace L j u → (l ≡ j) × (t ≡ u)
-
-tap-is : (L : Lines) (t k x : ℕ) → t * L .back ≤ L .first → k < t
+pub tap-is : (L : Lines) (t k x : ℕ) → t * L .back ≤ L .first → k < t
     → tapPlace (L .forth) (L .back) (leadPlace L t + x) k ≡ leadPlace L (t - suc k) + x
 tap-is L t k x h l =
     let u : ℕ = t - suc k in

@@ -5,5 +5,7 @@ pub mod Filters
 pub mod Turns
 pub mod Unchanged
 pub mod InPlace
+pub mod TwoPlaces
 pub mod Windows
+pub mod Scaling
 pub mod Numbers

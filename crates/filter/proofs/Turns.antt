@@ -1,23 +1,32 @@
 -- One turn of each loop of the kernel, and what fits. Assumes nothing.
-use mathlib.Core.Path.{_≡_}
+use mathlib.Core.Path.{_≡_, refl, ap, ap₂, sym, _∙_, fun-ext}
 use mathlib.Core.List.{List}
-use Prim.Native.Nat.{ℕ, suc, _+_, _-_, _*_, _<_, _≤_, min}
+use Prim.Native.Nat.{ℕ, zero, suc, _+_, _-_, _*_, _^_, _<_, _≤_, min}
 use native.Mathlib.Nat.{mul-le-mul-right}
 use native.Mathlib.Numerals.{add-one}
 use native.Mathlib.Omega.{arith}
 use lib.ListN.{set}
 use Rattle.word.specs.Word.{_⊖_, _⊗_}
-use Rattle.passes.specs.Filter.{Filter, lessFeedback}
+use Rattle.word.proofs.Ring.{one-mul, reduced-small}
+use Rattle.passes.specs.Filter.{Filter, lessFeedback, filterStep}
 use Rattle.filter.specs.declared.Lines.{Lines}
+use Rattle.filter.specs.Buffer.{wordAt}
+use Rattle.filter.specs.Filters.{filterBy}
 use Rattle.filter.specs.Kernel.{
+  tapPlace,
+  feedbackFrom,
   TapsFit,
   PlacesFit,
   LinesFit,
+  Apart,
   leadPlace,
   firstTaps,
   outputAt,
+  withNearest,
+  nextOutputAt,
   outputsAt,
   outputsAtTime,
+  outputsAtTwoTimes,
   filterInPlace,
 }
 
@@ -29,22 +38,64 @@ taps-fit {n} {c} {forth} {back} {r} h k l =
     let f : k * back ≤ r * back = mul-le-mul-right back l in
     record { low = omega arith; high = omega arith }
 
--- A tap below the order,
-pub tap-taken : (d y : ℕ → ℕ) (r k v s m t : ℕ) → k + 1 ≤ r → s ≡ lessFeedback d (min r k) v y → m ≡ d k ⊗ y k
-    → t ≡ s ⊖ m → t ≡ lessFeedback d (min r (k + 1)) v y
-unfolding lessFeedback
-tap-taken d y r k v s m t l p q e =
-    let a : min r (k + 1) ≡ suc k = omega arith in
-    let b : min r k ≡ k = omega arith in
-    let z : s ≡ lessFeedback d k v y = rw b at p in
-    rw a (cc)
+module _ (q : ℕ) (d : List ℕ) (r v forth back : ℕ) (buffer : List ℕ) (c : ℕ) where
+  -- No tap yet,
+  pub taps-none : v ≡ feedbackFrom q d (min r q) v forth back buffer c
+  unfolding feedbackFrom lessFeedback
+  taps-none = let z : min r q - q ≡ 0 = omega arith in rw z
 
--- and one past it.
-pub tap-left : (d y : ℕ → ℕ) (r k v s : ℕ) → r < k + 1 → s ≡ lessFeedback d (min r k) v y
-    → s ≡ lessFeedback d (min r (k + 1)) v y
-tap-left d y r k v s l p =
-    let a : min r k ≡ min r (k + 1) = omega arith in
-    rw a at p
+  -- one below the order,
+  pub tap-taken : (k s m t : ℕ) → q ≤ k → k + 1 ≤ r → s ≡ feedbackFrom q d (min r k) v forth back buffer c
+      → m ≡ wordAt d k ⊗ wordAt buffer (tapPlace forth back c k) → t ≡ s ⊖ m
+      → t ≡ feedbackFrom q d (min r (k + 1)) v forth back buffer c
+  unfolding feedbackFrom lessFeedback
+  tap-taken k s m t h l p g e =
+      let n : ℕ = k - q in
+      let more : min r (k + 1) - q ≡ suc n = omega arith in
+      let same : min r k - q ≡ n = omega arith in
+      let here : q + n ≡ k = omega arith in
+      let z = rw same at p in
+      rw (more, here) (cc)
+
+  -- and one past it.
+  pub tap-left : (k s : ℕ) → r < k + 1 → s ≡ feedbackFrom q d (min r k) v forth back buffer c
+      → s ≡ feedbackFrom q d (min r (k + 1)) v forth back buffer c
+  tap-left k s l p =
+      let a : min r k ≡ min r (k + 1) = omega arith in
+      rw a at p
+
+-- All taps, of a filter of gain 1.
+pub taps-all : (d : List ℕ) (r forth back : ℕ) (buffer : List ℕ) (c : ℕ) → wordAt buffer c < 2 ^ 64
+    → feedbackFrom 0 d r (wordAt buffer c) forth back buffer c ≡ outputAt (filterBy 1 r d) forth back buffer c
+unfolding feedbackFrom outputAt filterStep
+taps-all d r forth back buffer c h =
+    let y : ℕ → ℕ = λ k. wordAt buffer (tapPlace forth back c k) in
+    ap₂ (λ d y. lessFeedback d (r - 0) (wordAt buffer c) y)
+    (fun-ext λ k. ap (wordAt d) {x = 0 + k} (omega arith)) (fun-ext λ k. ap y {x = 0 + k} (omega arith))
+    ∙ ap₂ (λ r v. lessFeedback (wordAt d) r v y) (omega arith)
+    (sym (one-mul (wordAt buffer c) ∙ reduced-small (wordAt buffer c) h))
+
+-- The first tap of a sum is the first to be taken.
+first-tap : (d y : ℕ → ℕ) (n v : ℕ)
+    → lessFeedback (λ k. d (suc k)) n (v ⊖ d 0 ⊗ y 0) (λ k. y (suc k)) ≡ lessFeedback d (suc n) v y
+unfolding lessFeedback
+first-tap d y zero v = refl
+first-tap d y (suc n) v = ap (_⊖ d (suc n) ⊗ y (suc n)) (first-tap d y n v)
+
+-- All taps but the nearest, which has been taken.
+pub taps-later : (d : List ℕ) (r forth back : ℕ) (buffer : List ℕ) (c w : ℕ) → 0 < r → wordAt buffer c < 2 ^ 64
+    → feedbackFrom 1 d r (wordAt buffer c ⊖ wordAt d 0 ⊗ w) forth back buffer c
+    ≡ nextOutputAt (filterBy 1 r d) forth back buffer c w
+unfolding feedbackFrom nextOutputAt filterStep
+taps-later d r forth back buffer c w some h =
+    let v : ℕ = wordAt buffer c in
+    let y : ℕ → ℕ = λ k. wordAt buffer (tapPlace forth back c k) in
+    let z : ℕ → ℕ = withNearest w y in
+    ap₂ (λ e y. lessFeedback e (r - 1) (v ⊖ wordAt d 0 ⊗ w) y)
+    (fun-ext λ k. ap (wordAt d) {x = 1 + k} {y = suc k} (omega arith))
+    (fun-ext λ k. ap y {x = 1 + k} {y = suc k} (omega arith))
+    ∙ first-tap (wordAt d) z (r - 1) v
+    ∙ ap₂ (λ r v. lessFeedback (wordAt d) r v z) {x = suc (r - 1)} (omega arith) (sym (one-mul v ∙ reduced-small v h))
 
 -- ---- one place of many lines
 
@@ -77,7 +128,10 @@ lines-fit-fewer h p l =
       high = λ x t f e. h .high x t f (omega arith);
     }
 
--- One place in a forward pass, where nothing lies back, and in a backward pass, where nothing lies forth.
+pub apart-fewer : (L : Lines) (places : ℕ) → Apart L places → (p : ℕ) → p ≤ places → Apart L p
+apart-fewer L places apart p h l j t u a b c d = apart l j t u a b (omega arith) (omega arith)
+
+-- Place t in a forward pass, where nothing lies back, and in a backward pass, where nothing lies forth.
 module _ (L : Lines) (t : ℕ) where
   lead-forward : L .back ≡ 0 → leadPlace L t ≡ L .first + t * L .forth
   lead-forward e = rw e (omega arith)
@@ -85,24 +139,41 @@ module _ (L : Lines) (t : ℕ) where
   lead-backward : L .forth ≡ 0 → leadPlace L t ≡ L .first - t * L .back
   lead-backward e = rw e (omega arith)
 
-  pub forward-fits : {n places : ℕ} → LinesFit n L places → (k : ℕ) → t < places → k ≤ t → L .back ≡ 0
-      → PlacesFit n (L .first + t * L .forth) (L .forth) 0 (L .apart) (L .count) k
-  forward-fits h k l e z = rw (lead-forward z, z) at (places-fit h t k l e)
+  -- What fits, fits as it is called with,
+  pub forward-fits : (P : ℕ → ℕ → ℕ → Type 0) → L .back ≡ 0 → P (leadPlace L t) (L .forth) (L .back)
+      → P (L .first + t * L .forth) (L .forth) 0
+  forward-fits P z p = rw (lead-forward z, z) at p
 
-  pub backward-fits : {n places : ℕ} → LinesFit n L places → (k : ℕ) → t < places → k ≤ t → L .forth ≡ 0
-      → PlacesFit n (L .first - t * L .back) 0 (L .back) (L .apart) (L .count) k
-  backward-fits h k l e z = rw (lead-backward z, z) at (places-fit h t k l e)
+  pub backward-fits : (P : ℕ → ℕ → ℕ → Type 0) → L .forth ≡ 0 → P (leadPlace L t) (L .forth) (L .back)
+      → P (L .first - t * L .back) 0 (L .back)
+  backward-fits P z p = rw (lead-backward z, z) at p
 
-  pub forward-outputs : (f : Filter) (a : List ℕ) {b : List ℕ} → L .back ≡ 0
-      → b ≡ outputsAt f (L .forth) 0 (L .apart) (L .first + t * L .forth) (L .count) a → b ≡ outputsAtTime L f t a
-  forward-outputs f a z e = rw (lead-forward z, z) e
+  -- and what the call gives is what was meant.
+  pub forward-outputs : (outputs : ℕ → ℕ → ℕ → List ℕ) {b : List ℕ} → L .back ≡ 0
+      → b ≡ outputs (L .first + t * L .forth) (L .forth) 0 → b ≡ outputs (leadPlace L t) (L .forth) (L .back)
+  forward-outputs outputs z e = rw (lead-forward z, z) e
 
-  pub backward-outputs : (f : Filter) (a : List ℕ) {b : List ℕ} → L .forth ≡ 0
-      → b ≡ outputsAt f 0 (L .back) (L .apart) (L .first - t * L .back) (L .count) a → b ≡ outputsAtTime L f t a
-  backward-outputs f a z e = rw (lead-backward z, z) e
+  pub backward-outputs : (outputs : ℕ → ℕ → ℕ → List ℕ) {b : List ℕ} → L .forth ≡ 0
+      → b ≡ outputs (L .first - t * L .back) 0 (L .back) → b ≡ outputs (leadPlace L t) (L .forth) (L .back)
+  backward-outputs outputs z e = rw (lead-backward z, z) e
 
 pub place-more : (L : Lines) (f : Filter) (q n : ℕ) (a b : List ℕ) {e : List ℕ}
     → b ≡ filterInPlace L f q n a → e ≡ outputsAtTime L (firstTaps (q + n) f) (q + n) b
     → e ≡ filterInPlace L f q (n + 1) a
 unfolding filterInPlace
 place-more L f q n a b p e = rw add-one (cc)
+
+-- Two places more, where both have all their taps.
+pub two-places-more : (L : Lines) (f : Filter) (q n : ℕ) (a b : List ℕ) {e : List ℕ} → f .order ≤ q + n
+    → b ≡ filterInPlace L f q n a → e ≡ outputsAtTwoTimes L f (q + n) b → e ≡ filterInPlace L f q (n + 2) a
+two-places-more L f q n a b {e} h p g =
+    let all : (t : ℕ) → f .order ≤ t → f ≡ firstTaps t f =
+    λ t l. ap (λ r. record { gain = f .gain; order = r; coefficient = f .coefficient }) (omega arith) in
+    let c : List ℕ = outputsAtTime L f (q + n) b in
+    let first : c ≡ filterInPlace L f q (n + 1) a =
+    place-more L f q n a b p (ap (λ z. outputsAtTime L z (q + n) b) (all (q + n) h)) in
+    let second : e ≡ filterInPlace L f q (n + 1 + 1) a =
+    place-more L f q (n + 1) a c first
+    (g ∙ ap₂ (λ z t. outputsAtTime L z t c) (all (q + (n + 1)) (omega arith)) (omega arith)) in
+    let count : n + 1 + 1 ≡ n + 2 = omega arith in
+    rw count at second

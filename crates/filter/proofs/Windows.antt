@@ -33,7 +33,7 @@ use Rattle.passes.proofs.Passes.{reflect-lt, reflect-twice}
 use Rattle.filter.specs.declared.Lines.{Lines}
 use Rattle.filter.specs.declared.Window.{Window}
 use Rattle.filter.specs.Buffer.{wordAt}
-use Rattle.filter.specs.Kernel.{linePlace, LinesFit}
+use Rattle.filter.specs.Kernel.{linePlace, LinesFit, Apart}
 use Rattle.filter.specs.Windows.{
   pixelPlace,
   isBackward,
@@ -47,7 +47,7 @@ use Rattle.filter.specs.Windows.{
   WindowFits,
 }
 use Rattle.filter.proofs.RowMajor.{place-below, same-row-column}
-use Rattle.filter.proofs.InPlace.{Apart, Filtered, filtered}
+use Rattle.filter.proofs.InPlace.{Filtered, filtered}
 
 sub-mul : (y t w : ℕ) → t ≤ y → (y - t) * w + t * w ≡ y * w
 sub-mul y t w h = let e : y ≡ (y - t) + t = omega arith in sym (ap (_* w) e ∙ add-mul (y - t) t w)
@@ -225,7 +225,7 @@ line-word columns word place l i = refl
 line-word rows word place l i = refl
 
 -- The place of a pixel of a window.
-abbrev placeIn : Window → ℕ → ℕ → ℕ
+abbrev pub placeIn : Window → ℕ → ℕ → ℕ
 placeIn W y x = pixelPlace (W .stride) (W .top + y) (W .left + x)
 
 line-pixel : (a : Axis) (W : Window) (l i : ℕ)

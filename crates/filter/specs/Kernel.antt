@@ -1,9 +1,10 @@
 -- What the kernel computes: the folds that its loops are, and what fits a buffer.
 use mathlib.Core.Path.{_≡_}
 use mathlib.Core.List.{List}
+use mathlib.Core.Logic.{_≢_}
 use Prim.Native.Nat.{ℕ, zero, suc, _+_, _-_, _*_, _<_, _≤_, min}
 use lib.ListN.{set}
-use Rattle.passes.specs.Filter.{Filter, filterStep}
+use Rattle.passes.specs.Filter.{Filter, lessFeedback, filterStep}
 use Rattle.filter.specs.declared.Lines.{Lines}
 use Rattle.filter.specs.Buffer.{wordAt}
 
@@ -13,9 +14,24 @@ use Rattle.filter.specs.Buffer.{wordAt}
 abbrev pub tapPlace : ℕ → ℕ → ℕ → ℕ → ℕ
 tapPlace forth back c k = (c + (k + 1) * back) - (k + 1) * forth
 
+-- A word v less the feedback of the coefficients from q on, up to order r, the outputs standing before place c.
+unfoldable pub feedbackFrom : ℕ → List ℕ → ℕ → ℕ → ℕ → ℕ → List ℕ → ℕ → ℕ
+feedbackFrom q coefficients r v forth back buffer c =
+    lessFeedback (λ k. wordAt coefficients (q + k)) (r - q) v (λ k. wordAt buffer (tapPlace forth back c (q + k)))
+
 -- The output at place c, from the words that stand there and before it.
 unfoldable pub outputAt : Filter → ℕ → ℕ → List ℕ → ℕ → ℕ
 outputAt f forth back buffer c = filterStep f (wordAt buffer c) (λ k. wordAt buffer (tapPlace forth back c k))
+
+-- Outputs y before a place, nearest first, but for the nearest, which is w.
+abbrev pub withNearest : ℕ → (ℕ → ℕ) → ℕ → ℕ
+withNearest w y zero = w
+withNearest w y (suc k) = y (suc k)
+
+-- The output at place c where w is the output before it, which the buffer does not hold yet.
+unfoldable pub nextOutputAt : Filter → ℕ → ℕ → List ℕ → ℕ → ℕ → ℕ
+nextOutputAt f forth back buffer c w =
+    filterStep f (wordAt buffer c) (withNearest w (λ k. wordAt buffer (tapPlace forth back c k)))
 
 -- Place c and the r places before it lie in a buffer of n words.
 pub record TapsFit (n c forth back r : ℕ) : Type 0 where
@@ -37,6 +53,29 @@ pub record PlacesFit (n c forth back apart m r : ℕ) : Type 0 where
   pub low : r * forth ≤ c
   pub high : (l : ℕ) → l < m → c + l * apart + r * back < n
 
+-- ---- two places of many lines
+
+-- The place after place c of a line.
+abbrev pub nextPlace : ℕ → ℕ → ℕ → ℕ
+nextPlace forth back c = (c + forth) - back
+
+-- The buffer after the outputs at place c of m lines, and then at the place after it.
+abbrev pub outputsAtTwo : Filter → ℕ → ℕ → ℕ → ℕ → ℕ → List ℕ → List ℕ
+outputsAtTwo f forth back apart c m buffer =
+    outputsAt f forth back apart (nextPlace forth back c) m (outputsAt f forth back apart c m buffer)
+
+-- Place c of a first line, the place after it, and the r places before each lie in a buffer of n words, for m lines;
+-- and no line's places are another's.
+pub record TwoPlacesFit (n c forth back apart m r : ℕ) : Type 0 where
+  pub here : PlacesFit n c forth back apart m r
+  pub next : PlacesFit n (nextPlace forth back c) forth back apart m r
+  pub low : back ≤ c + forth
+  pub lines-apart : (l j : ℕ) → l < m → j < m → c + l * apart ≡ c + j * apart → l ≡ j
+  pub next-apart : (l j : ℕ) → l < m → j < m → c + l * apart ≢ nextPlace forth back c + j * apart
+  pub taps-apart : (l j k : ℕ) → l < m → j < m → k < r
+      → (tapPlace forth back (c + l * apart) k ≢ c + j * apart)
+      × (tapPlace forth back (c + l * apart) k ≢ nextPlace forth back c + j * apart)
+
 -- ---- all places of many lines
 
 -- Place t of line 0.
@@ -55,6 +94,10 @@ firstTaps t f = record { gain = f .gain; order = min (f .order) t; coefficient =
 abbrev pub outputsAtTime : Lines → Filter → ℕ → List ℕ → List ℕ
 outputsAtTime L f t buffer = outputsAt f (L .forth) (L .back) (L .apart) (leadPlace L t) (L .count) buffer
 
+-- The buffer after the outputs at places t and t + 1 of all lines.
+abbrev pub outputsAtTwoTimes : Lines → Filter → ℕ → List ℕ → List ℕ
+outputsAtTwoTimes L f t buffer = outputsAtTime L f (t + 1) (outputsAtTime L f t buffer)
+
 -- The buffer after the outputs at n places of each line, from place q on; what stands at the q places before is their
 -- history.
 unfoldable pub filterInPlace : Lines → Filter → ℕ → ℕ → List ℕ → List ℕ
@@ -68,3 +111,9 @@ pub record LinesFit (n : ℕ) (L : Lines) (places : ℕ) : Type 0 where
   pub enough : places ≤ n
   pub low : (t : ℕ) → t < places → t * L .back ≤ L .first
   pub high : (l t : ℕ) → l < L .count → t < places → L .first + t * L .forth + l * L .apart < n
+
+-- The first `places` places of all lines are apart.
+abbrev pub Apart : Lines → ℕ → Type 0
+Apart L places =
+    (l j t u : ℕ) → l < L .count → j < L .count → t < places → u < places
+    → linePlace L l t ≡ linePlace L j u → (l ≡ j) × (t ≡ u)

@@ -1,7 +1,9 @@
 -- A pass over a window: a rectangle of a buffer of rows, its lines the columns or the rows.
 use mathlib.Core.Bool.{Bool, true, false}
 use mathlib.Core.List.{List}
-use Prim.Native.Nat.{ℕ, suc, _+_, _-_, _*_, _<_, _≤_}
+use Prim.Native.Nat.{ℕ, zero, suc, _+_, _-_, _*_, _<_, _≤_}
+use lib.ListN.{set}
+use Rattle.word.specs.Word.{_⊗_}
 use Rattle.passes.specs.Filter.{Filter}
 use Rattle.passes.specs.Passes.{Axis, Direction, forward, backward, axisOf, directionOf, along, across, lineOf}
 use Rattle.filter.specs.declared.Lines.{Lines}
@@ -47,6 +49,18 @@ windowLines a d W q =
 unfoldable pub windowPass : ℕ → Window → ℕ → Filter → List ℕ → List ℕ
 windowPass pass W q f =
     filterInPlace (windowLines (axisOf pass) (directionOf pass) W q) f q (along (axisOf pass) (W .height) (W .width))
+
+-- The buffer after n words from `start` on have been multiplied by a gain,
+unfoldable pub scaleRow : ℕ → ℕ → ℕ → List ℕ → List ℕ
+scaleRow gain start zero buffer = buffer
+scaleRow gain start (suc n) buffer =
+    set (scaleRow gain start n buffer) (start + n) (gain ⊗ wordAt (scaleRow gain start n buffer) (start + n))
+
+-- and after the words of the first n rows of a window have been.
+unfoldable pub scaleRows : ℕ → Window → ℕ → List ℕ → List ℕ
+scaleRows gain W zero buffer = buffer
+scaleRows gain W (suc n) buffer =
+    scaleRow gain (pixelPlace (W .stride) (W .top + n) (W .left)) (W .width) (scaleRows gain W n buffer)
 
 -- The pixels of a window of a buffer, by row and column.
 abbrev pub windowOf : Window → List ℕ → ℕ → ℕ → ℕ

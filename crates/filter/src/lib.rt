@@ -1,14 +1,16 @@
 // The kernel of every pass: one recursive filter over the lines of a window of a buffer, in place.
 // An inner crate: what its functions require, their callers in this repository show.
+ghost use mathlib.Core.Bool.{true};
 ghost use mathlib.Core.Path.{_≡_};
-ghost use Prim.Native.Nat.{_+_, _^_, _≤_, min};
+ghost use Prim.Native.Nat.{_+_, _^_, _<_, _≤_, min};
 ghost use lib.ListN.{length};
 ghost use Rattle.plan.specs.Rules.{orderLimit};
-ghost use Rattle.passes.specs.Passes.{axisOf, directionOf, along, across};
+ghost use Rattle.passes.specs.Passes.{columns, forward, axisOf, directionOf, along, across};
 ghost use Rattle.passes.specs.Pixel.{pixel};
-ghost use Rattle.filter.specs.Filters.{filterBy, filterWith, filterWords};
-ghost use Rattle.filter.specs.Kernel.{outputAt, TapsFit, outputsAt, PlacesFit, outputsAtTime, filterInPlace, LinesFit};
-ghost use Rattle.filter.specs.Windows.{isBackward, ifForward, ifBackward, windowLines, windowPass, WindowFits};
+ghost use Rattle.passes.specs.Gains.{gainsFrom};
+ghost use Rattle.filter.specs.Filters.{filterBy, filterWith, filterWords, withGain, filtersOf, gainsFirstWords};
+ghost use Rattle.filter.specs.Kernel.{feedbackFrom, outputAt, nextOutputAt, TapsFit, outputsAt, PlacesFit, outputsAtTwo, TwoPlacesFit, outputsAtTime, outputsAtTwoTimes, filterInPlace, LinesFit, Apart};
+ghost use Rattle.filter.specs.Windows.{isBackward, ifForward, ifBackward, windowLines, windowPass, scaleRow, scaleRows, WindowFits};
 
 // A filter: the gain and the coefficients of a pass as residues modulo 2^64.
 pub struct FilterWords {
@@ -60,22 +62,59 @@ pub fn filter_words(pass: plan::Pass) -> FilterWords
     }
 }
 
-// One output: the gain times the word at `place`, less the coefficients times the words before it. The count of taps is
-// fixed, so that the compiler writes them out; a tap past the order is a test that is never taken.
-fn output_at(
+// The filter of a pass with another gain.
+pub fn filter_with_gain(pass: plan::Pass, gain: u64) -> FilterWords
+    ensures { λ r. ⌜ r ≡ withGain gain (filterWords pass) ⌝ }
+{
+    let mut words = filter_words(pass);
+    words.gain = gain;
+    words
+}
+
+// The product of the gains of `count` passes of a plan, from pass `first` on.
+pub fn gains_from(plan: plan::Plan, first: usize, count: usize) -> u64
+    requires { ⌜ first + count ≤ 4 ⌝ }
+    ensures { λ r. ⌜ r ≡ gainsFrom (filtersOf plan) first count ⌝ }
+{
+    let mut product = 1;
+    let mut done = 0;
+    while done < count {
+        let pass = plan.passes[first + done];
+        product = word::mul(product, word::residue(pass.gain));
+        done += 1;
+    }
+    product
+}
+
+// The filter of a pass of a plan with the gains of all passes in the first, so that the others have gain 1.
+pub fn gains_first(plan: plan::Plan, pass: usize) -> FilterWords
+    requires { ⌜ pass < 4 ⌝ }
+    ensures { λ r. ⌜ r ≡ gainsFirstWords plan pass ⌝ }
+{
+    if pass == 0 {
+        filter_with_gain(plan.passes[0], gains_from(plan, 0, 4))
+    } else {
+        filter_with_gain(plan.passes[pass], 1)
+    }
+}
+
+// A word less the feedback of a filter's coefficients from `taken` on. The count of taps is fixed, so that the compiler
+// writes them out; a tap past the order is a test that is never taken.
+fn less_feedback(
     buffer: &[u64],
     place: usize,
     forth: usize,
     back: usize,
-    gain: u64,
     coefficients: &[u64; plan::ORDER_LIMIT],
     order: usize,
+    taken: usize,
+    word: u64,
 ) -> u64
-    requires { ⌜ (order ≤ orderLimit) × TapsFit (length (now buffer)) place forth back order ⌝ }
-    ensures { λ r. ⌜ r ≡ outputAt (filterBy gain order (now (coefficients .entry))) forth back (now (buffer .entry)) place ⌝ }
+    requires { ⌜ (order ≤ orderLimit) × (taken ≤ orderLimit) × TapsFit (length (now buffer)) place forth back order ⌝ }
+    ensures { λ r. ⌜ r ≡ feedbackFrom taken (now (coefficients .entry)) order word forth back (now (buffer .entry)) place ⌝ }
 {
-    let mut sum = word::mul(gain, buffer[place]);
-    let mut tap = 0;
+    let mut sum = word;
+    let mut tap = taken;
     while tap < plan::ORDER_LIMIT {
         let distance = tap + 1;
         if distance <= order {
@@ -87,6 +126,39 @@ fn output_at(
     sum
 }
 
+// One output of a filter of gain 1: the word at `place`, less the coefficients times the words before it.
+fn output_at(
+    buffer: &[u64],
+    place: usize,
+    forth: usize,
+    back: usize,
+    coefficients: &[u64; plan::ORDER_LIMIT],
+    order: usize,
+) -> u64
+    requires { ⌜ (order ≤ orderLimit) × TapsFit (length (now buffer)) place forth back order ⌝ }
+    ensures { λ r. ⌜ r ≡ outputAt (filterBy 1 order (now (coefficients .entry))) forth back (now (buffer .entry)) place ⌝ }
+{
+    let word = buffer[place];
+    less_feedback(buffer, place, forth, back, coefficients, order, 0, word)
+}
+
+// One output where the output before it, `nearest`, is at hand and not in the buffer yet.
+fn next_output_at(
+    buffer: &[u64],
+    place: usize,
+    forth: usize,
+    back: usize,
+    coefficients: &[u64; plan::ORDER_LIMIT],
+    order: usize,
+    nearest: u64,
+) -> u64
+    requires { ⌜ (0 < order) × (order ≤ orderLimit) × TapsFit (length (now buffer)) place forth back order ⌝ }
+    ensures { λ r. ⌜ r ≡ nextOutputAt (filterBy 1 order (now (coefficients .entry))) forth back (now (buffer .entry)) place nearest ⌝ }
+{
+    let word = word::sub(buffer[place], word::mul(coefficients[0], nearest));
+    less_feedback(buffer, place, forth, back, coefficients, order, 1, word)
+}
+
 // The outputs of many lines at one place. It stays a call: its independent sums hide the latency of the multiply.
 fn outputs_at_place(
     buffer: &mut [u64],
@@ -95,18 +167,45 @@ fn outputs_at_place(
     back: usize,
     apart: usize,
     lines: usize,
-    gain: u64,
     coefficients: &[u64; plan::ORDER_LIMIT],
     order: usize,
 )
     requires { ⌜ (order ≤ orderLimit) × PlacesFit (length (now buffer)) place forth back apart lines order ⌝ }
-    ensures { λ _. ⌜ now (buffer .exit) ≡ outputsAt (filterBy gain order (now (coefficients .entry))) forth back apart place lines (now (buffer .entry)) ⌝ }
+    ensures { λ _. ⌜ now (buffer .exit) ≡ outputsAt (filterBy 1 order (now (coefficients .entry))) forth back apart place lines (now (buffer .entry)) ⌝ }
 {
     let mut line = 0;
     while line < lines {
         let here = place + line * apart;
-        let output = output_at(buffer, here, forth, back, gain, coefficients, order);
+        let output = output_at(buffer, here, forth, back, coefficients, order);
         buffer[here] = output;
+        line += 1;
+    }
+}
+
+// The outputs of many lines at one place and at the next, which share the words before them. It stays a call too. Its own
+// copy of the coefficients, which no store to the buffer can change, stays in registers.
+fn outputs_at_two_places(
+    buffer: &mut [u64],
+    place: usize,
+    forth: usize,
+    back: usize,
+    apart: usize,
+    lines: usize,
+    coefficients: &[u64; plan::ORDER_LIMIT],
+    order: usize,
+)
+    requires { ⌜ (0 < order) × (order ≤ orderLimit) × TwoPlacesFit (length (now buffer)) place forth back apart lines order ⌝ }
+    ensures { λ _. ⌜ now (buffer .exit) ≡ outputsAtTwo (filterBy 1 order (now (coefficients .entry))) forth back apart place lines (now (buffer .entry)) ⌝ }
+{
+    let own = *coefficients;
+    let mut line = 0;
+    while line < lines {
+        let here = place + line * apart;
+        let next = here + forth - back;
+        let output = output_at(buffer, here, forth, back, &own, order);
+        let later = next_output_at(buffer, next, forth, back, &own, order, output);
+        buffer[here] = output;
+        buffer[next] = later;
         line += 1;
     }
 }
@@ -123,12 +222,11 @@ fn outputs_at_time(
     buffer: &mut [u64],
     lines: Lines,
     time: usize,
-    gain: u64,
     coefficients: &[u64; plan::ORDER_LIMIT],
     order: usize,
 )
     requires { ⌜ (order ≤ orderLimit) × (order ≤ time) × LinesFit (length (now buffer)) lines (time + 1) ⌝ }
-    ensures { λ _. ⌜ now (buffer .exit) ≡ outputsAtTime lines (filterBy gain order (now (coefficients .entry))) time (now (buffer .entry)) ⌝ }
+    ensures { λ _. ⌜ now (buffer .exit) ≡ outputsAtTime lines (filterBy 1 order (now (coefficients .entry))) time (now (buffer .entry)) ⌝ }
 {
     let apart = lines.apart;
     let count = lines.count;
@@ -141,7 +239,6 @@ fn outputs_at_time(
             0,
             apart,
             count,
-            gain,
             coefficients,
             order,
         );
@@ -154,32 +251,82 @@ fn outputs_at_time(
             lines.back,
             apart,
             count,
-            gain,
             coefficients,
             order,
         );
     }
 }
 
-// The outputs of many lines at `places` places, after `history` places whose words are their history.
+// The outputs of all lines at place `time` and at the next. Two calls, as above.
+fn outputs_at_two_times(
+    buffer: &mut [u64],
+    lines: Lines,
+    time: usize,
+    coefficients: &[u64; plan::ORDER_LIMIT],
+    order: usize,
+)
+    requires { ⌜ (0 < order) × (order ≤ orderLimit) × (order ≤ time) × LinesFit (length (now buffer)) lines (time + 2) × Apart lines (time + 2) ⌝ }
+    ensures { λ _. ⌜ now (buffer .exit) ≡ outputsAtTwoTimes lines (filterBy 1 order (now (coefficients .entry))) time (now (buffer .entry)) ⌝ }
+{
+    let apart = lines.apart;
+    let count = lines.count;
+    if lines.back == 0 {
+        let place = lines.first + time * lines.forth;
+        outputs_at_two_places(
+            buffer,
+            place,
+            lines.forth,
+            0,
+            apart,
+            count,
+            coefficients,
+            order,
+        );
+    } else {
+        let place = lines.first - time * lines.back;
+        outputs_at_two_places(
+            buffer,
+            place,
+            0,
+            lines.back,
+            apart,
+            count,
+            coefficients,
+            order,
+        );
+    }
+}
+
+// Whether two places can be done at once: the first has all its taps, and two are left.
+fn two_at_once(order: usize, time: usize, left: usize) -> bool
+    ensures { λ r. ⌜ (r ≡ true → (order ≤ time) × (2 ≤ left)) ⌝ }
+{
+    if order <= time { left >= 2 } else { false }
+}
+
+// The outputs of many lines at `places` places, of a filter of gain 1, after `history` places whose words are their history.
 fn filter_lines(
     buffer: &mut [u64],
     lines: Lines,
     history: usize,
     places: usize,
-    gain: u64,
     coefficients: &[u64; plan::ORDER_LIMIT],
     order: usize,
 )
-    requires { ⌜ (order ≤ orderLimit) × LinesFit (length (now buffer)) lines (history + places) ⌝ }
-    ensures { λ _. ⌜ now (buffer .exit) ≡ filterInPlace lines (filterBy gain order (now (coefficients .entry))) history places (now (buffer .entry)) ⌝ }
+    requires { ⌜ (0 < order) × (order ≤ orderLimit) × LinesFit (length (now buffer)) lines (history + places) × Apart lines (history + places) ⌝ }
+    ensures { λ _. ⌜ now (buffer .exit) ≡ filterInPlace lines (filterBy 1 order (now (coefficients .entry))) history places (now (buffer .entry)) ⌝ }
 {
     let mut done = 0;
     while done < places {
         let time = history + done;
-        let taps = lesser(order, time);
-        outputs_at_time(buffer, lines, time, gain, coefficients, taps);
-        done += 1;
+        if two_at_once(order, time, places - done) {
+            outputs_at_two_times(buffer, lines, time, coefficients, order);
+            done += 2;
+        } else {
+            let taps = lesser(order, time);
+            outputs_at_time(buffer, lines, time, coefficients, taps);
+            done += 1;
+        }
     }
 }
 
@@ -235,8 +382,38 @@ fn window_lines(window: Window, pass: usize, history: usize) -> Lines
     }
 }
 
+// The words from `start` on, each times `gain`.
+fn scale_row(buffer: &mut [u64], start: usize, width: usize, gain: u64)
+    requires { ⌜ start + width ≤ length (now buffer) ⌝ }
+    ensures { λ _. ⌜ now (buffer .exit) ≡ scaleRow gain start width (now (buffer .entry)) ⌝ }
+{
+    let mut column = 0;
+    while column < width {
+        let place = start + column;
+        let word = word::mul(gain, buffer[place]);
+        buffer[place] = word;
+        column += 1;
+    }
+}
+
+// The words of a window, each times `gain`.
+fn scale_window(buffer: &mut [u64], window: Window, gain: u64)
+    requires { ⌜ WindowFits (length (now buffer)) columns forward window 0 ⌝ }
+    ensures { λ _. ⌜ now (buffer .exit) ≡ scaleRows gain window (window .height) (now (buffer .entry)) ⌝ }
+{
+    if gain == 1 {
+        return;
+    }
+    let mut row = 0;
+    while row < window.height {
+        let start = (window.top + row) * window.stride + window.left;
+        scale_row(buffer, start, window.width, gain);
+        row += 1;
+    }
+}
+
 // Pass 0, 1, 2 or 3 (down, up, right, left) over a window, each line after `history` words of the buffer that stand
-// before it. A pass that changes nothing, of order 0 and gain 1, returns at once.
+// before it. The gain comes first, to all words at once, which leaves a filter of gain 1.
 pub fn run_pass(
     buffer: &mut [u64],
     window: Window,
@@ -248,14 +425,12 @@ pub fn run_pass(
     ensures { λ _. ⌜ now (buffer .exit) ≡ windowPass pass window history (filterWith filter) (now (buffer .entry)) ⌝ }
 {
     let order = filter.order;
-    let gain = filter.gain;
+    scale_window(buffer, window, filter.gain);
     if order == 0 {
-        if gain == 1 {
-            return;
-        }
+        return;
     }
     let lines = window_lines(window, pass, history);
     let places = along(pass, window.height, window.width);
     let coefficients = filter.coefficients;
-    filter_lines(buffer, lines, history, places, gain, &coefficients, order);
+    filter_lines(buffer, lines, history, places, &coefficients, order);
 }

@@ -2,6 +2,7 @@ pub mod Line
 pub mod Linear
 pub mod Passes
 pub mod Blocks
+pub mod Gains
 pub mod Link
 pub mod Square
 pub mod Exchange

@@ -5,3 +5,4 @@ pub mod Pixel
 pub mod Square
 pub mod Table
 pub mod Examples
+pub mod Gains

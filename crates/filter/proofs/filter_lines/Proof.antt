@@ -1,47 +1,57 @@
 -- `filter_lines` has done the places passed so far of all lines.
 use mathlib.Core.Path.{_≡_, refl}
-use Prim.Native.Nat.{_+_, _-_, _≤_}
+use Prim.Native.Nat.{ℕ, _+_, _-_, _≤_}
 use native.Mathlib.Omega.{arith}
 use borrow.Author.Needs.{needs}
 use lib.ListN.{length}
 use Rattle.filter.specs.Filters.{filterBy}
 use Rattle.filter.specs.Kernel.{filterInPlace}
-use Rattle.filter.proofs.Turns.{lines-fit-fewer, place-more}
+use Rattle.filter.proofs.Turns.{lines-fit-fewer, apart-fewer, place-more, two-places-more}
 use Rattle.filter.proofs.filter_lines.Statement.{statement}
 use Rattle.filter.proofs.filter_lines.Tie as tie
 
 abbrev Inv-loop : tie.InvT-loop
-Inv-loop buffer₀ lines history places gain coefficients order done₀ buffer done =
+Inv-loop buffer₀ lines history places coefficients order done₀ buffer done =
     (done ≤ places)
     × (length buffer ≡ length buffer₀)
-    × (buffer ≡ filterInPlace lines (filterBy gain order coefficients) history done buffer₀)
+    × (buffer ≡ filterInPlace lines (filterBy 1 order coefficients) history done buffer₀)
 
 abbrev μ-loop : tie.MeasureT-loop
-μ-loop buffer₀ lines history places gain coefficients order done₀ buffer done = places - done
+μ-loop buffer₀ lines history places coefficients order done₀ buffer done = places - done
 
 loop-holds : tie.Need-loop-holds Inv-loop μ-loop
 unfolding filterInPlace
 loop-holds c = (omega arith, refl, refl)
 
 add-time : tie.Need-add-time Inv-loop μ-loop
-add-time c = omega (arith, c .before .before .before .pre .1 .enough)
+add-time c = omega (arith, c .before .before .before .pre .2 .enough)
 
-lesser-requires : tie.Need-lesser-requires Inv-loop μ-loop
-lesser-requires c κs = search needs
+sub-two-at-once : tie.Need-sub-two-at-once Inv-loop μ-loop
+sub-two-at-once c = search needs
 
-outputs-at-time-requires : tie.Need-outputs-at-time-requires Inv-loop μ-loop
-outputs-at-time-requires c κs =
-    let f = c .before in
-    let l = f .before .before in
+two-at-once-requires : tie.Need-two-at-once-requires Inv-loop μ-loop
+two-at-once-requires c κs = search needs
+
+outputs-at-two-times-requires : tie.Need-outputs-at-two-times-requires Inv-loop μ-loop
+outputs-at-two-times-requires c κs =
+    let t = c .before in
+    let l = t .before .before .before in
     let s = l .before .before in
+    let both = t .before .two-at-once .ensures (t .if1 .taken) in
+    let places : ℕ = s .args .history + l .loop .done + 2 in
+    let few : places ≤ s .args .history + s .args .places = omega (arith, both .1) in
     let e : length (l .loop .buffer) ≡ length (s .args .buffer .now) = l .loop .inv .1 in (
-      omega (arith, f .lesser .ensures),
-      omega (arith, f .lesser .ensures),
-      rw e (lines-fit-fewer (s .pre .1) (s .args .history + l .loop .done + 1) (omega arith)),
+      s .pre .0,
+      s .pre .1,
+      both .0,
+      rw e (lines-fit-fewer (s .pre .2) places few),
+      apart-fewer (s .args .lines) _ (s .pre .3) places few,
     )
 
 add-done : tie.Need-add-done Inv-loop μ-loop
-add-done c = search needs
+add-done c =
+    let t = c .before .before .before .before in
+    omega (arith, t .before .two-at-once .ensures (t .if1 .taken) .1)
 
 loop-less : tie.Need-loop-less Inv-loop μ-loop
 loop-less c = search needs
@@ -49,7 +59,39 @@ loop-less c = search needs
 loop-again : tie.Need-loop-again Inv-loop μ-loop
 loop-again c =
     let f = c .before .before in
-    let l = f .before .before .before .before in (
+    let t = f .before .before in
+    let l = t .before .before .before in
+    let both = t .before .two-at-once .ensures (t .if1 .taken) in (
+      omega (arith, both .1),
+      omega (arith, f .outputs-at-two-times .kept, l .loop .inv .1),
+      two-places-more _ _ _ (l .loop .done) _ (l .loop .buffer) (both .0) (l .loop .inv .2)
+          (f .outputs-at-two-times .ensures),
+    )
+
+lesser-requires : tie.Need-lesser-requires Inv-loop μ-loop
+lesser-requires c κs = search needs
+
+outputs-at-time-requires : tie.Need-outputs-at-time-requires Inv-loop μ-loop
+outputs-at-time-requires c κs =
+    let f = c .before in
+    let l = f .before .before .before .before in
+    let s = l .before .before in
+    let e : length (l .loop .buffer) ≡ length (s .args .buffer .now) = l .loop .inv .1 in (
+      omega (arith, f .lesser .ensures),
+      omega (arith, f .lesser .ensures),
+      rw e (lines-fit-fewer (s .pre .2) (s .args .history + l .loop .done + 1) (omega arith)),
+    )
+
+add-done-2 : tie.Need-add-done-2 Inv-loop μ-loop
+add-done-2 c = search needs
+
+loop-less-2 : tie.Need-loop-less-2 Inv-loop μ-loop
+loop-less-2 c = search needs
+
+loop-again-2 : tie.Need-loop-again-2 Inv-loop μ-loop
+loop-again-2 c =
+    let f = c .before .before in
+    let l = f .before .before .before .before .before .before in (
       omega arith,
       omega (arith, f .outputs-at-time .kept, l .loop .inv .1),
       place-more _ _ _ (l .loop .done) _ (l .loop .buffer) (l .loop .inv .2)
@@ -72,10 +114,16 @@ filter-lines-spec =
     μ-loop
     loop-holds
     add-time
-    lesser-requires
-    outputs-at-time-requires
+    sub-two-at-once
+    two-at-once-requires
+    outputs-at-two-times-requires
     add-done
     loop-less
     loop-again
+    lesser-requires
+    outputs-at-time-requires
+    add-done-2
+    loop-less-2
+    loop-again-2
     same-length
     returns)

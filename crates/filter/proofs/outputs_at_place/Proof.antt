@@ -11,13 +11,13 @@ use Rattle.filter.proofs.outputs_at_place.Statement.{statement}
 use Rattle.filter.proofs.outputs_at_place.Tie as tie
 
 abbrev Inv-loop : tie.InvT-loop
-Inv-loop buffer₀ place forth back apart lines gain coefficients order line₀ buffer line =
+Inv-loop buffer₀ place forth back apart lines coefficients order line₀ buffer line =
     (line ≤ lines)
     × (length buffer ≡ length buffer₀)
-    × (buffer ≡ outputsAt (filterBy gain order coefficients) forth back apart place line buffer₀)
+    × (buffer ≡ outputsAt (filterBy 1 order coefficients) forth back apart place line buffer₀)
 
 abbrev μ-loop : tie.MeasureT-loop
-μ-loop buffer₀ place forth back apart lines gain coefficients order line₀ buffer line = lines - line
+μ-loop buffer₀ place forth back apart lines coefficients order line₀ buffer line = lines - line
 
 -- The place of this turn, and the words that it reads, are in the buffer.
 here : (c : tie.In-loop Inv-loop μ-loop)

@@ -1,19 +1,29 @@
--- `run_pass` is the pass over the window; it changes nothing where it returns at once.
-use mathlib.Core.Path.{sym}
+-- `run_pass` is the pass over the window: the gain first, and then the pass of gain 1, or nothing more at order 0.
+use mathlib.Core.Path.{_≡_}
 use native.Mathlib.Omega.{arith}
 use borrow.Author.Needs.{needs}
+use lib.ListN.{length}
+use Rattle.filter.specs.Filters.{filterWith}
 use Rattle.filter.specs.Windows.{windowPass}
-use Rattle.filter.proofs.Unchanged.{filter-unchanged}
-use Rattle.filter.proofs.Windows.{lines-fit}
+use Rattle.filter.proofs.Windows.{lines-fit, lines-apart}
+use Rattle.filter.proofs.Scaling.{fits-down, gain-then-pass, gain-then-none}
 use Rattle.filter.proofs.run_pass.Statement.{statement}
 use Rattle.filter.proofs.run_pass.Tie as tie
 
+scale-window-requires : tie.Need-scale-window-requires
+scale-window-requires c κs = fits-down _ _ _ _ (c .before .before .pre .1)
+
+same-length : tie.Need-same-length
+same-length c = search needs
+
 returns : tie.Need-returns
-unfolding windowPass
 returns c =
-    let s = c .before .before in
-    rw (c .if2 .taken, c .before .if1 .taken)
-    (sym (filter-unchanged _ (s .before .args .buffer .now) (λ i. omega (arith, s .slice-known .given i)) _ _ _))
+    let k = c .before in
+    let g = k .before .before in
+    let s = g .before .before .before in
+    gain-then-none (s .args .pass) (s .args .window) (filterWith (s .args .filter)) (s .args .history)
+    (s .args .buffer .now) (s .pre .1) (g .scale-window .ensures) (c .if1 .taken)
+    (λ i. omega (arith, k .slice-known2 .given i))
 
 window-lines-requires : tie.Need-window-lines-requires
 window-lines-requires c κs = search needs
@@ -23,27 +33,40 @@ along-requires c κs = search needs
 
 filter-lines-requires : tie.Need-filter-lines-requires
 filter-lines-requires c κs =
-    let w = c .before .before .before .before in
-    let s = w .before .before .before in
-    (s .pre .0, rw (w .window-lines .ensures, c .before .before .before .along .ensures) (lines-fit _ _ _ _ (s .pre .1)))
+    let p = c .before .before .before in
+    let w = p .before in
+    let g = w .before .before .before .before in
+    let s = g .before .before .before in
+    let e : length (g .scale-window .last .0) ≡ length (s .args .buffer .now) = omega (arith, g .scale-window .kept) in (
+      omega (arith, w .before .if1 .left),
+      s .pre .0,
+      rw (w .window-lines .ensures, p .along .ensures, e) (lines-fit _ _ _ _ (s .pre .1)),
+      rw (w .window-lines .ensures, p .along .ensures) (lines-apart _ _ _ _ (s .pre .1)),
+    )
 
-same-length : tie.Need-same-length
-same-length c = search needs
+same-length-2 : tie.Need-same-length-2
+same-length-2 c = search needs
 
 returns-2 : tie.Need-returns-2
 unfolding windowPass
 returns-2 c =
     let f = c .before .before in
     let w = f .before .before .before .before .before in
-    rw (w .window-lines .ensures, f .before .before .before .before .along .ensures) at (f .filter-lines .ensures)
+    let g = w .before .before .before .before in
+    let s = g .before .before .before in
+    gain-then-pass (s .args .pass) (s .args .window) (filterWith (s .args .filter)) (s .args .history)
+    (s .args .buffer .now) (s .pre .1) (g .scale-window .ensures)
+    (rw (w .window-lines .ensures, f .before .before .before .before .along .ensures) at (f .filter-lines .ensures))
 
 pub run-pass-spec : {M : Type 1} → statement M
 run-pass-spec =
     tie.close
     (tie.spec
+    scale-window-requires
+    same-length
     returns
     window-lines-requires
     along-requires
     filter-lines-requires
-    same-length
+    same-length-2
     returns-2)
