@@ -1,4 +1,5 @@
 pub mod Stages
 pub mod Lists
+pub mod Rows
 pub mod Serial
 pub mod Answers

@@ -1,9 +1,8 @@
 -- The steps of the serial passes lead to the words of the serial passes. Assumes nothing.
-use mathlib.Core.Path.{_≡_, refl, sym, ap, _∙_}
+use mathlib.Core.Path.{_≡_, refl, sym, ap, _∙_, fun-ext}
 use mathlib.Core.Bool.{true}
 use mathlib.Core.List.{List, _++_}
-use mathlib.Core.Logic.{_≢_}
-use Prim.Native.Nat.{ℕ, zero, suc, _+_, _-_, _*_, _/_, _%_, _<_, _≤_, min}
+use Prim.Native.Nat.{ℕ, zero, suc, _+_, _-_, _*_, _/_, _%_, _<_, _≤_}
 use native.Mathlib.Nat.{div-add-mod'}
 use native.Mathlib.Decide.{decLt}
 use native.Mathlib.Omega.{arith}
@@ -12,187 +11,228 @@ use lib.ListN.{length, drop}
 use Rattle.plan.specs.declared.Plan.{Plan}
 use Rattle.plan.specs.Rules.{keepsRules}
 use Rattle.plan.specs.Sizes.{neededPixels, blockCount}
-use Rattle.plan.proofs.Record.{rules}
+use Rattle.plan.proofs.Record.{rules, order-limited-at}
+use Rattle.word.proofs.Ring.{mul-zero}
 use Rattle.passes.specs.Pixel.{heightMap}
-use Rattle.passes.specs.Passes.{axisOf, directionOf, filterLines, passesOver, serialPasses}
-use Rattle.passes.proofs.Passes.{filterLine-reads, filterLines-reads}
+use Rattle.passes.specs.Passes.{passesOver, serialPasses}
+use Rattle.passes.proofs.Gains.{gains-first}
 use Rattle.filter.specs.Buffer.{wordAt}
-use Rattle.filter.specs.Filters.{filtersOf}
-use Rattle.filter.specs.Windows.{pixelPlace, windowOf}
-use Rattle.filter.proofs.RowMajor.{place-below, same-row-column, row-below, column-below}
-use Rattle.filter.proofs.Windows.{Passed, windowPass-passed, no-history}
-use Rattle.filter.proofs.Written.{written-length, written-other, written-at}
+use Rattle.filter.specs.Filters.{filterOf, filtersOf}
+use Rattle.filter.proofs.RowMajor.{row-below, column-below}
 use Rattle.serial.specs.Serial.{serialWords}
-use Rattle.serial.specs.Stages.{pixelsRead, mapRows, rowsPassed, bandRows, bandsPassed}
+use Rattle.serial.specs.Stages.{
+  pixelsRead,
+  serialFilters,
+  bandRows,
+  bandTop,
+  bandHeight,
+  bandPassed,
+  bandsReadDown,
+  bandFinished,
+  lastBand,
+  bandsPassedUp,
+  bandsFinished,
+}
 use Rattle.serial.proofs.Lists.{first-words}
-use Rattle.serial.proofs.Stages.{rows-fit}
+use Rattle.serial.proofs.Rows.{after, RowIs, SameRest, Step, read-step, pass-step}
 
-module _ (plan : Plan) (heights : List ℤ) where
-  -- The words after the first t passes.
-  abbrev after : ℕ → ℕ → ℕ → ℕ
-  after t = serialPasses (filtersOf plan) (plan .rows) (plan .columns) (heightMap (plan .columns) heights) t
+-- The passes with all gains in the first are the serial passes.
+gains-moved : (plan : Plan) (heights : List ℤ) (y x : ℕ)
+    → after plan heights 4 y x
+    ≡ serialPasses (filtersOf plan) (plan .rows) (plan .columns) (heightMap (plan .columns) heights) 4 y x
+unfolding serialPasses
+gains-moved plan heights y x =
+    sym
+    (gains-first (filtersOf plan) (plan .rows) (plan .columns) (λ u l k. 0) (heightMap (plan .columns) heights) 3 y x
+    ∙ ap
+    (λ H. passesOver (serialFilters plan) (plan .rows) (plan .columns) H (heightMap (plan .columns) heights) 4 y x)
+    (fun-ext λ u. fun-ext λ l. fun-ext λ k. mul-zero _))
 
-  -- Row y of a buffer holds the words after the first t passes.
-  abbrev RowIs : List ℕ → ℕ → ℕ → Type 0
-  RowIs b t y = (x : ℕ) → x < plan .columns → wordAt b (pixelPlace (plan .columns) y x) ≡ after t y x
+module _ (plan : Plan) (heights : List ℤ) (kept : keepsRules plan ≡ true) (output : List ℕ)
+    (long : neededPixels plan ≤ length output) where
+  -- A buffer of the output's length, with the output's words past the map.
+  abbrev Same : List ℕ → Type 0
+  Same b = SameRest plan heights output b
 
-  -- A buffer has the length of another, and its words past the map.
-  record SameRest (output b : List ℕ) : Type 0 where
-    pub length-same : length b ≡ length output
-    pub rest : (z : ℕ) → neededPixels plan ≤ z → wordAt b z ≡ wordAt output z
+  -- The rows from a first one to before another hold the words after the first t passes.
+  record RowsAre (b : List ℕ) (t first end : ℕ) : Type 0 where
+    pub row : (y : ℕ) → first ≤ y → y < end → y < plan .rows → RowIs plan heights b t y
 
-  window-word : (b : List ℕ) (top height y x : ℕ)
-      → windowOf (mapRows plan top height) b y x ≡ wordAt b (pixelPlace (plan .columns) (top + y) x)
-  window-word b top height y x = ap (wordAt b) (omega arith)
+  -- Some of these rows,
+  part : {b : List ℕ} {t first end : ℕ} (f e : ℕ) → first ≤ f → e ≤ end → RowsAre b t first end → RowsAre b t f e
+  part f e h k rows = record { row = λ y c d i. rows .row y (omega arith) (omega arith) i }
 
-  whole-word : (b : List ℕ) (y x : ℕ)
-      → windowOf (mapRows plan 0 (plan .rows)) b y x ≡ wordAt b (pixelPlace (plan .columns) y x)
-  whole-word b y x = ap (wordAt b) (omega arith)
-
-  read-rest : (output : List ℕ) → SameRest output (pixelsRead (neededPixels plan) heights output)
-  unfolding pixelsRead
-  read-rest output =
+  -- and rows one after another.
+  joined : {b : List ℕ} {t first middle end : ℕ} → RowsAre b t first middle → RowsAre b t middle end
+      → RowsAre b t first end
+  joined {middle = middle} upper lower =
       record {
-        length-same = written-length _ _ _ output;
-        rest = λ z h. written-other (λ i. i) _ (neededPixels plan) output z (λ i l e. absurd (omega arith));
+        row = λ y h k e. elim (decLt y middle) [ yes l ↦ upper .row y h l e | no l ↦ lower .row y (omega arith) k e ];
       }
 
-  read-rows : (output : List ℕ) → neededPixels plan ≤ length output → (y : ℕ) → y < plan .rows
-      → RowIs (pixelsRead (neededPixels plan) heights output) 0 y
-  unfolding pixelsRead serialPasses passesOver heightMap
-  read-rows output long y h x k =
-      written-at (λ i. i) _ (neededPixels plan) output (λ i j l m e. absurd (omega arith)) (λ i l. omega arith)
-      (pixelPlace (plan .columns) y x) (place-below (plan .rows) (plan .columns) y x h k)
+  as-long : {b : List ℕ} → Same b → neededPixels plan ≤ length b
+  as-long same = omega (arith, same .length-same)
 
-  module _ (kept : keepsRules plan ≡ true) (top height : ℕ) (tall : 0 < height) (inside : top + height ≤ plan .rows) where
-    passed : (pass : ℕ) (b : List ℕ) → neededPixels plan ≤ length b
-        → Passed (axisOf pass) (directionOf pass) (mapRows plan top height) (filtersOf plan pass) (λ l k. 0) b
-        (rowsPassed plan top height pass b)
-    unfolding rowsPassed
-    passed pass b long =
-        windowPass-passed pass (mapRows plan top height) (filtersOf plan pass) 0 (λ l k. 0) b
-        (rows-fit plan kept (length b) top height tall inside long _ _) (no-history _ _ _ _ _)
+  -- ---- one band
 
-    pass-rest : (pass : ℕ) (output b : List ℕ) → neededPixels plan ≤ length output → SameRest output b
-        → SameRest output (rowsPassed plan top height pass b)
-    pass-rest pass output b long same =
-        let u = passed pass b (omega (arith, same .length-same)) in
+  module _ (n : ℕ) (n-in : bandTop n < plan .rows) where
+    -- A step over the rows of band n.
+    abbrev BandStep : ℕ → List ℕ → List ℕ → Type 0
+    BandStep t b c = Step plan heights (bandTop n) (bandHeight plan n) t b c
+
+    band-read : (b : List ℕ) → Same b
+        → BandStep 0 b (pixelsRead (bandTop n * plan .columns) (bandHeight plan n * plan .columns) heights b)
+    band-read b same = read-step plan heights (bandTop n) (bandHeight plan n) (omega arith) b (as-long same)
+
+    -- The rows of the band after a step,
+    band-rows : {t : ℕ} {b c : List ℕ} → BandStep t b c → RowsAre c t (bandTop n) (bandTop (n + 1))
+    band-rows step = record { row = λ y h k e. step .these y h (omega arith) }
+
+    -- those above it,
+    rows-above : {t s first end : ℕ} {b c : List ℕ} → BandStep t b c → end ≤ bandTop n → RowsAre b s first end
+        → RowsAre c s first end
+    rows-above step above rows =
+        record { row = λ y h k e. step .others _ y (λ p. absurd (omega arith)) (rows .row y h k e) }
+
+    -- and those below it.
+    rows-below : {t s first end : ℕ} {b c : List ℕ} → BandStep t b c → bandTop (n + 1) ≤ first → RowsAre b s first end
+        → RowsAre c s first end
+    rows-below step below rows = record { row = λ y h k e. step .others _ y (λ p. omega arith) (rows .row y h k e) }
+
+    band-down : (b : List ℕ) → Same b → RowsAre b 1 0 (bandTop n) → RowsAre b 0 (bandTop n) (bandTop (n + 1))
+        → BandStep 1 b (bandPassed plan n 0 b)
+    band-down b same above rows =
+        pass-step plan heights kept (bandTop n) (bandHeight plan n) (omega arith) (omega arith) 0 b (as-long same)
+        (λ k h l. above .row (bandTop n - suc k) (omega arith) (omega arith) (omega arith))
+        (λ y h k. rows .row y h (omega arith) (omega arith))
+
+    -- The pass up reads no more rows below a band than the next band has.
+    band-up : (b : List ℕ) → Same b → RowsAre b 2 (bandTop (n + 1)) (bandTop (n + 1 + 1))
+        → RowsAre b 1 (bandTop n) (bandTop (n + 1)) → BandStep 2 b (bandPassed plan n 1 b)
+    unfolding filterOf
+    band-up b same below rows =
+        pass-step plan heights kept (bandTop n) (bandHeight plan n) (omega arith) (omega arith) 1 b (as-long same)
+        (λ k h l.
+        let limited = order-limited-at plan kept 1 (omega arith) in
+        below .row (bandTop n + bandHeight plan n + k) (omega arith) (omega (arith, limited, l)) (omega arith))
+        (λ y h k. rows .row y h (omega arith) (omega arith))
+
+    band-finished : (b : List ℕ) → Same b → RowsAre b 2 (bandTop n) (bandTop (n + 1))
+        → BandStep 4 b (bandFinished plan n b)
+    unfolding bandFinished
+    band-finished b same rows =
+        let right : BandStep 3 b (bandPassed plan n 2 b) =
+        pass-step plan heights kept (bandTop n) (bandHeight plan n) (omega arith) (omega arith) 2 b (as-long same)
+        (λ k h l. absurd (omega arith)) (λ y h k. rows .row y h (omega arith) (omega arith)) in
+        let left : BandStep 4 (bandPassed plan n 2 b) (bandFinished plan n b) =
+        pass-step plan heights kept (bandTop n) (bandHeight plan n) (omega arith) (omega arith) 3 (bandPassed plan n 2 b)
+        (as-long (right .same output same)) (λ k h l. absurd (omega arith)) (right .these) in
         record {
-          length-same = u .length-kept ∙ same .length-same;
-          rest = λ z h.
-              u .elsewhere z
-              (λ y x p q e.
-              absurd (omega (arith, place-below (plan .rows) (plan .columns) (top + y) x (omega arith) q)))
-              ∙ same .rest z h;
+          same = λ o s. left .same o (right .same o s);
+          others = λ s y out row. left .others s y out (right .others s y out row);
+          these = left .these;
         }
 
-    -- Rows outside the window stay as they are.
-    row-stays : (pass : ℕ) (b : List ℕ) → neededPixels plan ≤ length b → (t y : ℕ)
-        → ((j : ℕ) → j < height → y ≢ top + j) → RowIs b t y → RowIs (rowsPassed plan top height pass b) t y
-    row-stays pass b long t y out row x k =
-        passed pass b long .elsewhere (pixelPlace (plan .columns) y x)
-        (λ j i p q e. out j p (same-row-column (plan .columns) y x (top + j) i k q (e ∙ omega arith) .0))
-        ∙ row x k
+  -- ---- down from the top
 
-    -- A row pass takes the rows of the window one pass further.
-    row-passed : (pass : ℕ) (b : List ℕ) → neededPixels plan ≤ length b
-        → ((j : ℕ) → j < height → RowIs b (suc (suc pass)) (top + j)) → (j : ℕ) → j < height
-        → RowIs (rowsPassed plan top height (suc (suc pass)) b) (suc (suc (suc pass))) (top + j)
-    unfolding serialPasses passesOver filterLines
-    row-passed pass b long rows j h x k =
-        sym (window-word (rowsPassed plan top height (suc (suc pass)) b) top height j x)
-        ∙ passed (suc (suc pass)) b long .at j x h k
-        ∙ filterLine-reads (directionOf pass) (filtersOf plan (suc (suc pass))) (plan .columns) (λ i. 0) (λ i. 0)
-        (windowOf (mapRows plan top height) b j) (after (suc (suc pass)) (top + j)) (λ i c. refl)
-        (λ i c. window-word b top height j i ∙ rows j h i c) x k
+  -- The first n bands have been read and have had the pass down.
+  record ReadDown (n : ℕ) (b : List ℕ) : Type 0 where
+    pub same : Same b
+    pub done : RowsAre b 1 0 (bandTop n)
 
-  module _ (kept : keepsRules plan ≡ true) where
-    -- A pass over all rows takes them one pass further.
-    all-passed : (pass : ℕ) (b : List ℕ) → neededPixels plan ≤ length b
-        → ((y : ℕ) → y < plan .rows → RowIs b pass y)
-        → (y : ℕ) → y < plan .rows → RowIs (rowsPassed plan 0 (plan .rows) pass b) (suc pass) y
-    unfolding serialPasses passesOver
-    all-passed pass b long rows y h x k =
-        sym (whole-word (rowsPassed plan 0 (plan .rows) pass b) y x)
-        ∙ passed kept 0 (plan .rows) (rules plan kept .rows-low) (omega arith) pass b long .at y x h k
-        ∙ filterLines-reads (axisOf pass) (directionOf pass) (filtersOf plan pass) (plan .rows) (plan .columns)
-        (λ l i. 0) (λ l i. 0) (windowOf (mapRows plan 0 (plan .rows)) b) (after pass) (λ l i p q. refl)
-        (λ y x p q. whole-word b y x ∙ rows y p x q) y x h k
+  bands-read-down : (n : ℕ) → n ≤ blockCount (plan .rows) bandRows → ReadDown n (bandsReadDown plan heights n output)
+  unfolding bandsReadDown blockCount
+  bands-read-down zero h =
+      record {
+        same = record { length-same = refl; rest = λ z c. refl };
+        done = record { row = λ y c k e. absurd (omega arith) };
+      }
+  bands-read-down (suc n) h =
+      let n-in : bandTop n < plan .rows = omega arith in
+      let u : ReadDown n (bandsReadDown plan heights n output) = bands-read-down n (omega arith) in
+      let read = band-read n n-in _ (u .same) in
+      let same-read = read .same output (u .same) in
+      let above = rows-above n n-in read (omega arith) (u .done) in
+      let down = band-down n n-in _ same-read above (band-rows n n-in read) in
+      record {
+        same = down .same output same-read;
+        done = part 0 (bandTop (suc n)) (omega arith) (omega arith)
+            (joined (rows-above n n-in down (omega arith) above) (band-rows n n-in down));
+      }
 
-    -- After n bands their rows have had all passes, and the others the passes along columns.
-    record BandsDone (output : List ℕ) (n : ℕ) (b : List ℕ) : Type 0 where
-      pub same : SameRest output b
-      pub done : (y : ℕ) → y < plan .rows → y < n * bandRows → RowIs b 4 y
-      pub left : (y : ℕ) → y < plan .rows → n * bandRows ≤ y → RowIs b 2 y
+  -- ---- up from the bottom
 
-    bands-done : (output b : List ℕ) → neededPixels plan ≤ length output → BandsDone output 0 b → (n : ℕ)
-        → n ≤ blockCount (plan .rows) bandRows → BandsDone output n (bandsPassed plan n b)
-    unfolding bandsPassed blockCount
-    bands-done output b long start zero h = start
-    bands-done output b long start (suc n) h =
-        let top : ℕ = n * bandRows in
-        let height : ℕ = min bandRows (plan .rows - top) in
-        let u : BandsDone output n (bandsPassed plan n b) = bands-done output b long start n (omega arith) in
-        let tall : 0 < height = omega arith in
-        let inside : top + height ≤ plan .rows = omega arith in
-        let one : List ℕ = bandsPassed plan n b in
-        let two : List ℕ = rowsPassed plan top height 2 one in
-        let same : SameRest output two = pass-rest kept top height tall inside 2 output one long (u .same) in
-        let long-one : neededPixels plan ≤ length one = omega (arith, u .same .length-same) in
-        let long-two : neededPixels plan ≤ length two = omega (arith, same .length-same) in
-        let stays : (t y : ℕ) → ((j : ℕ) → j < height → y ≢ top + j) → RowIs one t y
-        → RowIs (rowsPassed plan top height 3 two) t y =
-        λ t y out row. row-stays kept top height tall inside 3 two long-two t y out
-        (row-stays kept top height tall inside 2 one long-one t y out row) in
-        let band : (j : ℕ) → j < height → RowIs (rowsPassed plan top height 3 two) 4 (top + j) =
-        row-passed kept top height tall inside 1 two long-two
-        (row-passed kept top height tall inside 0 one long-one (λ j c. u .left (top + j) (omega arith) (omega arith))) in
-        record {
-          same = pass-rest kept top height tall inside 3 output two long same;
-          done = λ y c e.
-              elim (decLt y top) [
-                | yes l ↦ stays 4 y (λ j g p. absurd (omega arith)) (u .done y c l)
-                | no l ↦ let p : top + (y - top) ≡ y = omega arith in rw p at (band (y - top) (omega arith))
-              ];
-          left = λ y c e. stays 2 y (λ j g p. absurd (omega arith)) (u .left y c (omega arith));
-        }
+  -- The bands below a band have had all passes, it has had the passes along columns, and those above it the pass down.
+  record PassedUp (band : ℕ) (b : List ℕ) : Type 0 where
+    pub same : Same b
+    pub above : RowsAre b 1 0 (bandTop band)
+    pub here : RowsAre b 2 (bandTop band) (bandTop (band + 1))
+    pub below : RowsAre b 4 (bandTop (band + 1)) (plan .rows)
 
-    steps-are-serial : (output : List ℕ) → neededPixels plan ≤ length output
-        → bandsPassed plan (blockCount (plan .rows) bandRows)
-        (rowsPassed plan 0 (plan .rows) 1
-        (rowsPassed plan 0 (plan .rows) 0 (pixelsRead (neededPixels plan) heights output)))
-        ≡ serialWords plan heights ++ drop (neededPixels plan) output
-    unfolding serialWords blockCount
-    steps-are-serial output long =
-        let h : ℕ = plan .rows in
-        let w : ℕ = plan .columns in
-        let tall : 0 < h = rules plan kept .rows-low in
-        let read : List ℕ = pixelsRead (neededPixels plan) heights output in
-        let down : List ℕ = rowsPassed plan 0 h 0 read in
-        let up : List ℕ = rowsPassed plan 0 h 1 down in
-        let same-read : SameRest output read = read-rest output in
-        let same-down : SameRest output down = pass-rest kept 0 h tall (omega arith) 0 output read long same-read in
-        let same-up : SameRest output up = pass-rest kept 0 h tall (omega arith) 1 output down long same-down in
-        let columns-done : (y : ℕ) → y < h → RowIs up 2 y =
-        all-passed 1 down (omega (arith, same-down .length-same))
-        (all-passed 0 read (omega (arith, same-read .length-same)) (read-rows output long)) in
-        let left : List ℕ = bandsPassed plan (blockCount h bandRows) up in
-        let u : BandsDone output (blockCount h bandRows) left = bands-done output up long
-        (record { same = same-up; done = λ y c e. absurd (omega arith); left = λ y c e. columns-done y c })
-        (blockCount h bandRows) (omega arith) in
-        first-words (neededPixels plan) _ output left long (u .same .length-same)
-        (λ i c.
-        let y : i / w < h = row-below h w i c in
-        ap (wordAt left) (sym (div-add-mod' i w)) ∙ u .done (i / w) y (omega arith) (i % w) (column-below h w i c))
-        (u .same .rest)
+  last-passed-up : (b : List ℕ) → Same b → RowsAre b 1 0 (plan .rows)
+      → PassedUp (lastBand plan) (bandPassed plan (lastBand plan) 1 b)
+  last-passed-up b same rows =
+      let last : ℕ = lastBand plan in
+      let last-in : bandTop last < plan .rows = omega (arith, rules plan kept .rows-low) in
+      let up = band-up last last-in b same (record { row = λ y c k e. absurd (omega arith) })
+      (record { row = λ y c k e. rows .row y (omega arith) e e }) in
+      record {
+        same = up .same output same;
+        above = rows-above last last-in up (omega arith) (record { row = λ y c k e. rows .row y c e e });
+        here = band-rows last last-in up;
+        below = record { row = λ y c k e. absurd (omega arith) };
+      }
 
-    -- The same of the buffers that the steps leave, one after another.
-    pub steps-reach : (output : List ℕ) → neededPixels plan ≤ length output → {read down up left : List ℕ}
-        → read ≡ pixelsRead (neededPixels plan) heights output → down ≡ rowsPassed plan 0 (plan .rows) 0 read
-        → up ≡ rowsPassed plan 0 (plan .rows) 1 down → left ≡ bandsPassed plan (blockCount (plan .rows) bandRows) up
-        → left ≡ serialWords plan heights ++ drop (neededPixels plan) output
-    steps-reach output long r d u l =
-        l
-        ∙ ap (bandsPassed plan (blockCount (plan .rows) bandRows))
-        (u ∙ ap (rowsPassed plan 0 (plan .rows) 1) (d ∙ ap (rowsPassed plan 0 (plan .rows) 0) r))
-        ∙ steps-are-serial output long
+  bands-passed-up : (b : List ℕ) → PassedUp (lastBand plan) b → (n : ℕ) → n ≤ lastBand plan
+      → PassedUp (lastBand plan - n) (bandsPassedUp plan n b)
+  unfolding bandsPassedUp
+  bands-passed-up b start zero h = let e : lastBand plan - 0 ≡ lastBand plan = omega arith in rw e start
+  bands-passed-up b start (suc n) h =
+      let band : ℕ = lastBand plan - suc n in
+      let e : lastBand plan - n ≡ band + 1 = omega arith in
+      let u : PassedUp (band + 1) (bandsPassedUp plan n b) = rw e at (bands-passed-up b start n (omega arith)) in
+      let band-in : bandTop band < plan .rows = omega arith in
+      let next-in : bandTop (band + 1) < plan .rows = omega arith in
+      let up = band-up band band-in _ (u .same) (u .here) (part _ _ (omega arith) (omega arith) (u .above)) in
+      let same-up = up .same output (u .same) in
+      let left = band-finished (band + 1) next-in _ same-up (rows-below band band-in up (omega arith) (u .here)) in
+      record {
+        same = left .same output same-up;
+        above =
+            rows-above (band + 1) next-in left (omega arith)
+            (rows-above band band-in up (omega arith) (part _ _ (omega arith) (omega arith) (u .above)));
+        here = rows-above (band + 1) next-in left (omega arith) (band-rows band band-in up);
+        below =
+            joined (band-rows (band + 1) next-in left)
+            (rows-below (band + 1) next-in left (omega arith) (rows-below band band-in up (omega arith) (u .below)));
+      }
+
+  steps-are-serial : bandsFinished plan (bandsReadDown plan heights (blockCount (plan .rows) bandRows) output)
+      ≡ serialWords plan heights ++ drop (neededPixels plan) output
+  unfolding serialWords blockCount bandsFinished
+  steps-are-serial =
+      let h : ℕ = plan .rows in
+      let w : ℕ = plan .columns in
+      let d = bands-read-down (blockCount h bandRows) (omega arith) in
+      let e : lastBand plan - lastBand plan ≡ 0 = omega arith in
+      let start = last-passed-up (bandsReadDown plan heights (blockCount h bandRows) output) (d .same)
+      (part 0 h (omega arith) (omega arith) (d .done)) in
+      let up : List ℕ = bandsPassedUp plan (lastBand plan)
+      (bandPassed plan (lastBand plan) 1 (bandsReadDown plan heights (blockCount h bandRows) output)) in
+      let u : PassedUp 0 up = rw e at (bands-passed-up _ start (lastBand plan) (omega arith)) in
+      let some : bandTop 0 < h = rules plan kept .rows-low in
+      let step = band-finished 0 some up (u .same) (u .here) in
+      let same = step .same output (u .same) in
+      let all = joined (band-rows 0 some step) (rows-below 0 some step (omega arith) (u .below)) in
+      first-words (neededPixels plan) _ output (bandFinished plan 0 up) long (same .length-same)
+      (λ i c.
+      let y : i / w < h = row-below h w i c in
+      ap (wordAt (bandFinished plan 0 up)) (sym (div-add-mod' i w))
+      ∙ all .row (i / w) (omega arith) y y (i % w) (column-below h w i c)
+      ∙ gains-moved plan heights (i / w) (i % w))
+      (same .rest)
+
+  -- The same of the buffers that the steps leave, one after another.
+  pub steps-reach : {down left : List ℕ} → down ≡ bandsReadDown plan heights (blockCount (plan .rows) bandRows) output
+      → left ≡ bandsFinished plan down → left ≡ serialWords plan heights ++ drop (neededPixels plan) output
+  steps-reach d l = l ∙ ap (bandsFinished plan) d ∙ steps-are-serial

@@ -1,4 +1,5 @@
-// The four passes over a whole map, one after another, in the lent output.
+// The four passes over a whole map, in the lent output and in two sweeps through it: down from the top, and up from the
+// bottom with right and left behind it.
 use filter::Window;
 use plan::Plan;
 use refusal::Outcome;
@@ -10,11 +11,12 @@ ghost use Prim.Native.Nat.{_+_, _<_, _≤_};
 ghost use lib.ListN.{length, drop};
 ghost use Rattle.plan.specs.Rules.{keepsRules};
 ghost use Rattle.plan.specs.Sizes.{neededPixels, blockCount};
+ghost use Rattle.passes.specs.Passes.{axisOf, directionOf};
 ghost use Rattle.serial.specs.Serial.{serialOutcome, serialWords, serialOutput};
-ghost use Rattle.serial.specs.Stages.{pixelsRead, rowsPassed, bandRows, bandsPassed};
+ghost use Rattle.serial.specs.Stages.{pixelsRead, rowsBefore, rowsPassed, bandRows, bandTop, bandPassed, bandsReadDown, bandsFinished};
 
-// Both row passes run over so many rows before the next: enough that their chains of multiplies overlap, and few enough
-// that they stay in the cache. `bandRows` of specs/Stages.antt is the same number.
+// The rows of a band: enough that the chains of multiplies of their row passes overlap, and few enough that a band stays
+// in the cache from one step to the next. `bandRows` of specs/Stages.antt is the same number.
 const BAND: usize = 8;
 
 // The passes down, up, right and left over a map: the first rows × columns words of the output are their result.
@@ -41,30 +43,60 @@ fn filter_map(plan: Plan, map: &[i32], output: &mut [u64])
     requires { ⌜ (keepsRules plan ≡ true) × (neededPixels plan ≤ length (now map)) × (neededPixels plan ≤ length (now output)) ⌝ }
     ensures { λ _. ⌜ now (output .exit) ≡ serialWords plan (now (map .entry)) ++ drop (neededPixels plan) (now (output .entry)) ⌝ }
 {
-    read_map(map, output, plan.rows * plan.columns);
-    pass_over_rows(plan, output, 0, plan.rows, 0);
-    pass_over_rows(plan, output, 0, plan.rows, 1);
-    pass_over_bands(plan, output);
+    read_down(plan, map, output);
+    finish_up(plan, output);
 }
 
-// The first `count` heights as words.
-fn read_map(map: &[i32], output: &mut [u64], count: usize)
-    requires { ⌜ (count ≤ length (now map)) × (count ≤ length (now output)) ⌝ }
-    ensures { λ _. ⌜ now (output .exit) ≡ pixelsRead count (now (map .entry)) (now (output .entry)) ⌝ }
+// The heights read and the pass down over them, band by band from the top.
+fn read_down(plan: Plan, map: &[i32], output: &mut [u64])
+    requires { ⌜ (keepsRules plan ≡ true) × (neededPixels plan ≤ length (now map)) × (neededPixels plan ≤ length (now output)) ⌝ }
+    ensures { λ _. ⌜ now (output .exit) ≡ bandsReadDown plan (now (map .entry)) (blockCount (plan .rows) bandRows) (now (output .entry)) ⌝ }
+{
+    let bands = (plan.rows + BAND - 1) / BAND;
+    let mut band = 0;
+    while band < bands {
+        let top = band * BAND;
+        let height = filter::lesser(BAND, plan.rows - top);
+        read_map(map, output, top * plan.columns, height * plan.columns);
+        pass_over_rows(plan, output, top, height, 0);
+        band += 1;
+    }
+}
+
+// So many heights from place `from` on as words.
+fn read_map(map: &[i32], output: &mut [u64], from: usize, count: usize)
+    requires { ⌜ (from + count ≤ length (now map)) × (from + count ≤ length (now output)) ⌝ }
+    ensures { λ _. ⌜ now (output .exit) ≡ pixelsRead from count (now (map .entry)) (now (output .entry)) ⌝ }
 {
     let mut i = 0;
     while i < count {
-        output[i] = filter::read_pixel(map[i]);
+        let place = from + i;
+        output[place] = filter::read_pixel(map[place]);
         i += 1;
     }
 }
 
-// A pass of the plan over some rows of the map: for the passes down and up, over all of them.
+// How many rows of the map a pass along columns does before it comes to those from `top` on; a pass along rows begins
+// with each row.
+fn rows_before(rows: usize, top: usize, height: usize, pass: usize) -> usize
+    requires { ⌜ top + height ≤ rows ⌝ }
+    ensures { λ r. ⌜ r ≡ rowsBefore (axisOf pass) (directionOf pass) rows top height ⌝ }
+{
+    if pass == 0 {
+        return top;
+    }
+    if pass == 1 {
+        return rows - top - height;
+    }
+    0
+}
+
+// A pass of the plan over some rows of the map, with the rows that it has done before them for history.
 fn pass_over_rows(plan: Plan, output: &mut [u64], top: usize, height: usize, pass: usize)
     requires { ⌜ (keepsRules plan ≡ true) × (pass < 4) × (0 < height) × (top + height ≤ plan .rows) × (neededPixels plan ≤ length (now output)) ⌝ }
     ensures { λ _. ⌜ now (output .exit) ≡ rowsPassed plan top height pass (now (output .entry)) ⌝ }
 {
-    let filter = filter::filter_words(plan.passes[pass]);
+    let filter = filter::gains_first(plan, pass);
     let window = Window {
         stride: plan.columns,
         top: top,
@@ -72,21 +104,36 @@ fn pass_over_rows(plan: Plan, output: &mut [u64], top: usize, height: usize, pas
         height: height,
         width: plan.columns,
     };
-    filter::run_pass(output, window, pass, 0, filter);
+    let history = rows_before(plan.rows, top, height, pass);
+    filter::run_pass(output, window, pass, history, filter);
 }
 
-// The passes right and left, band by band.
-fn pass_over_bands(plan: Plan, output: &mut [u64])
-    requires { ⌜ (keepsRules plan ≡ true) × (neededPixels plan ≤ length (now output)) ⌝ }
-    ensures { λ _. ⌜ now (output .exit) ≡ bandsPassed plan (blockCount (plan .rows) bandRows) (now (output .entry)) ⌝ }
+// A pass over a band: the last band is what is left of the map.
+fn pass_over_band(plan: Plan, output: &mut [u64], band: usize, pass: usize)
+    requires { ⌜ (keepsRules plan ≡ true) × (pass < 4) × (bandTop band < plan .rows) × (neededPixels plan ≤ length (now output)) ⌝ }
+    ensures { λ _. ⌜ now (output .exit) ≡ bandPassed plan band pass (now (output .entry)) ⌝ }
 {
-    let bands = (plan.rows + BAND - 1) / BAND;
-    let mut band = 0;
-    while band < bands {
-        let top = band * BAND;
-        let height = filter::lesser(BAND, plan.rows - top);
-        pass_over_rows(plan, output, top, height, 2);
-        pass_over_rows(plan, output, top, height, 3);
-        band += 1;
+    let top = band * BAND;
+    let height = filter::lesser(BAND, plan.rows - top);
+    pass_over_rows(plan, output, top, height, pass);
+}
+
+// The pass up, band by band from the bottom, and both row passes one band behind it: over a band, up reads the band below
+// as it left it and nothing further down, since a band has no fewer rows than a filter has taps.
+fn finish_up(plan: Plan, output: &mut [u64])
+    requires { ⌜ (keepsRules plan ≡ true) × (neededPixels plan ≤ length (now output)) ⌝ }
+    ensures { λ _. ⌜ now (output .exit) ≡ bandsFinished plan (now (output .entry)) ⌝ }
+{
+    let last = (plan.rows - 1) / BAND;
+    pass_over_band(plan, output, last, 1);
+    let mut done = 0;
+    while done < last {
+        done += 1;
+        let band = last - done;
+        pass_over_band(plan, output, band, 1);
+        pass_over_band(plan, output, band + 1, 2);
+        pass_over_band(plan, output, band + 1, 3);
     }
+    pass_over_band(plan, output, 0, 2);
+    pass_over_band(plan, output, 0, 3);
 }

@@ -1,6 +1,6 @@
 -- `read_map` has read the heights passed so far.
 use mathlib.Core.Path.{_≡_, refl, ap, _∙_}
-use Prim.Native.Nat.{_-_, _≤_}
+use Prim.Native.Nat.{_+_, _-_, _≤_}
 use native.Mathlib.Omega.{arith}
 use borrow.Author.Needs.{needs, sfits-of}
 use lib.IntN.{pos}
@@ -14,14 +14,17 @@ use Rattle.serial.proofs.read_map.Statement.{statement}
 use Rattle.serial.proofs.read_map.Tie as tie
 
 abbrev Inv-loop : tie.InvT-loop
-Inv-loop map output₀ count i₀ output i =
-    (i ≤ count) × (length output ≡ length output₀) × (output ≡ pixelsRead i map output₀)
+Inv-loop map output₀ from count i₀ output i =
+    (i ≤ count) × (length output ≡ length output₀) × (output ≡ pixelsRead from i map output₀)
 
 abbrev μ-loop : tie.MeasureT-loop
-μ-loop map output₀ count i₀ output i = count - i
+μ-loop map output₀ from count i₀ output i = count - i
 
 loop-holds : tie.Need-loop-holds Inv-loop μ-loop
-loop-holds c = (omega arith, refl, read-none _ _)
+loop-holds c = (omega arith, refl, read-none _ _ _)
+
+add-place : tie.Need-add-place Inv-loop μ-loop
+add-place c = search needs
 
 mul-read-pixel : tie.Need-mul-read-pixel Inv-loop μ-loop
 mul-read-pixel c = search needs
@@ -47,10 +50,11 @@ loop-less c = search needs
 loop-again : tie.Need-loop-again Inv-loop μ-loop
 loop-again c =
     let l = c .before .before .before in
-    let height = getD (l .before .before .args .map .now) (l .loop .i) (pos 0) in (
+    let a = l .before .before .args in
+    let height = getD (a .map .now) (a .from + l .loop .i) (pos 0) in (
       omega arith,
       length-set (l .loop .output) _ _ ∙ l .loop .inv .1,
-      read-more (l .loop .i) _ _ (l .loop .output) _ (l .loop .inv .2)
+      read-more (a .from) (l .loop .i) _ _ (l .loop .output) _ (l .loop .inv .2)
           (c .read-pixel .ensures ∙ ap pixel (toZ-ofZ w32 height (sfits-of (c .before .read-pixel-arg .given)))),
     )
 
@@ -69,6 +73,7 @@ read-map-spec =
     Inv-loop
     μ-loop
     loop-holds
+    add-place
     mul-read-pixel
     shared-slice-copy-out-read-pixel
     read-pixel-requires
