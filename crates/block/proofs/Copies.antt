@@ -3,15 +3,16 @@
 use mathlib.Core.Path.{_≡_, refl, sym, ap, ap₂, _∙_}
 use mathlib.Core.List.{List}
 use mathlib.Core.Logic.{_≢_}
-use Prim.Native.Nat.{ℕ, zero, suc, _+_, _*_, _/_, _%_, _<_}
+use Prim.Native.Nat.{ℕ, zero, suc, _+_, _*_, _/_, _%_, _^_, _<_}
 use native.Mathlib.Nat.{add-zero, add-suc, div-add-mod'}
 use native.Mathlib.Omega.{arith}
 use lib.ListN.{length, set}
+use Rattle.word.proofs.Ring.{one-mul, reduced-small}
 use Rattle.filter.specs.Buffer.{wordAt}
 use Rattle.filter.specs.Written.{written}
 use Rattle.filter.proofs.Written.{written-none, written-next, written-length, written-other, written-at}
 use Rattle.filter.proofs.RowMajor.{row-of, column-of, place-below, row-below, column-below}
-use Rattle.block.specs.Copies.{rowWritten, rectangleWritten}
+use Rattle.block.specs.Copies.{wordsFrom, scaledFrom, rowWritten, rectangleWritten}
 
 -- ---- words at places
 
@@ -45,6 +46,13 @@ pub row-more : (start : ℕ) (words : ℕ → ℕ) (n : ℕ) (a b : List ℕ) (v
     → set b (start + n) v ≡ rowWritten start words (n + 1) a
 unfolding rowWritten
 row-more start words n a b v e f = written-more (λ i. start + i) words n a b v e f
+
+-- Words times 1.
+pub row-unscaled : (start : ℕ) (from : List ℕ) (from-start n : ℕ) (a : List ℕ) → ((i : ℕ) → wordAt from i < 2 ^ 64)
+    → rowWritten start (wordsFrom from from-start) n a ≡ rowWritten start (scaledFrom 1 from from-start) n a
+unfolding rowWritten
+row-unscaled start from from-start n a small =
+    written-same _ _ _ _ n a (λ i h. refl) (λ i h. sym (one-mul _ ∙ reduced-small _ (small (from-start + i))))
 
 -- ---- a rectangle
 

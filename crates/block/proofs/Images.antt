@@ -1,17 +1,23 @@
 -- The block's pixels in the work array, and the work array's block in the output. Assumes nothing.
-use mathlib.Core.Path.{_≡_, ap, _∙_}
+use mathlib.Core.Path.{_≡_, sym, ap, _∙_}
 use mathlib.Core.Bool.{true}
 use mathlib.Core.List.{List}
 use Prim.Native.Nat.{ℕ, _+_, _*_, _/_, _%_, _<_}
 use native.Mathlib.Omega.{arith}
 use lib.IntN.{ℤ, pos}
 use lib.ListN.{getD}
+use Rattle.word.specs.Word.{_⊗_}
+use Rattle.word.proofs.Ring.{one-mul, reduced-small}
 use Rattle.plan.specs.declared.Plan.{Plan}
 use Rattle.plan.specs.Rules.{keepsRules}
 use Rattle.plan.specs.Sizes.{neededMarks}
+use Rattle.passes.specs.Filter.{Filter}
 use Rattle.passes.specs.Passes.{passesOver}
+use Rattle.passes.proofs.Passes.{passesOver-small}
+use Rattle.passes.proofs.Gains.{gains-first}
 use Rattle.passes.specs.Pixel.{pixel}
 use Rattle.filter.specs.Buffer.{wordAt}
+use Rattle.filter.specs.Filters.{filtersOf}
 use Rattle.blocks.specs.Geometry.{firstRow, firstColumn, rowsOf, columnsOf, blockPixelPlace, partOf}
 use Rattle.blocks.specs.Strips.{pastEdges}
 use Rattle.passes.specs.Pixel.{heightMap}
@@ -19,11 +25,11 @@ use Rattle.blocks.specs.Writes.{mapOf, finishWord, blockWrittenTo, finished}
 use Rattle.filter.proofs.RowMajor.{row-below, column-below}
 use Rattle.strips.specs.declared.BlockShape.{BlockShape}
 use Rattle.strips.specs.Shapes.{shapeOf}
-use Rattle.block.specs.Copies.{gridPlace, gridWords, gridHeights, gridWritten}
+use Rattle.block.specs.Copies.{gridPlace, gridScaled, gridHeights, gridWritten}
 use Rattle.block.specs.Work.{workStride, workCorner, BlockRead}
 use Rattle.block.proofs.Copies.{rectangle-same}
 use Rattle.block.proofs.Cells.{cell-is}
-use Rattle.block.proofs.Passes.{Holds, Alone, MarginsClear, clear-start}
+use Rattle.block.proofs.Passes.{collectFilters, finishFilters, finishEdges, Holds, Alone, MarginsClear, clear-start}
 
 module _ (plan : Plan) (k : ℕ) (kept : keepsRules plan ≡ true) (here : k < neededMarks plan) where
   abbrev h : ℕ
@@ -49,9 +55,9 @@ module _ (plan : Plan) (k : ℕ) (kept : keepsRules plan ≡ true) (here : k < n
     block-read = rw shaped at reads
 
     -- The work array holds the block before the passes,
-    pub holds-start : (H : ℕ → ℕ → ℕ → ℕ) → Holds plan k H (partOf plan k (mapOf plan heights)) 0 work
+    pub holds-start : (filters : ℕ → Filter) (H : ℕ → ℕ → ℕ → ℕ) → Holds plan k filters H (partOf plan k (mapOf plan heights)) 0 work
     unfolding passesOver shapeOf
-    holds-start H =
+    holds-start filters H =
         record { sized = block-read .clear .sized; inside = λ y x p q. block-read .inside y x p q ∙ pixel-is y x }
 
     -- zeros in the margins,
@@ -60,26 +66,30 @@ module _ (plan : Plan) (k : ℕ) (kept : keepsRules plan ≡ true) (here : k < n
 
     -- and zeros around it.
     pub alone-start : Alone plan k (partOf plan k (mapOf plan heights)) 0 work
-    alone-start = record { block = holds-start (λ u l i. 0); clear = block-read .clear }
+    alone-start = record { block = holds-start (collectFilters plan) (λ u l i. 0); clear = block-read .clear }
 
   -- ---- writing
 
   pub written-finished : (X : ℕ → ℕ → ℕ) (strips work output : List ℕ)
-      → Holds plan k (pastEdges plan strips k) (partOf plan k X) 4 work
-      → gridWritten corner (plan .columns) w (gridWords work workCorner workStride) h output
+      → Holds plan k (finishFilters plan) (finishEdges plan strips k) (partOf plan k X) 4 work
+      → gridWritten corner (plan .columns) w (gridScaled 1 work workCorner workStride) h output
       ≡ finished plan X strips k output
   unfolding finished blockWrittenTo blockPixelPlace finishWord
   written-finished X strips work output holds =
-      rectangle-same (gridPlace corner (plan .columns)) (gridWords work workCorner workStride) w h _ _ output
+      rectangle-same (gridPlace corner (plan .columns)) (gridScaled 1 work workCorner workStride) w h _ _ output
       (λ q c. omega arith)
-      (λ q c. ap (wordAt work) (cell-is (q / w) (q % w)) ∙ holds .inside (q / w) (q % w) (row-below h w q c) (column-below h w q c))
+      (λ q c.
+      ap (λ z. 1 ⊗ wordAt work z) (cell-is (q / w) (q % w))
+      ∙ ap (1 ⊗_) (holds .inside (q / w) (q % w) (row-below h w q c) (column-below h w q c) ∙ sym (gains-first (filtersOf plan) h w (pastEdges plan strips k) (partOf plan k X) 3 (q / w) (q % w)))
+      ∙ one-mul _
+      ∙ reduced-small _ (passesOver-small (filtersOf plan) h w (pastEdges plan strips k) (partOf plan k X) 3 (q / w) (q % w)))
 
   -- The same with the code's values.
   pub finish-end : (X : ℕ → ℕ → ℕ) (strips work output after : List ℕ) (shape : BlockShape) → shape ≡ shapeOf plan k
-      → Holds plan k (pastEdges plan strips k) (partOf plan k X) 4 work
+      → Holds plan k (finishFilters plan) (finishEdges plan strips k) (partOf plan k X) 4 work
       → after
       ≡ gridWritten (shape .«first_row» * plan .columns + shape .«first_column») (plan .columns) (shape .columns)
-      (gridWords work workCorner workStride) (shape .rows) output
+      (gridScaled 1 work workCorner workStride) (shape .rows) output
       → after ≡ finished plan X strips k output
   unfolding shapeOf
   finish-end X strips work output after shape shaped holds copied =
@@ -87,6 +97,6 @@ module _ (plan : Plan) (k : ℕ) (kept : keepsRules plan ≡ true) (here : k < n
       ∙ ap
       (λ z.
       gridWritten (z .«first_row» * plan .columns + z .«first_column») (plan .columns) (z .columns)
-      (gridWords work workCorner workStride) (z .rows) output)
+      (gridScaled 1 work workCorner workStride) (z .rows) output)
       shaped
       ∙ written-finished X strips work output holds

@@ -1,4 +1,4 @@
--- The rectangle of the neighbour's strip as the code copies it into a margin: rows of the array for a pass down or up,
+-- The rectangle of the neighbour's strip, times a gain, as the code copies it into a margin: rows of the array for a pass down or up,
 -- columns for one to the right or left. Assumes nothing.
 use mathlib.Core.Path.{_≡_}
 use mathlib.Core.Bool.{true}
@@ -17,7 +17,7 @@ use Rattle.strips.specs.declared.Strip.{Strip}
 use Rattle.strips.specs.Shapes.{shapeOf}
 use Rattle.strips.specs.Reading.{stripBefore}
 use Rattle.strips.proofs.Passes.{axis-columns, axis-rows}
-use Rattle.block.specs.Copies.{gridWords, gridWritten, GridFits}
+use Rattle.block.specs.Copies.{gridScaled, gridWritten, GridFits}
 use Rattle.block.specs.Work.{workStride, workWords, workPlace, ShapeFits, marginStart, MarginClear, MarginLoaded}
 use Rattle.block.proofs.Work.{shape-fits, lines-small}
 use Rattle.block.proofs.Neighbours.{StripLies, before-lies}
@@ -92,28 +92,28 @@ module _ (plan : Plan) (k pass : ℕ) (kept : keepsRules plan ≡ true) (here : 
 
   -- ---- what is copied
 
-  module _ (strips before after : List ℕ) (sized : length before ≡ workWords) (clear : MarginClear plan shape pass before)
-      (start : ℕ) where
+  module _ (gain : ℕ) (strips before after : List ℕ) (sized : length before ≡ workWords)
+      (clear : MarginClear plan shape pass before) (start : ℕ) where
     on-axis : (a : Axis) → axisOf pass ≡ a
         → after
         ≡ gridWritten (workPlace a 0 (marginStart d order (along a (shape .rows) (shape .columns)) + strip .first)) workStride
-        (across a places (strip .lines)) (gridWords strips first-word (along a (strip .«place_step») (strip .«line_step»)))
+        (across a places (strip .lines)) (gridScaled gain strips first-word (along a (strip .«place_step») (strip .«line_step»)))
         (along a places (strip .lines)) before
-        → MarginLoaded plan shape pass (stripBefore plan k pass) strips before after
+        → MarginLoaded plan shape pass gain (stripBefore plan k pass) strips before after
     on-axis a e copied =
         rw (← stripped)
-        (margin-loaded plan shape shape-taken pass limited n strip strips before after strip-lies sized (rw e copied) clear)
+        (margin-loaded plan shape shape-taken pass limited gain n strip strips before after strip-lies sized (rw e copied) clear)
 
     pub rows-loaded : pass < 2 → start ≡ marginStart d order (shape .rows)
         → after
         ≡ gridWritten ((start + strip .first) * workStride + orderLimit) workStride (strip .lines)
-        (gridWords strips first-word (strip .«place_step»)) places before
-        → MarginLoaded plan shape pass (stripBefore plan k pass) strips before after
+        (gridScaled gain strips first-word (strip .«place_step»)) places before
+        → MarginLoaded plan shape pass gain (stripBefore plan k pass) strips before after
     rows-loaded h starts copied = on-axis columns (axis-columns pass h) (rw starts at copied)
 
     pub columns-loaded : 2 ≤ pass → start ≡ marginStart d order (shape .columns)
         → after
         ≡ gridWritten (orderLimit * workStride + (start + strip .first)) workStride places
-        (gridWords strips first-word (strip .«line_step»)) (strip .lines) before
-        → MarginLoaded plan shape pass (stripBefore plan k pass) strips before after
+        (gridScaled gain strips first-word (strip .«line_step»)) (strip .lines) before
+        → MarginLoaded plan shape pass gain (stripBefore plan k pass) strips before after
     columns-loaded h starts copied = on-axis rows (axis-rows pass h) (rw starts at copied)

@@ -9,6 +9,8 @@ use native.Mathlib.Omega.{arith}
 use lib.Dec.{ltb, leb}
 use lib.ListN.{length}
 use borrow.Author.Tests.{ltb-true, leb-true, lt-ltb, le-leb}
+use Rattle.word.specs.Word.{_⊗_}
+use Rattle.word.proofs.Ring.{mul-zero}
 use Rattle.plan.specs.declared.Plan.{Plan}
 use Rattle.plan.specs.Rules.{orderLimit}
 use Rattle.plan.proofs.Tests.{and-left, and-right}
@@ -21,7 +23,7 @@ use Rattle.strips.specs.declared.BlockShape.{BlockShape}
 use Rattle.strips.specs.declared.Strip.{Strip}
 use Rattle.strips.specs.Reading.{addressIn, stripRead}
 use Rattle.strips.proofs.Passes.{axis-columns}
-use Rattle.block.specs.Copies.{gridPlace, gridWords, gridWritten}
+use Rattle.block.specs.Copies.{gridPlace, gridScaled, gridWritten}
 use Rattle.block.specs.Work.{
   workStride,
   workWords,
@@ -190,7 +192,7 @@ module _ (plan : Plan) (shape : BlockShape) (fits : ShapeFits shape) (pass : ℕ
 
   -- ---- the strip's rectangle copied
 
-  module _ (n : ℕ) (strip : Strip) (strips before after : List ℕ) (lies : StripLies a n order lines strip)
+  module _ (gain n : ℕ) (strip : Strip) (strips before after : List ℕ) (lies : StripLies a n order lines strip)
       (sized : length before ≡ workWords) where
     abbrev places : ℕ
     places = strip .past - strip .first
@@ -206,7 +208,8 @@ module _ (plan : Plan) (shape : BlockShape) (fits : ShapeFits shape) (pass : ℕ
 
     abbrev words : ℕ → ℕ → ℕ
     words =
-        gridWords strips (strip .start + strip .first * strip .«place_step») (along a (strip .«place_step») (strip .«line_step»))
+        gridScaled gain strips (strip .start + strip .first * strip .«place_step»)
+        (along a (strip .«place_step») (strip .«line_step»))
 
     -- A place of the rectangle is one of the margin.
     cell-is : (y x : ℕ) → gridPlace to workStride y x ≡ place (across a y x) (strip .first + along a y x)
@@ -247,7 +250,7 @@ module _ (plan : Plan) (shape : BlockShape) (fits : ShapeFits shape) (pass : ℕ
       inside l i = ltb l (strip .lines) && (leb (strip .first) i && ltb i (strip .past))
 
       -- A word of the strip,
-      word-copied : (l i : ℕ) → inside l i ≡ true → wordAt after (place l i) ≡ wordAt strips (addressIn strip l i)
+      word-copied : (l i : ℕ) → inside l i ≡ true → wordAt after (place l i) ≡ gain ⊗ wordAt strips (addressIn strip l i)
       word-copied l i e =
           let places-test = leb (strip .first) i && ltb i (strip .past) in
           let line = ltb-true l (strip .lines) (and-left _ places-test e) in
@@ -265,7 +268,7 @@ module _ (plan : Plan) (shape : BlockShape) (fits : ShapeFits shape) (pass : ℕ
           ap₂ wordAt copied (sym (cell-is y x ∙ ap₂ place (at .0) (at .1)))
           ∙ rectangle-at (gridPlace to workStride) words w h before cells-apart
           (λ v u r s. rw sized (cells-fit v u r s)) y x p q
-          ∙ ap (wordAt strips) (lies .addressed y x (cell-line y x p q) ∙ ap₂ (addressIn strip) (at .0) (at .1))
+          ∙ ap (λ z. gain ⊗ wordAt strips z) (lies .addressed y x (cell-line y x p q) ∙ ap₂ (addressIn strip) (at .0) (at .1))
 
       -- and a place that has none.
       nothing-copied : (l i : ℕ) → l < lines → i < order → inside l i ≡ false → wordAt after (place l i) ≡ 0
@@ -288,7 +291,7 @@ module _ (plan : Plan) (shape : BlockShape) (fits : ShapeFits shape) (pass : ℕ
           )))
           ∙ clear .at l i b c
 
-      pub margin-loaded : MarginLoaded plan shape pass strip strips before after
+      pub margin-loaded : MarginLoaded plan shape pass gain strip strips before after
       unfolding stripRead
       margin-loaded =
           record {
@@ -302,6 +305,6 @@ module _ (plan : Plan) (shape : BlockShape) (fits : ShapeFits shape) (pass : ℕ
           }
         where
           by : (l i : ℕ) → l < lines → i < order → (t : Bool) → inside l i ≡ t
-              → wordAt after (place l i) ≡ cond t (wordAt strips (addressIn strip l i)) 0
+              → wordAt after (place l i) ≡ gain ⊗ cond t (wordAt strips (addressIn strip l i)) 0
           by l i b c true e = word-copied l i e
-          by l i b c false e = nothing-copied l i b c e
+          by l i b c false e = nothing-copied l i b c e ∙ sym (mul-zero gain)

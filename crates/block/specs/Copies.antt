@@ -3,6 +3,7 @@ use mathlib.Core.List.{List}
 use Prim.Native.Nat.{ℕ, _+_, _*_, _/_, _%_, _<_, _≤_}
 use lib.IntN.{ℤ, pos}
 use lib.ListN.{getD}
+use Rattle.word.specs.Word.{_⊗_}
 use Rattle.passes.specs.Pixel.{pixel}
 use Rattle.filter.specs.Buffer.{wordAt}
 use Rattle.filter.specs.Written.{written}
@@ -12,6 +13,10 @@ use Rattle.filter.specs.Written.{written}
 -- The words of a list from a place on.
 abbrev pub wordsFrom : List ℕ → ℕ → ℕ → ℕ
 wordsFrom list start i = wordAt list (start + i)
+
+-- Those words times a gain.
+abbrev pub scaledFrom : ℕ → List ℕ → ℕ → ℕ → ℕ
+scaledFrom gain list start i = gain ⊗ wordAt list (start + i)
 
 -- The pixels of a list of heights from a place on.
 abbrev pub heightsFrom : List ℤ → ℕ → ℕ → ℕ
@@ -31,9 +36,9 @@ rowWritten start words count list = written (λ i. start + i) words count list
 abbrev pub gridPlace : (start stride : ℕ) → ℕ → ℕ → ℕ
 gridPlace start stride y x = start + y * stride + x
 
--- The words of a rectangle of a list.
-abbrev pub gridWords : List ℕ → (start stride : ℕ) → ℕ → ℕ → ℕ
-gridWords list start stride y x = wordAt list (gridPlace start stride y x)
+-- The words of a rectangle of a list, times a gain.
+abbrev pub gridScaled : ℕ → List ℕ → (start stride : ℕ) → ℕ → ℕ → ℕ
+gridScaled gain list start stride y x = gain ⊗ wordAt list (gridPlace start stride y x)
 
 -- The pixels of a rectangle of a list of heights.
 abbrev pub gridHeights : List ℤ → (start stride : ℕ) → ℕ → ℕ → ℕ

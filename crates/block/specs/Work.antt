@@ -6,8 +6,10 @@ use mathlib.Core.Logic.{_≢_}
 use mathlib.Core.Path.{_≡_}
 use Prim.Native.Nat.{ℕ, _+_, _-_, _*_, _<_, _≤_}
 use lib.ListN.{length}
+use Rattle.word.specs.Word.{_⊗_}
 use Rattle.plan.specs.declared.Plan.{Plan}
 use Rattle.plan.specs.Rules.{orderLimit}
+use Rattle.passes.specs.Filter.{Filter}
 use Rattle.passes.specs.Passes.{
   Axis,
   Direction,
@@ -21,7 +23,6 @@ use Rattle.passes.specs.Passes.{
 }
 use Rattle.filter.specs.declared.Window.{Window}
 use Rattle.filter.specs.Buffer.{wordAt}
-use Rattle.filter.specs.Filters.{filtersOf}
 use Rattle.filter.specs.Windows.{pixelPlace, windowPass}
 use Rattle.blocks.specs.Geometry.{rowsOf, columnsOf, stripNeeded}
 use Rattle.blocks.specs.Strips.{orderOf}
@@ -88,11 +89,11 @@ pub record MarginClear (plan : Plan) (shape : BlockShape) (pass : ℕ) (work : L
   pub at : (l i : ℕ) → l < across (axisOf pass) (shape .rows) (shape .columns) → i < orderOf plan pass
       → wordAt work (marginPlace plan shape pass l i) ≡ 0
 
--- The array after a strip has gone into the margin of a pass.
-pub record MarginLoaded (plan : Plan) (shape : BlockShape) (pass : ℕ) (strip : Strip) (strips before after : List ℕ) : Type 0 where
+-- The array after a strip, times a gain, has gone into the margin of a pass.
+pub record MarginLoaded (plan : Plan) (shape : BlockShape) (pass gain : ℕ) (strip : Strip) (strips before after : List ℕ) : Type 0 where
   pub length-kept : length after ≡ length before
   pub at : (l i : ℕ) → l < across (axisOf pass) (shape .rows) (shape .columns) → i < orderOf plan pass
-      → wordAt after (marginPlace plan shape pass l i) ≡ stripRead strip strips l i
+      → wordAt after (marginPlace plan shape pass l i) ≡ gain ⊗ stripRead strip strips l i
   pub elsewhere : (z : ℕ)
       → ((l i : ℕ) → l < across (axisOf pass) (shape .rows) (shape .columns) → i < orderOf plan pass
       → z ≢ marginPlace plan shape pass l i)
@@ -100,10 +101,9 @@ pub record MarginLoaded (plan : Plan) (shape : BlockShape) (pass : ℕ) (strip :
 
 -- ---- passes
 
--- The array after a pass over the block.
-unfoldable pub blockPass : Plan → BlockShape → ℕ → List ℕ → List ℕ
-blockPass plan shape pass work =
-    windowPass pass (workWindow (shape .rows) (shape .columns)) (orderOf plan pass) (filtersOf plan pass) work
+-- The array after a pass of a filter over the block.
+unfoldable pub blockPass : BlockShape → ℕ → Filter → List ℕ → List ℕ
+blockPass shape pass f work = windowPass pass (workWindow (shape .rows) (shape .columns)) (f .order) f work
 
 -- ---- strips
 
@@ -112,11 +112,12 @@ abbrev pub edgeStart : Direction → (order n : ℕ) → ℕ
 edgeStart forward order n = (orderLimit + n) - order
 edgeStart backward order n = orderLimit
 
--- Block k's strip of a pass as the array has it, 0 where no neighbour needs it.
-unfoldable pub workEdge : Plan → ℕ → ℕ → List ℕ → ℕ → ℕ → ℕ
-workEdge plan k pass work line place =
+-- Block k's strip of a pass as the array has it, times a gain, 0 where no neighbour needs it.
+unfoldable pub workEdge : Plan → (k pass gain : ℕ) → List ℕ → ℕ → ℕ → ℕ
+workEdge plan k pass gain work line place =
     cond (stripNeeded plan k pass)
-    (wordAt work
+    (gain
+    ⊗ wordAt work
     (workPlace (axisOf pass) line
     (edgeStart (directionOf pass) (orderOf plan pass) (along (axisOf pass) (rowsOf plan k) (columnsOf plan k)) + place)))
     0

@@ -1,5 +1,6 @@
 // Collect and finish: the passes over one block, in a work array with a margin of words around the block.
 // An inner crate: what its functions require, their callers in this repository show.
+use filter::FilterWords;
 use filter::Window;
 use plan::Plan;
 use strips::BlockShape;
@@ -10,11 +11,12 @@ ghost use lib.ListN.{length};
 ghost use Rattle.plan.specs.Rules.{orderLimit, keepsRules};
 ghost use Rattle.plan.specs.Sizes.{neededMarks, neededStrips, neededPixels};
 ghost use Rattle.passes.specs.Passes.{directionOf};
+ghost use Rattle.filter.specs.Filters.{filterWith};
 ghost use Rattle.blocks.specs.Strips.{stripWritten};
 ghost use Rattle.blocks.specs.Writes.{mapOf, collected, finished};
 ghost use Rattle.strips.specs.Shapes.{shapeOf};
 ghost use Rattle.strips.specs.Reading.{stripBefore};
-ghost use Rattle.block.specs.Copies.{wordsFrom, heightsFrom, noWords, rowWritten, gridWords, gridHeights, gridWritten, GridFits};
+ghost use Rattle.block.specs.Copies.{wordsFrom, scaledFrom, heightsFrom, noWords, rowWritten, gridScaled, gridHeights, gridWritten, GridFits};
 ghost use Rattle.block.specs.Work.{workStride, workWords, workCorner, ShapeFits, ClearOutside, BlockRead, marginStart, MarginClear, MarginLoaded, blockPass, edgeStart, workEdge};
 
 // The margin on each side of the block, and the rows of the work array.
@@ -27,7 +29,8 @@ const LINE_WORDS: usize = 8;
 
 const LINE_HEIGHTS: usize = 16;
 
-// Block k's four strips: the passes over its pixels, zeros around it.
+// Block k's four strips: the passes over its pixels, zeros around it. The passes run with gain 1; a strip takes the gains
+// of its pass and of those before it.
 pub fn collect(plan: Plan, k: usize, map: &[i32], strips: &mut [u64])
     requires { ⌜ (keepsRules plan ≡ true) × (k < neededMarks plan) × (neededPixels plan ≤ length (now map)) × (neededStrips plan ≤ length (now strips)) ⌝ }
     ensures { λ _. ⌜ now (strips .exit) ≡ collected plan (mapOf plan (now (map .entry))) k (now (strips .entry)) ⌝ }
@@ -38,13 +41,17 @@ pub fn collect(plan: Plan, k: usize, map: &[i32], strips: &mut [u64])
     load_block(map, corner, plan.columns, shape, &mut work);
     let mut pass = 0;
     while pass < 4 {
-        run_block_pass(plan, shape, pass, &mut work);
-        write_strip(plan, k, pass, shape, &work, strips);
+        let described = plan.passes[pass];
+        let words = filter::filter_with_gain(described, 1);
+        run_block_pass(shape, pass, words, &mut work);
+        let gain = filter::gains_from(plan, 0, pass + 1);
+        write_strip(plan, k, pass, gain, shape, &work, strips);
         pass += 1;
     }
 }
 
-// Block k's output words: the four passes over its pixels, the neighbours' strips past its edges.
+// Block k's output words: the four passes over its pixels, the neighbours' strips past its edges. The first pass runs with
+// all four gains, the others with gain 1; a strip takes the gains of the passes after its own.
 pub fn finish(plan: Plan, k: usize, map: &[i32], strips: &[u64], output: &mut [u64])
     requires { ⌜ (keepsRules plan ≡ true) × (k < neededMarks plan) × (neededPixels plan ≤ length (now map)) × (neededStrips plan ≤ length (now strips)) × (neededPixels plan ≤ length (now output)) ⌝ }
     ensures { λ _. ⌜ now (output .exit) ≡ finished plan (mapOf plan (now (map .entry))) (now (strips .entry)) k (now (output .entry)) ⌝ }
@@ -56,8 +63,10 @@ pub fn finish(plan: Plan, k: usize, map: &[i32], strips: &[u64], output: &mut [u
     load_block(map, corner, plan.columns, shape, &mut work);
     let mut pass = 0;
     while pass < 4 {
-        load_margin(plan, k, pass, shape, strips, &mut work);
-        run_block_pass(plan, shape, pass, &mut work);
+        let gain = filter::gains_from(plan, pass + 1, 3 - pass);
+        load_margin(plan, k, pass, gain, shape, strips, &mut work);
+        let words = filter::gains_first(plan, pass);
+        run_block_pass(shape, pass, words, &mut work);
         pass += 1;
     }
     copy_rectangle(
@@ -69,6 +78,7 @@ pub fn finish(plan: Plan, k: usize, map: &[i32], strips: &[u64], output: &mut [u
         plan.columns,
         shape.rows,
         shape.columns,
+        1,
     );
 }
 
@@ -126,7 +136,7 @@ fn touch_map(map: &[i32], start: usize, stride: usize, shape: BlockShape, work: 
     }
 }
 
-fn copy_row(from: &[u64], from_start: usize, to: &mut [u64], to_start: usize, count: usize)
+fn copy_words(from: &[u64], from_start: usize, to: &mut [u64], to_start: usize, count: usize)
     requires { ⌜ («from_start» + count ≤ length (now from)) × («to_start» + count ≤ length (now to)) ⌝ }
     ensures { λ _. ⌜ now (to .exit) ≡ rowWritten «to_start» (wordsFrom (now (from .entry)) «from_start») count (now (to .entry)) ⌝ }
 {
@@ -137,7 +147,44 @@ fn copy_row(from: &[u64], from_start: usize, to: &mut [u64], to_start: usize, co
     }
 }
 
-// A rectangle of one row-major buffer into a rectangle of another.
+fn scale_words(
+    from: &[u64],
+    from_start: usize,
+    to: &mut [u64],
+    to_start: usize,
+    count: usize,
+    gain: u64,
+)
+    requires { ⌜ («from_start» + count ≤ length (now from)) × («to_start» + count ≤ length (now to)) ⌝ }
+    ensures { λ _. ⌜ now (to .exit) ≡ rowWritten «to_start» (scaledFrom gain (now (from .entry)) «from_start») count (now (to .entry)) ⌝ }
+{
+    let mut i = 0;
+    while i < count {
+        to[to_start + i] = word::mul(gain, from[from_start + i]);
+        i += 1;
+    }
+}
+
+// Words times a gain. With gain 1 they are a plain copy, which the compiler moves at once.
+fn copy_row(
+    from: &[u64],
+    from_start: usize,
+    to: &mut [u64],
+    to_start: usize,
+    count: usize,
+    gain: u64,
+)
+    requires { ⌜ («from_start» + count ≤ length (now from)) × («to_start» + count ≤ length (now to)) ⌝ }
+    ensures { λ _. ⌜ now (to .exit) ≡ rowWritten «to_start» (scaledFrom gain (now (from .entry)) «from_start») count (now (to .entry)) ⌝ }
+{
+    if gain == 1 {
+        copy_words(from, from_start, to, to_start, count);
+    } else {
+        scale_words(from, from_start, to, to_start, count, gain);
+    }
+}
+
+// A rectangle of one row-major buffer, times a gain, into a rectangle of another.
 fn copy_rectangle(
     from: &[u64],
     from_start: usize,
@@ -147,9 +194,10 @@ fn copy_rectangle(
     to_stride: usize,
     height: usize,
     width: usize,
+    gain: u64,
 )
     requires { ⌜ GridFits (length (now from)) «from_start» «from_stride» height width × GridFits (length (now to)) «to_start» «to_stride» height width ⌝ }
-    ensures { λ _. ⌜ now (to .exit) ≡ gridWritten «to_start» «to_stride» width (gridWords (now (from .entry)) «from_start» «from_stride») height (now (to .entry)) ⌝ }
+    ensures { λ _. ⌜ now (to .exit) ≡ gridWritten «to_start» «to_stride» width (gridScaled gain (now (from .entry)) «from_start» «from_stride») height (now (to .entry)) ⌝ }
 {
     let mut row = 0;
     while row < height {
@@ -159,6 +207,7 @@ fn copy_rectangle(
             to,
             to_start + row * to_stride,
             width,
+            gain,
         );
         row += 1;
     }
@@ -209,12 +258,10 @@ fn load_block(map: &[i32], start: usize, stride: usize, shape: BlockShape, work:
 }
 
 // One pass over the block in the work array, the margin standing for the outputs past its edge.
-fn run_block_pass(plan: Plan, shape: BlockShape, pass: usize, work: &mut [u64])
-    requires { ⌜ (keepsRules plan ≡ true) × ShapeFits shape × (pass < 4) × (length (now work) ≡ workWords) ⌝ }
-    ensures { λ _. ⌜ now (work .exit) ≡ blockPass plan shape pass (now (work .entry)) ⌝ }
+fn run_block_pass(shape: BlockShape, pass: usize, words: FilterWords, work: &mut [u64])
+    requires { ⌜ (words .order ≤ orderLimit) × ShapeFits shape × (length (now work) ≡ workWords) ⌝ }
+    ensures { λ _. ⌜ now (work .exit) ≡ blockPass shape pass (filterWith words) (now (work .entry)) ⌝ }
 {
-    let entry = plan.passes[pass];
-    let words = filter::filter_words(entry);
     let window = Window {
         stride: STRIDE,
         top: MARGIN,
@@ -222,7 +269,7 @@ fn run_block_pass(plan: Plan, shape: BlockShape, pass: usize, work: &mut [u64])
         height: shape.rows,
         width: shape.columns,
     };
-    filter::run_pass(work, window, pass, entry.order, words);
+    filter::run_pass(work, window, pass, words.order, words);
 }
 
 fn margin_start(pass: usize, order: usize, extent: usize) -> usize
@@ -236,18 +283,19 @@ fn margin_start(pass: usize, order: usize, extent: usize) -> usize
     }
 }
 
-// The words past the block's edge, from the strip of the neighbour there. Where no word of the neighbour stands, the
-// margin is 0 from the start.
+// The words past the block's edge, from the strip of the neighbour there, times a gain. Where no word of the neighbour
+// stands, the margin is 0 from the start.
 fn load_margin(
     plan: Plan,
     k: usize,
     pass: usize,
+    gain: u64,
     shape: BlockShape,
     strips: &[u64],
     work: &mut [u64],
 )
     requires { ⌜ (keepsRules plan ≡ true) × (k < neededMarks plan) × (pass < 4) × (shape ≡ shapeOf plan k) × (neededStrips plan ≤ length (now strips)) × (length (now work) ≡ workWords) × MarginClear plan shape pass (now work) ⌝ }
-    ensures { λ _. ⌜ MarginLoaded plan shape pass (stripBefore plan k pass) (now (strips .entry)) (now (work .entry)) (now (work .exit)) ⌝ }
+    ensures { λ _. ⌜ MarginLoaded plan shape pass gain (stripBefore plan k pass) (now (strips .entry)) (now (work .entry)) (now (work .exit)) ⌝ }
 {
     let described = plan.passes[pass];
     let strip = strips::strip_before(plan, k, pass);
@@ -265,6 +313,7 @@ fn load_margin(
             STRIDE,
             places,
             strip.lines,
+            gain,
         );
     } else {
         let column = margin_start(pass, described.order, shape.columns) + first;
@@ -277,6 +326,7 @@ fn load_margin(
             STRIDE,
             strip.lines,
             places,
+            gain,
         );
     }
 }
@@ -303,17 +353,18 @@ fn clear_words(strips: &mut [u64], start: usize, count: usize)
     }
 }
 
-// Block k's strip of a pass from the work array, zeros around the block; 0 where no neighbour needs the strip.
+// Block k's strip of a pass from the work array, times a gain, zeros around the block; 0 where no neighbour needs the strip.
 fn write_strip(
     plan: Plan,
     k: usize,
     pass: usize,
+    gain: u64,
     shape: BlockShape,
     work: &[u64],
     strips: &mut [u64],
 )
     requires { ⌜ (keepsRules plan ≡ true) × (k < neededMarks plan) × (pass < 4) × (shape ≡ shapeOf plan k) × (length (now work) ≡ workWords) × (neededStrips plan ≤ length (now strips)) ⌝ }
-    ensures { λ _. ⌜ now (strips .exit) ≡ stripWritten plan k pass (workEdge plan k pass (now (work .entry))) (now (strips .entry)) ⌝ }
+    ensures { λ _. ⌜ now (strips .exit) ≡ stripWritten plan k pass (workEdge plan k pass gain (now (work .entry))) (now (strips .entry)) ⌝ }
 {
     let side = plan.side;
     let described = plan.passes[pass];
@@ -334,6 +385,7 @@ fn write_strip(
             side,
             order,
             side,
+            gain,
         );
     } else {
         let column = edge_start(pass, order, shape.columns);
@@ -346,6 +398,7 @@ fn write_strip(
             order,
             side,
             order,
+            gain,
         );
     }
 }

@@ -9,10 +9,8 @@ use Rattle.passes.proofs.Passes.{passesOver-reads}
 use Rattle.filter.specs.Filters.{filtersOf}
 use Rattle.blocks.specs.Geometry.{rowsOf, columnsOf, stripNeeded}
 use Rattle.blocks.specs.Strips.{orderOf, stripWord, pastEdges}
-use Rattle.blocks.specs.Depends.{SameBlock, SameStrip, SameNeeds, CollectDepends, LinkDepends, FinishDepends}
-use Rattle.blocks.specs.Writes.{blockPasses, aloneWord, collected, linkWord, finishWord, finished}
-use Rattle.blocks.proofs.Strips.{strip-same-words, slot-same-words}
-use Rattle.blocks.proofs.Output.{block-same-words}
+use Rattle.blocks.specs.Depends.{SameStrip, SameNeeds, CollectDepends, LinkDepends, FinishDepends}
+use Rattle.blocks.specs.Writes.{blockPasses, aloneWord, linkWord, finishWord}
 use Rattle.blocks.proofs.Reading.{edge-same, read-held, past-same}
 
 read-same : (plan : Plan) (k pass : ℕ) (s r : List ℕ) → SameStrip plan k pass s r → (line place : ℕ)
@@ -30,8 +28,7 @@ passes-same plan k n s r Y Z needs e =
     (λ u l i a b c. past-same plan s r k u (λ j f. read-same plan j u s r (needs u j a f)) l i)
     e
 
-collect-depends : (plan : Plan) (X Y : ℕ → ℕ → ℕ) (k pass : ℕ) → SameBlock plan k X Y → (line place : ℕ)
-    → place < orderOf plan pass → aloneWord plan X k pass line place ≡ aloneWord plan Y k pass line place
+pub collect-depends : CollectDepends
 unfolding aloneWord
 collect-depends plan X Y k pass same line place h =
     ap (λ v. cond (stripNeeded plan k pass) v 0)
@@ -39,33 +36,12 @@ collect-depends plan X Y k pass same line place h =
     (passesOver-reads (filtersOf plan) (rowsOf plan k) (columnsOf plan k) _ _ _ _ (suc pass) (λ u l i a b c. refl) same)
     line place h)
 
-link-depends : (plan : Plan) (s r : List ℕ) (k pass : ℕ) → SameStrip plan k pass s r
-    → SameNeeds plan k (suc pass) s r
-    → (line place : ℕ) → place < orderOf plan pass
-    → linkWord plan s k pass line place ≡ linkWord plan r k pass line place
+pub link-depends : LinkDepends
 unfolding linkWord
 link-depends plan s r k pass own needs line place h =
     ap₂ _⊕_ (read-same plan k pass s r own line place h)
     (edge-same plan k pass _ _ (passes-same plan k (suc pass) s r _ _ needs (λ y x a b. refl)) line place h)
 
-finish-depends : (plan : Plan) (X Y : ℕ → ℕ → ℕ) (s r : List ℕ) (k : ℕ) → SameBlock plan k X Y
-    → SameNeeds plan k 4 s r
-    → (y x : ℕ) → y < rowsOf plan k → x < columnsOf plan k → finishWord plan X s k y x ≡ finishWord plan Y r k y x
+pub finish-depends : FinishDepends
 unfolding finishWord
 finish-depends plan X Y s r k same needs = passes-same plan k 4 s r _ _ needs same
-
--- ---- the lists that they write
-
-pub collected-depends : CollectDepends
-unfolding collected
-collected-depends plan X Y k strips same =
-    slot-same-words plan k _ _ 4 strips (λ u l t h a b. collect-depends plan X Y k u same l t b)
-
-pub linked-depends : LinkDepends
-linked-depends plan s r k pass strips own needs =
-    strip-same-words plan k pass _ _ strips (λ l t a b. link-depends plan s r k pass own needs l t b)
-
-pub finished-depends : FinishDepends
-unfolding finished
-finished-depends plan X Y s r k output same needs =
-    block-same-words plan k _ _ output (finish-depends plan X Y s r k same needs)

@@ -12,14 +12,7 @@ use Rattle.plan.specs.Sizes.{neededPixels}
 use Rattle.filter.specs.Buffer.{wordAt}
 use Rattle.blocks.specs.Geometry.{rowsOf, columnsOf, blockArea, blockPixelPlace}
 use Rattle.blocks.specs.Writes.{blockWrittenTo}
-use Rattle.filter.proofs.Written.{
-  written-none,
-  written-next,
-  written-length,
-  written-same-words,
-  written-other,
-  written-at,
-}
+use Rattle.filter.proofs.Written.{written-none, written-next, written-length, written-other, written-at}
 use Rattle.filter.proofs.RowMajor.{row-of, column-of, place-below, row-below, column-below}
 use Rattle.blocks.proofs.Geometry.{pixel-below, same-pixel}
 
@@ -78,12 +71,3 @@ module _ (plan : Plan) (k : ℕ) (words : ℕ → ℕ → ℕ) where
       written-other _ _ (blockArea plan k) output q
       (λ i c. out _ _ (row-below (rowsOf plan k) (columnsOf plan k) i c) (column-below (rowsOf plan k)
       (columnsOf plan k) i c))
-
-pub block-same-words : (plan : Plan) (k : ℕ) (words other : ℕ → ℕ → ℕ) (output : List ℕ)
-    → ((y x : ℕ) → y < rowsOf plan k → x < columnsOf plan k → words y x ≡ other y x)
-    → blockWrittenTo plan k words (blockArea plan k) output ≡ blockWrittenTo plan k other (blockArea plan k) output
-unfolding blockWrittenTo
-block-same-words plan k words other output e =
-    written-same-words _ _ _ (blockArea plan k) output
-    (λ i c. e _ _ (row-below (rowsOf plan k) (columnsOf plan k) i c) (column-below (rowsOf plan k)
-    (columnsOf plan k) i c))

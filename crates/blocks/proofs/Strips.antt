@@ -265,14 +265,3 @@ module _ (plan : Plan) (k : ℕ) (words : ℕ → ℕ → ℕ → ℕ) where
   slot-outside zero strips q h out = refl
   slot-outside (suc n) strips q h out =
       strip-outside plan k n (words n) _ q h out ∙ slot-outside n strips q (omega arith) out
-
-pub slot-same-words : (plan : Plan) (k : ℕ) (words other : ℕ → ℕ → ℕ → ℕ) (n : ℕ) (strips : List ℕ)
-    → ((pass line place : ℕ) → pass < n → line < plan .side → place < orderOf plan pass
-    → words pass line place ≡ other pass line place)
-    → slotWritten plan k words n strips ≡ slotWritten plan k other n strips
-unfolding slotWritten
-slot-same-words plan k words other zero strips e = refl
-slot-same-words plan k words other (suc n) strips e =
-    strip-same-words plan k n (words n) (other n) (slotWritten plan k words n strips) (λ l t. e n l t (omega arith))
-    ∙ ap (stripWritten plan k n (other n))
-    (slot-same-words plan k words other n strips (λ u l t h. e u l t (omega arith)))

@@ -7,8 +7,8 @@ use Prim.Native.Nat.{ℕ, suc, _<_}
 use Rattle.plan.specs.declared.Plan.{Plan}
 use Rattle.filter.specs.Buffer.{wordAt}
 use Rattle.blocks.specs.Geometry.{rowsOf, columnsOf, partOf, neighbour}
-use Rattle.blocks.specs.Strips.{orderOf, stripPlace, stripWritten}
-use Rattle.blocks.specs.Writes.{collected, linkWord, finished}
+use Rattle.blocks.specs.Strips.{orderOf, stripPlace}
+use Rattle.blocks.specs.Writes.{aloneWord, linkWord, finishWord}
 
 -- Two maps have the same heights in block k.
 abbrev pub SameBlock : Plan → ℕ → (X Y : ℕ → ℕ → ℕ) → Type 0
@@ -25,22 +25,21 @@ SameStrip plan k pass s r =
 abbrev pub SameNeeds : Plan → ℕ → ℕ → (s r : List ℕ) → Type 0
 SameNeeds plan k n s r = (pass j : ℕ) → pass < n → neighbour plan k pass ≡ some j → SameStrip plan j pass s r
 
--- What collect writes,
+-- The words that collect writes,
 abbrev pub CollectDepends : Type 0
 CollectDepends =
-    (plan : Plan) (X Y : ℕ → ℕ → ℕ) (k : ℕ) (strips : List ℕ) → SameBlock plan k X Y
-    → collected plan X k strips ≡ collected plan Y k strips
+    (plan : Plan) (X Y : ℕ → ℕ → ℕ) (k pass : ℕ) → SameBlock plan k X Y → (line place : ℕ) → place < orderOf plan pass
+    → aloneWord plan X k pass line place ≡ aloneWord plan Y k pass line place
 
--- what the link of a pass writes,
+-- the words that the link of a pass writes,
 abbrev pub LinkDepends : Type 0
 LinkDepends =
-    (plan : Plan) (s r : List ℕ) (k pass : ℕ) (strips : List ℕ) → SameStrip plan k pass s r
-    → SameNeeds plan k (suc pass) s r
-    → stripWritten plan k pass (linkWord plan s k pass) strips
-    ≡ stripWritten plan k pass (linkWord plan r k pass) strips
+    (plan : Plan) (s r : List ℕ) (k pass : ℕ) → SameStrip plan k pass s r → SameNeeds plan k (suc pass) s r
+    → (line place : ℕ) → place < orderOf plan pass
+    → linkWord plan s k pass line place ≡ linkWord plan r k pass line place
 
--- and what finish writes.
+-- and the words that finish writes. The strips and the output that are written to enter into none of them.
 abbrev pub FinishDepends : Type 0
 FinishDepends =
-    (plan : Plan) (X Y : ℕ → ℕ → ℕ) (s r : List ℕ) (k : ℕ) (output : List ℕ) → SameBlock plan k X Y
-    → SameNeeds plan k 4 s r → finished plan X s k output ≡ finished plan Y r k output
+    (plan : Plan) (X Y : ℕ → ℕ → ℕ) (s r : List ℕ) (k : ℕ) → SameBlock plan k X Y → SameNeeds plan k 4 s r
+    → (y x : ℕ) → y < rowsOf plan k → x < columnsOf plan k → finishWord plan X s k y x ≡ finishWord plan Y r k y x

@@ -334,11 +334,11 @@ fn add_multiples(
     at: usize,
     step: usize,
     lines: usize,
-    square: &[[u64; plan::ORDER_LIMIT]; plan::ORDER_LIMIT],
+    square: [[u64; plan::ORDER_LIMIT]; plan::ORDER_LIMIT],
     distance: usize,
 )
     requires { ⌜ (order ≤ orderLimit) × ((distance < orderLimit) × ((lines ≤ 32) × ((length (now responses) ≡ responseWords) × WordsFit (length (now strips)) at step lines))) ⌝ }
-    ensures { λ _. ⌜ MultiplesAdded lines order (λ l. wordAt (now (strips .entry)) (at + l * step)) (weightsAt (now (square .entry)) distance) (now (responses .entry)) (now (responses .exit)) ⌝ }
+    ensures { λ _. ⌜ MultiplesAdded lines order (λ l. wordAt (now (strips .entry)) (at + l * step)) (weightsAt square distance) (now (responses .entry)) (now (responses .exit)) ⌝ }
 {
     let mut place = 0;
     while place < order {
@@ -355,11 +355,11 @@ fn add_distance(
     strip: Strip,
     course: Course,
     place: usize,
-    square: &[[u64; plan::ORDER_LIMIT]; plan::ORDER_LIMIT],
+    square: [[u64; plan::ORDER_LIMIT]; plan::ORDER_LIMIT],
     distance: usize,
 )
     requires { ⌜ CourseFits course × ((distance < orderLimit) × ((length (now responses) ≡ responseWords) × StripFits (length (now strips)) strip)) ⌝ }
-    ensures { λ _. ⌜ DistanceAdded (course .lines) (course .order) (λ l. stripRead strip (now (strips .entry)) l place) (weightsAt (now (square .entry)) distance) (now (responses .entry)) (now (responses .exit)) ⌝ }
+    ensures { λ _. ⌜ DistanceAdded (course .lines) (course .order) (λ l. stripRead strip (now (strips .entry)) l place) (weightsAt square distance) (now (responses .entry)) (now (responses .exit)) ⌝ }
 {
     let lines = lines_inside(strip, place, course.lines);
     if 0 < lines {
@@ -392,7 +392,7 @@ fn add_histories(
     let mut distance = 0;
     while distance < order {
         let place = from_edge(pass, order, distance);
-        add_distance(responses, strips, strip, course, place, &square, distance);
+        add_distance(responses, strips, strip, course, place, square, distance);
         distance += 1;
     }
 }

@@ -4,14 +4,13 @@ use plan::Plan;
 ghost use mathlib.Core.Path.{_≡_};
 ghost use mathlib.Core.Bool.{true};
 ghost use Prim.Native.Nat.{_<_, _≤_};
-ghost use lib.ListN.{length};
 ghost use Rattle.plan.specs.Rules.{keepsRules};
 ghost use Rattle.plan.specs.Sizes.{neededMarks, orderSum};
 ghost use Rattle.passes.specs.Passes.{directionOf};
 ghost use Rattle.blocks.specs.Geometry.{neighbour, stripNeeded};
 ghost use Rattle.blocks.specs.Strips.{stripStart};
 ghost use Rattle.strips.specs.Shapes.{shapeOf, blockLine, foundNeighbour};
-ghost use Rattle.strips.specs.Reading.{stripWith, stripOf, stripBefore, stripRead, StripFits};
+ghost use Rattle.strips.specs.Reading.{stripWith, stripOf, stripBefore};
 
 // Where a block lies in the map, and its extent.
 pub struct BlockShape {
@@ -207,20 +206,4 @@ pub fn strip_before(plan: Plan, k: usize, pass: usize) -> Strip
             past: 0,
         },
     }
-}
-
-// The word of a strip at a line and a place: 0 outside the block, whatever stands there.
-pub fn strip_word(strips: &[u64], strip: Strip, line: usize, place: usize) -> u64
-    requires { ⌜ StripFits (length (now strips)) strip ⌝ }
-    ensures { λ r. ⌜ r ≡ stripRead strip (now (strips .entry)) line place ⌝ }
-{
-    if line < strip.lines {
-        if strip.first <= place {
-            if place < strip.past {
-                let at = strip.start + line * strip.line_step + place * strip.place_step;
-                return strips[at];
-            }
-        }
-    }
-    0
 }

@@ -1,22 +1,22 @@
--- `copy_rectangle` has copied the rows passed so far.
+-- `copy_rectangle` has copied the rows passed so far, times the gain.
 use mathlib.Core.Path.{_≡_, refl}
 use Prim.Native.Nat.{_+_, _*_, _-_, _≤_}
 use native.Mathlib.Omega.{arith}
 use borrow.Author.Needs.{needs}
 use lib.ListN.{length}
-use Rattle.block.specs.Copies.{rowWritten, gridPlace, gridWords, gridWritten}
+use Rattle.block.specs.Copies.{rowWritten, gridPlace, gridScaled, gridWritten}
 use Rattle.block.proofs.Copies.{rectangle-none, rectangle-more}
 use Rattle.block.proofs.copy_rectangle.Statement.{statement}
 use Rattle.block.proofs.copy_rectangle.Tie as tie
 
 abbrev Inv-loop : tie.InvT-loop
-Inv-loop from from-start from-stride to₀ to-start to-stride height width row₀ to row =
+Inv-loop from from-start from-stride to₀ to-start to-stride height width gain row₀ to row =
     (row ≤ height)
     × (length to ≡ length to₀)
-    × (to ≡ gridWritten to-start to-stride width (gridWords from from-start from-stride) row to₀)
+    × (to ≡ gridWritten to-start to-stride width (gridScaled gain from from-start from-stride) row to₀)
 
 abbrev μ-loop : tie.MeasureT-loop
-μ-loop from from-start from-stride to₀ to-start to-stride height width row₀ to row = height - row
+μ-loop from from-start from-stride to₀ to-start to-stride height width gain row₀ to row = height - row
 
 -- This row is in both buffers.
 row-in-from : (c : tie.In-loop Inv-loop μ-loop)
@@ -34,7 +34,7 @@ loop-holds c =
     let a = c .before .before .args in (
       omega arith,
       refl,
-      rectangle-none (gridPlace (a .to-start) (a .to-stride)) (gridWords (a .from .now) (a .from-start) (a .from-stride)) _ _,
+      rectangle-none (gridPlace (a .to-start) (a .to-stride)) (gridScaled (a .gain) (a .from .now) (a .from-start) (a .from-stride)) _ _,
     )
 
 mul-copy-row : tie.Need-mul-copy-row Inv-loop μ-loop
@@ -66,7 +66,7 @@ loop-again c =
     let a = l .before .before .before .args in (
       omega arith,
       omega (arith, f .copy-row .kept, l .loop .inv .1),
-      rectangle-more (gridPlace (a .to-start) (a .to-stride)) (gridWords (a .from .now) (a .from-start) (a .from-stride)) _
+      rectangle-more (gridPlace (a .to-start) (a .to-stride)) (gridScaled (a .gain) (a .from .now) (a .from-start) (a .from-stride)) _
           (l .loop .row) _ (l .loop .to) _ (l .loop .inv .2) (f .copy-row .ensures),
     )
 

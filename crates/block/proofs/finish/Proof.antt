@@ -1,14 +1,14 @@
--- `finish` has run the passes so far in the work array, the neighbours' strips past the block's edges.
+-- `finish` has run the passes so far in the work array with all gains in the first, the neighbours' strips past the block's
+-- edges times the gains of the passes after each.
 use mathlib.Core.Path.{_≡_, _∙_}
 use Prim.Native.Nat.{_-_, _≤_}
 use native.Mathlib.Omega.{arith}
 use borrow.Author.Needs.{needs}
 use Rattle.blocks.specs.Geometry.{partOf}
-use Rattle.blocks.specs.Strips.{pastEdges}
 use Rattle.blocks.specs.Writes.{mapOf}
 use Rattle.block.proofs.Work.{shape-in-work, block-in-work, block-in-map, corner-in-map}
 use Rattle.block.proofs.Cells.{blank-clear}
-use Rattle.block.proofs.Passes.{Holds, MarginsClear, finish-turn, clear-turn}
+use Rattle.block.proofs.Passes.{finishFilters, finishEdges, finish-words-order, Holds, MarginsClear, finish-turn, clear-turn}
 use Rattle.block.proofs.Images.{holds-start, margins-start, finish-end}
 use Rattle.block.proofs.finish.Statement.{statement}
 use Rattle.block.proofs.finish.Tie as tie
@@ -16,7 +16,7 @@ use Rattle.block.proofs.finish.Tie as tie
 abbrev Inv-loop : tie.InvT-loop
 Inv-loop plan k map strips output shape corner work₀ pass₀ work pass =
     (pass ≤ 4)
-    × Holds plan k (pastEdges plan strips k) (partOf plan k (mapOf plan map)) pass work
+    × Holds plan k (finishFilters plan) (finishEdges plan strips k) (partOf plan k (mapOf plan map)) pass work
     × MarginsClear plan k pass work
 
 abbrev μ-loop : tie.MeasureT-loop
@@ -64,16 +64,25 @@ loop-holds c =
     let s = c .before .before .before .before .before .before .before .before .before .before .before .before .before in
     let shaped = c .before .before .before .before .before .before .before .before .before .before .block-shape .ensures in (
       omega arith,
-      holds-start (s .args .plan) (s .args .k) (s .pre .0) (s .pre .1) (s .args .map .now) _ _ shaped (c .before .load-block .ensures) _,
+      holds-start (s .args .plan) (s .args .k) (s .pre .0) (s .pre .1) (s .args .map .now) _ _ shaped (c .before .load-block .ensures) _ _,
       margins-start (s .args .plan) (s .args .k) (s .pre .0) (s .pre .1) (s .args .map .now) _ _ shaped (c .before .load-block .ensures),
     )
+
+add-gains-from : tie.Need-add-gains-from Inv-loop μ-loop
+add-gains-from c = search needs
+
+sub-gains-from : tie.Need-sub-gains-from Inv-loop μ-loop
+sub-gains-from c = search needs
+
+gains-from-requires : tie.Need-gains-from-requires Inv-loop μ-loop
+gains-from-requires c κs = omega arith
 
 slice-aggregate-load-margin : tie.Need-slice-aggregate-load-margin Inv-loop μ-loop
 slice-aggregate-load-margin c = search needs
 
 load-margin-requires : tie.Need-load-margin-requires Inv-loop μ-loop
 load-margin-requires c κs =
-    let l = c .before .before in
+    let l = c .before .before .before in
     let s = l .before .before .before .before .before .before .before .before .before .before .before .before .before .before in
     let shaped = l .before .before .before .before .before .before .before .before .before .before .before .block-shape .ensures in (
       s .pre .0,
@@ -85,17 +94,19 @@ load-margin-requires c κs =
       rw shaped (l .loop .inv .2 .of (l .loop .pass) (omega arith) (omega arith)),
     )
 
+gains-first-requires : tie.Need-gains-first-requires Inv-loop μ-loop
+gains-first-requires c κs = search needs
+
 slice-aggregate-run-block-pass : tie.Need-slice-aggregate-run-block-pass Inv-loop μ-loop
 slice-aggregate-run-block-pass c = search needs
 
 run-block-pass-requires : tie.Need-run-block-pass-requires Inv-loop μ-loop
 run-block-pass-requires c κs =
-    let l = c .before .before .before .before .before in
+    let l = c .before .before .before .before .before .before .before in
     let s = l .before .before .before .before .before .before .before .before .before .before .before .before .before .before in (
-      s .pre .0,
+      finish-words-order (s .args .plan) (l .loop .pass) (s .pre .0) (omega arith) _ (c .before .gains-first .ensures),
       shape-in-work (s .args .plan) (s .args .k) 0 _ (l .before .before .before .before .before .before .before .before .before .before .before .block-shape .ensures) (s .pre .0) (s .pre .1),
-      omega arith,
-      c .before .before .load-margin .ensures .length-kept ∙ l .loop .inv .1 .sized,
+      c .before .before .before .load-margin .ensures .length-kept ∙ l .loop .inv .1 .sized,
     )
 
 add-pass : tie.Need-add-pass Inv-loop μ-loop
@@ -106,15 +117,17 @@ loop-less c = search needs
 
 loop-again : tie.Need-loop-again Inv-loop μ-loop
 loop-again c =
-    let l = c .before .before .before .before .before .before .before in
+    let l = c .before .before .before .before .before .before .before .before .before in
     let s = l .before .before .before .before .before .before .before .before .before .before .before .before .before .before in
-    let counted = c .before .before .before .before .before .before .loop-test .taken in
+    let counted = c .before .before .before .before .before .before .before .before .loop-test .taken in
     let shaped = l .before .before .before .before .before .before .before .before .before .before .before .block-shape .ensures in (
       omega (arith, counted),
       finish-turn (s .args .plan) (s .args .k) (s .pre .0) (s .pre .1) (s .args .strips .now) _ (l .loop .pass) counted _ _
-          (l .loop .inv .1) (l .loop .inv .2) _ shaped (c .before .before .before .before .load-margin .ensures) _ (c .before .run-block-pass .ensures),
+          (l .loop .inv .1) (l .loop .inv .2) _ shaped _ (c .before .before .before .before .before .before .before .gains-from .ensures) (c .before .before .before .before .before .load-margin .ensures) _
+          (c .before .before .before .gains-first .ensures) _ (c .before .run-block-pass .ensures),
       clear-turn (s .args .plan) (s .args .k) (s .pre .0) (s .pre .1) (s .args .strips .now) _ (l .loop .pass) counted _ _
-          (l .loop .inv .1) (l .loop .inv .2) _ shaped (c .before .before .before .before .load-margin .ensures) _ (c .before .run-block-pass .ensures),
+          (l .loop .inv .1) (l .loop .inv .2) _ shaped _ (c .before .before .before .before .before .before .before .gains-from .ensures) (c .before .before .before .before .before .load-margin .ensures) _
+          (c .before .before .before .gains-first .ensures) _ (c .before .run-block-pass .ensures),
     )
 
 slice-aggregate-copy-rectangle : tie.Need-slice-aggregate-copy-rectangle Inv-loop μ-loop
@@ -159,8 +172,12 @@ finish-spec =
     slice-aggregate-load-block
     load-block-requires
     loop-holds
+    add-gains-from
+    sub-gains-from
+    gains-from-requires
     slice-aggregate-load-margin
     load-margin-requires
+    gains-first-requires
     slice-aggregate-run-block-pass
     run-block-pass-requires
     add-pass

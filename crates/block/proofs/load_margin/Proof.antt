@@ -1,4 +1,4 @@
--- `load_margin` copies the neighbour's rectangle of the strip into the margin.
+-- `load_margin` copies the neighbour's rectangle of the strip, times the gain, into the margin.
 use native.Mathlib.Omega.{arith}
 use borrow.Author.Needs.{needs}
 use lib.ListN.{length}
@@ -113,7 +113,7 @@ returns : tie.Need-returns
 returns c =
     let s = c .before .before .before .before .before .before .before .before .before .before .before .before .before in
     rows-loaded (s .args .t1) (s .args .k) (s .args .pass) (s .pre .0) (s .pre .1) (s .pre .2) (s .args .shape) (s .pre .3) _
-    (c .before .before .before .before .before .before .before .before .before .strip-before .ensures) _ (s .pre .4) _ _ _ (s .pre .5) (s .pre .6) _ (c .before .before .before .before .before .if1 .taken)
+    (c .before .before .before .before .before .before .before .before .before .strip-before .ensures) _ (s .pre .4) _ _ _ _ (s .pre .5) (s .pre .6) _ (c .before .before .before .before .before .if1 .taken)
     (c .before .before .before .before .margin-start .ensures) (c .before .before .copy-rectangle .ensures)
 
 same-length-2 : tie.Need-same-length-2
@@ -123,7 +123,7 @@ returns-2 : tie.Need-returns-2
 returns-2 c =
     let s = c .before .before .before .before .before .before .before .before .before .before .before .before .before in
     columns-loaded (s .args .t1) (s .args .k) (s .args .pass) (s .pre .0) (s .pre .1) (s .pre .2) (s .args .shape) (s .pre .3) _
-    (c .before .before .before .before .before .before .before .before .before .strip-before .ensures) _ (s .pre .4) _ _ _ (s .pre .5) (s .pre .6) _ (c .before .before .before .before .before .if1 .left)
+    (c .before .before .before .before .before .before .before .before .before .strip-before .ensures) _ (s .pre .4) _ _ _ _ (s .pre .5) (s .pre .6) _ (c .before .before .before .before .before .if1 .left)
     (c .before .before .before .before .margin-start2 .ensures) (c .before .before .copy-rectangle2 .ensures)
 
 pub load-margin-spec : {M : Type 1} → statement M

@@ -1,4 +1,4 @@
--- `write_strip` writes the strip whole: the edge of the block, or zeros.
+-- `write_strip` writes the strip whole: the edge of the block times the gain, or zeros.
 use mathlib.Core.Path.{_≡_, ap, _∙_}
 use native.Mathlib.Omega.{arith}
 use borrow.Author.Needs.{needs}
@@ -81,7 +81,7 @@ returns c =
     let s = t .before .before .before .before in
     let n = c .before .before .before .before .before in
     c .before .before .clear-words .ensures
-    ∙ cleared-strip (s .args .t1) (s .args .k) (s .args .pass) (s .args .work .now) (s .args .strips .now) (t .strip-start .result) (t .strip-start .ensures)
+    ∙ cleared-strip (s .args .t1) (s .args .k) (s .args .pass) (s .args .gain) (s .args .work .now) (s .args .strips .now) (t .strip-start .result) (t .strip-start .ensures)
     (failed (n .strip-needed .ensures) (c .before .before .before .before .if1 .taken))
 
 edge-start-requires : tie.Need-edge-start-requires
@@ -137,7 +137,7 @@ returns-2 c =
     let s = t .before .before .before .before in
     let n = c .before .before .before .before .before .before .before in
     c .before .before .copy-rectangle .ensures
-    ∙ copied-rows (s .args .t1) (s .args .k) (s .args .pass) (s .args .work .now) (s .args .strips .now) (t .strip-start .result) (t .strip-start .ensures)
+    ∙ copied-rows (s .args .t1) (s .args .k) (s .args .pass) (s .args .gain) (s .args .work .now) (s .args .strips .now) (t .strip-start .result) (t .strip-start .ensures)
     (passed (n .strip-needed .ensures) (c .before .before .before .before .before .before .if1 .left)) _ (c .before .before .before .before .before .if2 .taken) (row-is (c .before .before .before .before))
 
 same-length-3 : tie.Need-same-length-3
@@ -149,7 +149,7 @@ returns-3 c =
     let s = t .before .before .before .before in
     let n = c .before .before .before .before .before .before .before in
     c .before .before .copy-rectangle2 .ensures
-    ∙ copied-columns (s .args .t1) (s .args .k) (s .args .pass) (s .args .work .now) (s .args .strips .now) (t .strip-start .result) (t .strip-start .ensures)
+    ∙ copied-columns (s .args .t1) (s .args .k) (s .args .pass) (s .args .gain) (s .args .work .now) (s .args .strips .now) (t .strip-start .result) (t .strip-start .ensures)
     (passed (n .strip-needed .ensures) (c .before .before .before .before .before .before .if1 .left)) _ (c .before .before .before .before .before .if2 .left) (column-is (c .before .before .before .before))
 
 pub write-strip-spec : {M : Type 1} → statement M

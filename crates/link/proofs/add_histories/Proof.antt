@@ -29,7 +29,7 @@ from-edge-requires c κs = search needs
 
 add-distance-requires : tie.Need-add-distance-requires Inv-loop μ-loop
 add-distance-requires c κs =
-    let l = c .before .before .before .before in
+    let l = c .before .before .before in
     let a = l .before .before .before in
     (a .pre .0, (omega (arith, a .pre .1 .0), (omega (arith, l .loop .inv .1 .length-kept, a .pre .1 .1 .0), a .pre .1 .1 .1)))
 
@@ -42,11 +42,11 @@ loop-less c = search needs
 loop-again : tie.Need-loop-again Inv-loop μ-loop
 loop-again c =
     let f = c .before .before in
-    let m = f .before .before .before in
+    let m = f .before .before in
     let l = m .before .before in
     let a = l .before .before .before .args in (
       omega arith,
-      histories-more (a .course .lines) (a .course .order) (l .loop .distance) _ (a .t7) (a .responses .now) (l .loop .inv .1)
+      histories-more (a .course .lines) (a .course .order) (l .loop .distance) _ (a .square) (a .responses .now) (l .loop .inv .1)
           (λ line. ap (stripRead (a .strip) (a .strips .now) line) (m .from-edge .ensures)) (f .add-distance .ensures),
     )
 

@@ -10,12 +10,12 @@ use Rattle.link.proofs.add_multiples.Statement.{statement}
 use Rattle.link.proofs.add_multiples.Tie as tie
 
 abbrev Inv-loop : tie.InvT-loop
-Inv-loop responses₀ order strips at step lines square distance place₀ responses place =
+Inv-loop responses₀ order strips at step lines distance square place₀ responses place =
     (place ≤ order)
     × MultiplesAdded lines place (λ l. wordAt strips (at + l * step)) (weightsAt square distance) responses₀ responses
 
 abbrev μ-loop : tie.MeasureT-loop
-μ-loop responses₀ order strips at step lines square distance place₀ responses place = order - place
+μ-loop responses₀ order strips at step lines distance square place₀ responses place = order - place
 
 loop-holds : tie.Need-loop-holds Inv-loop μ-loop
 loop-holds c = (omega arith, multiples-none _ _ _ _)
@@ -23,8 +23,8 @@ loop-holds c = (omega arith, multiples-none _ _ _ _)
 mul-weights : tie.Need-mul-weights Inv-loop μ-loop
 mul-weights c = search needs
 
-element-copy-out-weights : tie.Need-element-copy-out-weights Inv-loop μ-loop
-element-copy-out-weights c = search needs
+array-copy-out-weights : tie.Need-array-copy-out-weights Inv-loop μ-loop
+array-copy-out-weights c = search needs
 
 mul-add-multiple : tie.Need-mul-add-multiple Inv-loop μ-loop
 mul-add-multiple c = search needs
@@ -70,7 +70,7 @@ add-multiples-spec =
     μ-loop
     loop-holds
     mul-weights
-    element-copy-out-weights
+    array-copy-out-weights
     mul-add-multiple
     array-read-add-multiple
     add-multiple-requires
