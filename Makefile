@@ -12,7 +12,7 @@ library:
 	@rt staticlib mulzhegat
 
 bench: library
-	@cd rust && cargo run --release --offline --quiet --bin bench
+	@cd rust && cargo run --release --offline --quiet --bin bench -- --svg ../docs/benchmarks.svg
 
 # The random tests for longer than the gate does.
 soak: library

@@ -27,6 +27,8 @@
  *                             12     top >= bottom, left >= right, bottom > rows
  *                                    or right > columns                                      0
  *
+ * Words, blocks, rows and columns count from 0.
+ *
  * Where several causes hold, a plan reader's call is refused by the first of 1, 2, 3 from left to right (2 before 3 at one
  * word), then 5, then 4; every other call by the least number.
  *
@@ -37,6 +39,8 @@
  *
  * The functions keep no state between calls. Calls that share no buffer that one of them writes may run at the same time; two
  * mzg_task calls of one job must not. A job may be broken off between any two calls: keep plan, map, marks, strips and output.
+ * Of a job that is taken up again only the kind and the spare bits of its marks are tested, not that its buffers belong together:
+ * put a checksum over what you save. mzg_task takes about 20 KiB of stack, every other call less than 4 KiB.
  */
 #ifndef MULZHEGAT_H
 #define MULZHEGAT_H
@@ -130,6 +134,7 @@ uint64_t mzg_serial(const mzg_plan *plan, const int32_t *map, size_t map_len, ui
 
 /* Gives the sum over rows top to bottom - 1 and columns left to right - 1 from a finished summed-area table, modulo 2^64:
  * S(bottom-1, right-1) - S(top-1, right-1) - S(bottom-1, left-1) + S(top-1, left-1), a row or column of -1 counting as 0.
+ * Heights have 32 bits and a map no more than 2^24 of them, so that the sum of a summed-area table, read as int64_t, is exact.
  * The record, the length and the rectangle are tested, not that the table is a summed-area table.
  * Needs sizes.pixels table words. Refused: 6, 7, 12; the sum is then 0. */
 uint64_t mzg_rectangle(const mzg_plan *plan, size_t top, size_t left, size_t bottom, size_t right,
