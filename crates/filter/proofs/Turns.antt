@@ -2,7 +2,7 @@
 use mathlib.Core.Path.{_≡_, refl, ap, ap₂, sym, _∙_, fun-ext}
 use mathlib.Core.List.{List}
 use Prim.Native.Nat.{ℕ, zero, suc, _+_, _-_, _*_, _^_, _<_, _≤_, min}
-use native.Mathlib.Nat.{mul-le-mul-right}
+use native.Mathlib.Nat.{add-zero, add-suc, mul-le-mul-right}
 use native.Mathlib.Numerals.{add-one}
 use native.Mathlib.Omega.{arith}
 use lib.ListN.{set}
@@ -26,7 +26,6 @@ use Rattle.filter.specs.Kernel.{
   nextOutputAt,
   outputsAt,
   outputsAtTime,
-  outputsAtTwoTimes,
   filterInPlace,
 }
 
@@ -122,7 +121,6 @@ pub lines-fit-fewer : {n : ℕ} {L : Lines} {places : ℕ} → LinesFit n L plac
 lines-fit-fewer h p l =
     record {
       some = h .some;
-      one-way = h .one-way;
       enough = omega (arith, h .enough);
       low = λ t e. h .low t (omega arith);
       high = λ x t f e. h .high x t f (omega arith);
@@ -131,49 +129,18 @@ lines-fit-fewer h p l =
 pub apart-fewer : (L : Lines) (places : ℕ) → Apart L places → (p : ℕ) → p ≤ places → Apart L p
 apart-fewer L places apart p h l j t u a b c d = apart l j t u a b (omega arith) (omega arith)
 
--- Place t in a forward pass, where nothing lies back, and in a backward pass, where nothing lies forth.
-module _ (L : Lines) (t : ℕ) where
-  lead-forward : L .back ≡ 0 → leadPlace L t ≡ L .first + t * L .forth
-  lead-forward e = rw e (omega arith)
-
-  lead-backward : L .forth ≡ 0 → leadPlace L t ≡ L .first - t * L .back
-  lead-backward e = rw e (omega arith)
-
-  -- What fits, fits as it is called with,
-  pub forward-fits : (P : ℕ → ℕ → ℕ → Type 0) → L .back ≡ 0 → P (leadPlace L t) (L .forth) (L .back)
-      → P (L .first + t * L .forth) (L .forth) 0
-  forward-fits P z p = rw (lead-forward z, z) at p
-
-  pub backward-fits : (P : ℕ → ℕ → ℕ → Type 0) → L .forth ≡ 0 → P (leadPlace L t) (L .forth) (L .back)
-      → P (L .first - t * L .back) 0 (L .back)
-  backward-fits P z p = rw (lead-backward z, z) at p
-
-  -- and what the call gives is what was meant.
-  pub forward-outputs : (outputs : ℕ → ℕ → ℕ → List ℕ) {b : List ℕ} → L .back ≡ 0
-      → b ≡ outputs (L .first + t * L .forth) (L .forth) 0 → b ≡ outputs (leadPlace L t) (L .forth) (L .back)
-  forward-outputs outputs z e = rw (lead-forward z, z) e
-
-  pub backward-outputs : (outputs : ℕ → ℕ → ℕ → List ℕ) {b : List ℕ} → L .forth ≡ 0
-      → b ≡ outputs (L .first - t * L .back) 0 (L .back) → b ≡ outputs (leadPlace L t) (L .forth) (L .back)
-  backward-outputs outputs z e = rw (lead-backward z, z) e
-
+-- One place more of all lines,
 pub place-more : (L : Lines) (f : Filter) (q n : ℕ) (a b : List ℕ) {e : List ℕ}
     → b ≡ filterInPlace L f q n a → e ≡ outputsAtTime L (firstTaps (q + n) f) (q + n) b
     → e ≡ filterInPlace L f q (n + 1) a
 unfolding filterInPlace
 place-more L f q n a b p e = rw add-one (cc)
 
--- Two places more, where both have all their taps.
-pub two-places-more : (L : Lines) (f : Filter) (q n : ℕ) (a b : List ℕ) {e : List ℕ} → f .order ≤ q + n
-    → b ≡ filterInPlace L f q n a → e ≡ outputsAtTwoTimes L f (q + n) b → e ≡ filterInPlace L f q (n + 2) a
-two-places-more L f q n a b {e} h p g =
-    let all : (t : ℕ) → f .order ≤ t → f ≡ firstTaps t f =
-    λ t l. ap (λ r. record { gain = f .gain; order = r; coefficient = f .coefficient }) (omega arith) in
-    let c : List ℕ = outputsAtTime L f (q + n) b in
-    let first : c ≡ filterInPlace L f q (n + 1) a =
-    place-more L f q n a b p (ap (λ z. outputsAtTime L z (q + n) b) (all (q + n) h)) in
-    let second : e ≡ filterInPlace L f q (n + 1 + 1) a =
-    place-more L f q (n + 1) a c first
-    (g ∙ ap₂ (λ z t. outputsAtTime L z t c) (all (q + (n + 1)) (omega arith)) (omega arith)) in
-    let count : n + 1 + 1 ≡ n + 2 = omega arith in
-    rw count at second
+-- and any number of places more.
+pub places-more : (L : Lines) (f : Filter) (q n : ℕ) (a : List ℕ) {b : List ℕ} → b ≡ filterInPlace L f q n a → (m : ℕ)
+    → filterInPlace L f (q + n) m b ≡ filterInPlace L f q (n + m) a
+unfolding filterInPlace
+places-more L f q n a p zero = rw add-zero p
+places-more L f q n a p (suc m) =
+    let e : q + n + m ≡ q + (n + m) = omega arith in
+    rw (add-suc, e) (ap (outputsAtTime L (firstTaps (q + (n + m)) f) (q + (n + m))) (places-more L f q n a p m))

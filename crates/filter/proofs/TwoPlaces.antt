@@ -1,6 +1,6 @@
 -- Two places of each line at once are the one place of all lines and then the other, since no line's places are
 -- another's. Assumes nothing.
-use mathlib.Core.Path.{_≡_, refl, sym, ap, _∙_}
+use mathlib.Core.Path.{_≡_, refl, sym, ap, ap₂, _∙_}
 use mathlib.Core.List.{List}
 use mathlib.Core.Logic.{_≢_}
 use Prim.Native.Nat.{ℕ, zero, suc, _+_, _-_, _*_, _<_, _≤_}
@@ -24,7 +24,9 @@ use Rattle.filter.specs.Kernel.{
   TwoPlacesFit,
   leadPlace,
   linePlace,
-  outputsAtTwoTimes,
+  firstTaps,
+  outputsAtTime,
+  filterInPlace,
   LinesFit,
   Apart,
 }
@@ -177,11 +179,6 @@ next-lead : (L : Lines) (t : ℕ) → (t + 1) * L .back ≤ L .first
     → nextPlace (L .forth) (L .back) (leadPlace L t) ≡ leadPlace L (t + 1)
 next-lead L t h = omega arith
 
-pub two-times : {n : ℕ} (L : Lines) {places : ℕ} → LinesFit n L places → (f : Filter) (t : ℕ) (a : List ℕ) {b : List ℕ}
-    → t + 1 < places → b ≡ outputsAtTwo f (L .forth) (L .back) (L .apart) (leadPlace L t) (L .count) a
-    → b ≡ outputsAtTwoTimes L f t a
-two-times L fits f t a h e = rw (next-lead L t (fits .low (t + 1) h)) at e
-
 pub two-places-fit : {n : ℕ} (L : Lines) {places : ℕ} → LinesFit n L places → Apart L places → (t k : ℕ)
     → t + 1 < places → k ≤ t → TwoPlacesFit n (leadPlace L t) (L .forth) (L .back) (L .apart) (L .count) k
 two-places-fit L fits apart t k h e =
@@ -207,3 +204,17 @@ two-places-fit L fits apart t k h e =
             )),
       );
     }
+
+-- ---- they are two places of the fold, where the first has all its taps
+
+pub two-places : {n : ℕ} (L : Lines) {places : ℕ} → LinesFit n L places → (f : Filter) (t : ℕ) (b : List ℕ)
+    → t + 1 < places → f .order ≤ t
+    → outputsAtTwo f (L .forth) (L .back) (L .apart) (leadPlace L t) (L .count) b ≡ filterInPlace L f t 2 b
+unfolding filterInPlace
+two-places L fits f t b h l =
+    let all : (u : ℕ) → f .order ≤ u → f ≡ firstTaps u f =
+    λ u e. ap (λ r. record { gain = f .gain; order = r; coefficient = f .coefficient }) (omega arith) in
+    ap (λ c. outputsAt f (L .forth) (L .back) (L .apart) c (L .count) (outputsAtTime L f t b))
+    (next-lead L t (fits .low (t + 1) h))
+    ∙ ap₂ (λ g k. outputsAtTime L g (t + 1) (outputsAtTime L k t b)) (all (t + 1) (omega arith)) (all t l)
+    ∙ ap (λ u. outputsAtTime L (firstTaps (t + 1) f) (t + 1) (outputsAtTime L (firstTaps u f) u b)) (omega arith)

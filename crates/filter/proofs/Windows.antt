@@ -169,7 +169,6 @@ pub lines-fit : {n : ℕ} (a : Axis) (d : Direction) (W : Window) (q : ℕ) → 
 lines-fit a forward W q fits =
     record {
       some = some-lines a forward W q fits .0;
-      one-way = λ h. absurd (omega arith);
       enough = few-places a forward W q fits;
       low = λ t e. omega arith;
       high = λ l t h e. omega (arith, place-in a forward W q fits l t h e);
@@ -177,7 +176,6 @@ lines-fit a forward W q fits =
 lines-fit a backward W q fits =
     record {
       some = some-lines a backward W q fits .0;
-      one-way = λ h. refl;
       enough = few-places a backward W q fits;
       low = λ t e.
           let last : ℕ = (along a (W .height) (W .width) + q) - 1 in

@@ -94,20 +94,15 @@ firstTaps t f = record { gain = f .gain; order = min (f .order) t; coefficient =
 abbrev pub outputsAtTime : Lines → Filter → ℕ → List ℕ → List ℕ
 outputsAtTime L f t buffer = outputsAt f (L .forth) (L .back) (L .apart) (leadPlace L t) (L .count) buffer
 
--- The buffer after the outputs at places t and t + 1 of all lines.
-abbrev pub outputsAtTwoTimes : Lines → Filter → ℕ → List ℕ → List ℕ
-outputsAtTwoTimes L f t buffer = outputsAtTime L f (t + 1) (outputsAtTime L f t buffer)
-
 -- The buffer after the outputs at n places of each line, from place q on; what stands at the q places before is their
 -- history.
 unfoldable pub filterInPlace : Lines → Filter → ℕ → ℕ → List ℕ → List ℕ
 filterInPlace L f q zero buffer = buffer
 filterInPlace L f q (suc n) buffer = outputsAtTime L (firstTaps (q + n) f) (q + n) (filterInPlace L f q n buffer)
 
--- There are lines, in one direction, and their first `places` places, no more than n, lie in a buffer of n words.
+-- There are lines, and their first `places` places, no more than n, lie in a buffer of n words.
 pub record LinesFit (n : ℕ) (L : Lines) (places : ℕ) : Type 0 where
   pub some : 0 < L .count
-  pub one-way : 0 < L .back → L .forth ≡ 0
   pub enough : places ≤ n
   pub low : (t : ℕ) → t < places → t * L .back ≤ L .first
   pub high : (l t : ℕ) → l < L .count → t < places → L .first + t * L .forth + l * L .apart < n

@@ -1,15 +1,16 @@
 // The kernel of every pass: one recursive filter over the lines of a window of a buffer, in place.
 // An inner crate: what its functions require, their callers in this repository show.
-ghost use mathlib.Core.Bool.{true};
+ghost use mathlib.Core.Bool.{_&&_};
 ghost use mathlib.Core.Path.{_≡_};
-ghost use Prim.Native.Nat.{_+_, _^_, _<_, _≤_, min};
+ghost use Prim.Native.Nat.{_+_, _*_, _^_, _<_, _≤_, min};
+ghost use lib.Dec.{leb};
 ghost use lib.ListN.{length};
 ghost use Rattle.plan.specs.Rules.{orderLimit};
 ghost use Rattle.passes.specs.Passes.{columns, forward, axisOf, directionOf, along, across};
 ghost use Rattle.passes.specs.Pixel.{pixel};
 ghost use Rattle.passes.specs.Gains.{gainsFrom};
 ghost use Rattle.filter.specs.Filters.{filterBy, filterWith, filterWords, withGain, filtersOf, gainsFirstWords};
-ghost use Rattle.filter.specs.Kernel.{feedbackFrom, outputAt, nextOutputAt, TapsFit, outputsAt, PlacesFit, outputsAtTwo, TwoPlacesFit, outputsAtTime, outputsAtTwoTimes, filterInPlace, LinesFit, Apart};
+ghost use Rattle.filter.specs.Kernel.{feedbackFrom, outputAt, nextOutputAt, TapsFit, outputsAt, PlacesFit, outputsAtTwo, TwoPlacesFit, leadPlace, outputsAtTime, filterInPlace, LinesFit, Apart};
 ghost use Rattle.filter.specs.Windows.{isBackward, ifForward, ifBackward, windowLines, windowPass, scaleRow, scaleRows, WindowFits};
 
 // A filter: the gain and the coefficients of a pass as residues modulo 2^64.
@@ -159,7 +160,7 @@ fn next_output_at(
     less_feedback(buffer, place, forth, back, coefficients, order, 1, word)
 }
 
-// The outputs of many lines at one place. It stays a call: its independent sums hide the latency of the multiply.
+// The outputs of many lines at one place: independent sums, which hide the latency of the multiply.
 fn outputs_at_place(
     buffer: &mut [u64],
     place: usize,
@@ -182,8 +183,8 @@ fn outputs_at_place(
     }
 }
 
-// The outputs of many lines at one place and at the next, which share the words before them. It stays a call too. Its own
-// copy of the coefficients, which no store to the buffer can change, stays in registers.
+// The outputs of many lines at one place and at the next, which share the words before them. Its own copy of the
+// coefficients, which no store to the buffer can change, stays in registers.
 fn outputs_at_two_places(
     buffer: &mut [u64],
     place: usize,
@@ -217,7 +218,15 @@ pub fn lesser(a: usize, b: usize) -> usize
     if a < b { a } else { b }
 }
 
-// The outputs of all lines at place `time`. Two calls, one for each direction, keep `outputs_at_place` out of line.
+// Place `time` of the first line.
+fn lead_place(lines: Lines, time: usize) -> usize
+    requires { ⌜ (lines .first + time * lines .forth < 2 ^ 64) × (time * lines .back ≤ lines .first) ⌝ }
+    ensures { λ r. ⌜ r ≡ leadPlace lines time ⌝ }
+{
+    lines.first + time * lines.forth - time * lines.back
+}
+
+// The outputs of all lines at place `time`.
 fn outputs_at_time(
     buffer: &mut [u64],
     lines: Lines,
@@ -228,78 +237,51 @@ fn outputs_at_time(
     requires { ⌜ (order ≤ orderLimit) × (order ≤ time) × LinesFit (length (now buffer)) lines (time + 1) ⌝ }
     ensures { λ _. ⌜ now (buffer .exit) ≡ outputsAtTime lines (filterBy 1 order (now (coefficients .entry))) time (now (buffer .entry)) ⌝ }
 {
-    let apart = lines.apart;
-    let count = lines.count;
-    if lines.back == 0 {
-        let place = lines.first + time * lines.forth;
-        outputs_at_place(
-            buffer,
-            place,
-            lines.forth,
-            0,
-            apart,
-            count,
-            coefficients,
-            order,
-        );
-    } else {
-        let place = lines.first - time * lines.back;
-        outputs_at_place(
-            buffer,
-            place,
-            0,
-            lines.back,
-            apart,
-            count,
-            coefficients,
-            order,
-        );
-    }
+    let place = lead_place(lines, time);
+    outputs_at_place(
+        buffer,
+        place,
+        lines.forth,
+        lines.back,
+        lines.apart,
+        lines.count,
+        coefficients,
+        order,
+    );
 }
 
-// The outputs of all lines at place `time` and at the next. Two calls, as above.
-fn outputs_at_two_times(
+// The outputs of all lines at `pairs` pairs of places, from place `time` on, each with all its taps.
+fn outputs_in_pairs(
     buffer: &mut [u64],
     lines: Lines,
     time: usize,
+    pairs: usize,
     coefficients: &[u64; plan::ORDER_LIMIT],
     order: usize,
 )
-    requires { ⌜ (0 < order) × (order ≤ orderLimit) × (order ≤ time) × LinesFit (length (now buffer)) lines (time + 2) × Apart lines (time + 2) ⌝ }
-    ensures { λ _. ⌜ now (buffer .exit) ≡ outputsAtTwoTimes lines (filterBy 1 order (now (coefficients .entry))) time (now (buffer .entry)) ⌝ }
+    requires { ⌜ (0 < order) × (order ≤ orderLimit) × (order ≤ time) × LinesFit (length (now buffer)) lines (time + 2 * pairs) × Apart lines (time + 2 * pairs) ⌝ }
+    ensures { λ _. ⌜ now (buffer .exit) ≡ filterInPlace lines (filterBy 1 order (now (coefficients .entry))) time (2 * pairs) (now (buffer .entry)) ⌝ }
 {
-    let apart = lines.apart;
-    let count = lines.count;
-    if lines.back == 0 {
-        let place = lines.first + time * lines.forth;
+    let mut pair = 0;
+    while pair < pairs {
+        let place = lead_place(lines, time + 2 * pair);
         outputs_at_two_places(
             buffer,
             place,
             lines.forth,
-            0,
-            apart,
-            count,
-            coefficients,
-            order,
-        );
-    } else {
-        let place = lines.first - time * lines.back;
-        outputs_at_two_places(
-            buffer,
-            place,
-            0,
             lines.back,
-            apart,
-            count,
+            lines.apart,
+            lines.count,
             coefficients,
             order,
         );
+        pair += 1;
     }
 }
 
 // Whether two places can be done at once: the first has all its taps, and two are left.
 fn two_at_once(order: usize, time: usize, left: usize) -> bool
-    ensures { λ r. ⌜ (r ≡ true → (order ≤ time) × (2 ≤ left)) ⌝ }
+    ensures { λ r. ⌜ r ≡ (leb order time && leb 2 left) ⌝ }
 {
     if order <= time { left >= 2 } else { false }
 }
@@ -320,8 +302,9 @@ fn filter_lines(
     while done < places {
         let time = history + done;
         if two_at_once(order, time, places - done) {
-            outputs_at_two_times(buffer, lines, time, coefficients, order);
-            done += 2;
+            let pairs = (places - done) / 2;
+            outputs_in_pairs(buffer, lines, time, pairs, coefficients, order);
+            done += 2 * pairs;
         } else {
             let taps = lesser(order, time);
             outputs_at_time(buffer, lines, time, coefficients, taps);

@@ -1,12 +1,16 @@
 -- `filter_lines` has done the places passed so far of all lines.
-use mathlib.Core.Path.{_≡_, refl}
-use Prim.Native.Nat.{ℕ, _+_, _-_, _≤_}
+use mathlib.Core.Bool.{true, _&&_}
+use mathlib.Core.Path.{_≡_, refl, sym, _∙_}
+use Prim.Native.Nat.{ℕ, _+_, _-_, _*_, _/_, _≤_}
 use native.Mathlib.Omega.{arith}
 use borrow.Author.Needs.{needs}
+use borrow.Author.Tests.{leb-true}
+use lib.Dec.{leb}
 use lib.ListN.{length}
+use Rattle.plan.proofs.Tests.{and-left, and-right}
 use Rattle.filter.specs.Filters.{filterBy}
 use Rattle.filter.specs.Kernel.{filterInPlace}
-use Rattle.filter.proofs.Turns.{lines-fit-fewer, apart-fewer, place-more, two-places-more}
+use Rattle.filter.proofs.Turns.{lines-fit-fewer, apart-fewer, place-more, places-more}
 use Rattle.filter.proofs.filter_lines.Statement.{statement}
 use Rattle.filter.proofs.filter_lines.Tie as tie
 
@@ -18,6 +22,19 @@ Inv-loop buffer₀ lines history places coefficients order done₀ buffer done =
 
 abbrev μ-loop : tie.MeasureT-loop
 μ-loop buffer₀ lines history places coefficients order done₀ buffer done = places - done
+
+-- Where places are done in pairs, the first has all its taps, and there is a pair.
+in-pairs : (c : tie.Then1 Inv-loop μ-loop)
+    → let l = c .before .before .before in
+    let a = l .before .before .args in
+    (a .order ≤ a .history + l .loop .done) × (2 ≤ a .places - l .loop .done)
+in-pairs c =
+    let l = c .before .before .before in
+    let a = l .before .before .args in
+    let all-taps = leb (a .order) (a .history + l .loop .done) in
+    let pair = leb 2 (a .places - l .loop .done) in
+    let e : (all-taps && pair) ≡ true = sym (c .before .two-at-once .ensures) ∙ c .if1 .taken in
+    (leb-true _ _ (and-left all-taps pair e), leb-true _ _ (and-right all-taps pair e))
 
 loop-holds : tie.Need-loop-holds Inv-loop μ-loop
 unfolding filterInPlace
@@ -32,40 +49,39 @@ sub-two-at-once c = search needs
 two-at-once-requires : tie.Need-two-at-once-requires Inv-loop μ-loop
 two-at-once-requires c κs = search needs
 
-outputs-at-two-times-requires : tie.Need-outputs-at-two-times-requires Inv-loop μ-loop
-outputs-at-two-times-requires c κs =
-    let t = c .before in
-    let l = t .before .before .before in
+sub-pairs : tie.Need-sub-pairs Inv-loop μ-loop
+sub-pairs c = search needs
+
+outputs-in-pairs-requires : tie.Need-outputs-in-pairs-requires Inv-loop μ-loop
+outputs-in-pairs-requires c κs =
+    let l = c .before .before .before .before in
     let s = l .before .before in
-    let both = t .before .two-at-once .ensures (t .if1 .taken) in
-    let places : ℕ = s .args .history + l .loop .done + 2 in
-    let few : places ≤ s .args .history + s .args .places = omega (arith, both .1) in
+    let places : ℕ = s .args .history + l .loop .done + 2 * ((s .args .places - l .loop .done) / 2) in
+    let few : places ≤ s .args .history + s .args .places = omega arith in
     let e : length (l .loop .buffer) ≡ length (s .args .buffer .now) = l .loop .inv .1 in (
       s .pre .0,
       s .pre .1,
-      both .0,
+      in-pairs (c .before) .0,
       rw e (lines-fit-fewer (s .pre .2) places few),
       apart-fewer (s .args .lines) _ (s .pre .3) places few,
     )
 
+mul-done : tie.Need-mul-done Inv-loop μ-loop
+mul-done c = search needs
+
 add-done : tie.Need-add-done Inv-loop μ-loop
-add-done c =
-    let t = c .before .before .before .before in
-    omega (arith, t .before .two-at-once .ensures (t .if1 .taken) .1)
+add-done c = search needs
 
 loop-less : tie.Need-loop-less Inv-loop μ-loop
-loop-less c = search needs
+loop-less c = omega (arith, in-pairs (c .before .before .before .before) .1)
 
 loop-again : tie.Need-loop-again Inv-loop μ-loop
 loop-again c =
     let f = c .before .before in
-    let t = f .before .before in
-    let l = t .before .before .before in
-    let both = t .before .two-at-once .ensures (t .if1 .taken) in (
-      omega (arith, both .1),
-      omega (arith, f .outputs-at-two-times .kept, l .loop .inv .1),
-      two-places-more _ _ _ (l .loop .done) _ (l .loop .buffer) (both .0) (l .loop .inv .2)
-          (f .outputs-at-two-times .ensures),
+    let l = f .before .before .before .before .before in (
+      omega arith,
+      omega (arith, f .outputs-in-pairs .kept, l .loop .inv .1),
+      f .outputs-in-pairs .ensures ∙ places-more _ _ _ (l .loop .done) _ (l .loop .inv .2) _,
     )
 
 lesser-requires : tie.Need-lesser-requires Inv-loop μ-loop
@@ -116,7 +132,9 @@ filter-lines-spec =
     add-time
     sub-two-at-once
     two-at-once-requires
-    outputs-at-two-times-requires
+    sub-pairs
+    outputs-in-pairs-requires
+    mul-done
     add-done
     loop-less
     loop-again
