@@ -1,5 +1,4 @@
--- The rectangle of the neighbour's strip, times a gain, as the code copies it into a margin: rows of the array for a pass down or up,
--- columns for one to the right or left. Assumes nothing.
+-- The rectangle of the neighbour's strip, times a gain, as the code copies it into a margin. Assumes nothing.
 use mathlib.Core.Path.{_≡_}
 use mathlib.Core.Bool.{true}
 use mathlib.Core.List.{List}
@@ -10,110 +9,78 @@ use Rattle.plan.specs.declared.Plan.{Plan}
 use Rattle.plan.specs.Rules.{orderLimit, keepsRules}
 use Rattle.plan.specs.Sizes.{neededMarks, neededStrips}
 use Rattle.plan.proofs.Record.{order-limited-at}
-use Rattle.passes.specs.Passes.{Axis, columns, rows, Direction, forward, backward, axisOf, directionOf, along, across}
+use Rattle.passes.specs.Passes.{Axis, Direction, axisOf, directionOf, along, across}
 use Rattle.blocks.specs.Strips.{orderOf}
 use Rattle.strips.specs.declared.BlockShape.{BlockShape}
 use Rattle.strips.specs.declared.Strip.{Strip}
 use Rattle.strips.specs.Shapes.{shapeOf}
 use Rattle.strips.specs.Reading.{stripBefore}
-use Rattle.strips.proofs.Passes.{axis-columns, axis-rows}
 use Rattle.block.specs.Copies.{gridScaled, gridWritten, GridFits}
 use Rattle.block.specs.Work.{workStride, workWords, workPlace, ShapeFits, marginStart, MarginClear, MarginLoaded}
-use Rattle.block.proofs.Work.{shape-fits, lines-small}
+use Rattle.block.proofs.Work.{shape-in-work, lines-small, lines-fit}
 use Rattle.block.proofs.Neighbours.{StripLies, before-lies}
-use Rattle.block.proofs.Margins.{margin-loaded}
-
--- All places of a margin lie in the array.
-margin-room : (d : Direction) (order n start : ℕ) → order ≤ orderLimit → n ≤ 32 → start ≡ marginStart d order n
-    → start + order ≤ workStride
-margin-room forward order n start h s e = omega arith
-margin-room backward order n start h s e = omega arith
+use Rattle.block.proofs.Margins.{margin-room, margin-loaded}
 
 module _ (plan : Plan) (k pass : ℕ) (kept : keepsRules plan ≡ true) (here : k < neededMarks plan) (counted : pass < 4)
-    (shape : BlockShape) (shaped : shape ≡ shapeOf plan k) (strip : Strip) (stripped : strip ≡ stripBefore plan k pass) (n : ℕ)
-    (long : neededStrips plan ≤ n) where
-  abbrev order : ℕ
-  order = orderOf plan pass
+    (shape : BlockShape) (shaped : shape ≡ shapeOf plan k) where
+  abbrev a : Axis
+  a = axisOf pass
 
   abbrev d : Direction
   d = directionOf pass
 
-  abbrev places : ℕ
-  places = strip .past - strip .first
+  abbrev order : ℕ
+  order = orderOf plan pass
 
-  abbrev first-word : ℕ
-  first-word = strip .start + strip .first * strip .«place_step»
+  abbrev extent : ℕ
+  extent = along a (shape .rows) (shape .columns)
+
+  abbrev lines : ℕ
+  lines = across a (shape .rows) (shape .columns)
 
   limited : order ≤ orderLimit
   limited = order-limited-at plan kept pass counted
 
-  pub shape-taken : ShapeFits shape
-  shape-taken = rw shaped (shape-fits plan k kept here)
+  fits : ShapeFits shape
+  fits = shape-in-work plan k 0 shape shaped kept here
 
-  pub strip-lies : StripLies (axisOf pass) n order (across (axisOf pass) (shape .rows) (shape .columns)) strip
-  unfolding shapeOf
-  strip-lies = rw (stripped, shaped) (before-lies plan k pass n kept here counted long)
+  small : (lines ≤ 32) × (extent ≤ 32)
+  small = lines-small a (shape .rows) (shape .columns) (fits .rows-high) (fits .columns-high)
 
-  few-lines : strip .lines ≤ 32
-  few-lines =
-      omega (
-        arith,
-        strip-lies .few-lines,
-        lines-small (axisOf pass) (shape .rows) (shape .columns) (shape-taken .rows-high) (shape-taken .columns-high) .0,
-      )
+  pub extent-small : extent ≤ 32
+  extent-small = small .1
 
-  -- ---- what fits
+  module _ (strip : Strip) (stripped : strip ≡ stripBefore plan k pass) (n : ℕ) (long : neededStrips plan ≤ n) where
+    abbrev places : ℕ
+    places = strip .past - strip .first
 
-  strip-in-list : (a : Axis) → axisOf pass ≡ a
-      → GridFits n first-word (along a (strip .«place_step») (strip .«line_step»)) (along a places (strip .lines))
-      (across a places (strip .lines))
-  strip-in-list a e = rw e at (strip-lies .grid-in)
+    pub strip-lies : StripLies a n order lines strip
+    unfolding shapeOf
+    strip-lies = rw (stripped, shaped) (before-lies plan k pass n kept here counted long)
 
-  pub rows-in-list : pass < 2 → GridFits n first-word (strip .«place_step») places (strip .lines)
-  rows-in-list h = strip-in-list columns (axis-columns pass h)
+    -- What is copied begins at index start + first of each line.
+    module _ (start : ℕ) (starts : start ≡ marginStart d order extent) where
+      last-in-work : start + strip .past ≤ workStride
+      last-in-work = omega (arith, margin-room d order extent limited extent-small, strip-lies .few-places)
 
-  pub columns-in-list : 2 ≤ pass → GridFits n first-word (strip .«line_step») (strip .lines) places
-  columns-in-list h = strip-in-list rows (axis-rows pass h)
+      pub first-in-work : start + strip .first ≤ workStride
+      first-in-work = omega (arith, last-in-work, strip-lies .ordered)
 
-  module _ (extent start : ℕ) (small : extent ≤ 32) (starts : start ≡ marginStart d order extent) where
-    pub last-in-work : start + strip .past ≤ workStride
-    last-in-work = omega (arith, margin-room d order extent start limited small starts, strip-lies .few-places)
+      pub strip-in-work : (m : ℕ) → m ≡ workWords
+          → GridFits m (workPlace a 0 (start + strip .first)) workStride (along a places (strip .lines))
+          (across a places (strip .lines))
+      strip-in-work m sized =
+          lines-fit a (start + strip .first) places (strip .lines) m (omega (arith, last-in-work, strip-lies .ordered))
+          (omega (arith, small .0, strip-lies .few-lines)) sized
 
-    pub first-in-work : start + strip .first ≤ workStride
-    first-in-work = omega (arith, last-in-work, strip-lies .ordered)
-
-    pub rows-in-work : (m : ℕ) → m ≡ workWords
-        → GridFits m ((start + strip .first) * workStride + orderLimit) workStride places (strip .lines)
-    rows-in-work m sized = record { row = λ y h. omega (arith, last-in-work, few-lines) }
-
-    pub columns-in-work : (m : ℕ) → m ≡ workWords
-        → GridFits m (orderLimit * workStride + (start + strip .first)) workStride (strip .lines) places
-    columns-in-work m sized = record { row = λ y h. omega (arith, last-in-work, few-lines, strip-lies .ordered) }
-
-  -- ---- what is copied
-
-  module _ (gain : ℕ) (strips before after : List ℕ) (sized : length before ≡ workWords)
-      (clear : MarginClear plan shape pass before) (start : ℕ) where
-    on-axis : (a : Axis) → axisOf pass ≡ a
-        → after
-        ≡ gridWritten (workPlace a 0 (marginStart d order (along a (shape .rows) (shape .columns)) + strip .first)) workStride
-        (across a places (strip .lines)) (gridScaled gain strips first-word (along a (strip .«place_step») (strip .«line_step»)))
-        (along a places (strip .lines)) before
-        → MarginLoaded plan shape pass gain (stripBefore plan k pass) strips before after
-    on-axis a e copied =
-        rw (← stripped)
-        (margin-loaded plan shape shape-taken pass limited gain n strip strips before after strip-lies sized (rw e copied) clear)
-
-    pub rows-loaded : pass < 2 → start ≡ marginStart d order (shape .rows)
-        → after
-        ≡ gridWritten ((start + strip .first) * workStride + orderLimit) workStride (strip .lines)
-        (gridScaled gain strips first-word (strip .«place_step»)) places before
-        → MarginLoaded plan shape pass gain (stripBefore plan k pass) strips before after
-    rows-loaded h starts copied = on-axis columns (axis-columns pass h) (rw starts at copied)
-
-    pub columns-loaded : 2 ≤ pass → start ≡ marginStart d order (shape .columns)
-        → after
-        ≡ gridWritten (orderLimit * workStride + (start + strip .first)) workStride places
-        (gridScaled gain strips first-word (strip .«line_step»)) (strip .lines) before
-        → MarginLoaded plan shape pass gain (stripBefore plan k pass) strips before after
-    columns-loaded h starts copied = on-axis rows (axis-rows pass h) (rw starts at copied)
+      pub strip-loaded : (gain : ℕ) (strips before after : List ℕ) → length before ≡ workWords
+          → MarginClear plan shape pass before
+          → after
+          ≡ gridWritten (workPlace a 0 (start + strip .first)) workStride (across a places (strip .lines))
+          (gridScaled gain strips (strip .start + strip .first * strip .«place_step»)
+          (along a (strip .«place_step») (strip .«line_step»)))
+          (along a places (strip .lines)) before
+          → MarginLoaded plan shape pass gain (stripBefore plan k pass) strips before after
+      strip-loaded gain strips before after sized clear copied =
+          rw (← stripped)
+          (margin-loaded plan shape fits pass limited gain n strip strips before after strip-lies sized (rw starts at copied) clear)

@@ -38,7 +38,7 @@ use Rattle.block.specs.Work.{
   MarginLoaded,
 }
 use Rattle.block.proofs.Copies.{rectangle-length, rectangle-at, rectangle-other}
-use Rattle.block.proofs.Work.{work-apart, work-below, lines-small, across-below, along-below, outside-block}
+use Rattle.block.proofs.Work.{line-place, work-apart, work-below, lines-small, across-below, along-below, outside-block}
 use Rattle.block.proofs.Neighbours.{StripLies}
 
 -- The words beside a window are those of the work array's margin.
@@ -54,10 +54,13 @@ beyond-place forward order n i h b = omega arith
 beyond-place backward order n i h b = refl
 
 -- A margin lies in the array, outside the block.
+pub margin-room : (d : Direction) (order n : ℕ) → order ≤ orderLimit → n ≤ 32 → marginStart d order n + order ≤ workStride
+margin-room forward order n h s = omega arith
+margin-room backward order n h s = omega arith
+
 margin-index : (d : Direction) (order n i : ℕ) → order ≤ orderLimit → n ≤ 32 → i < order
     → marginStart d order n + i < workStride
-margin-index forward order n i h s b = omega arith
-margin-index backward order n i h s b = omega arith
+margin-index d order n i h s b = omega (arith, margin-room d order n h s)
 
 margin-outside : (d : Direction) (order n i : ℕ) → order ≤ orderLimit → i < order
     → orderLimit ≤ marginStart d order n + i → marginStart d order n + i < orderLimit + n → ⊥
@@ -127,12 +130,6 @@ margins-apart plan shape fits t u later counted low high l i m j hl hi hm hj g =
     (sym g)
 
 -- ---- one margin
-
--- The rectangle's place of a line and a place of the strip.
-grid-place : (a : Axis) (start first y x : ℕ)
-    → gridPlace (workPlace a 0 (start + first)) workStride y x ≡ workPlace a (across a y x) (start + (first + along a y x))
-grid-place columns start first y x = omega arith
-grid-place rows start first y x = omega arith
 
 turned : (a : Axis) (i l : ℕ)
     → (across a (along a i l) (across a i l) ≡ l) × (along a (along a i l) (across a i l) ≡ i)
@@ -213,7 +210,8 @@ module _ (plan : Plan) (shape : BlockShape) (fits : ShapeFits shape) (pass : ℕ
 
     -- A place of the rectangle is one of the margin.
     cell-is : (y x : ℕ) → gridPlace to workStride y x ≡ place (across a y x) (strip .first + along a y x)
-    cell-is y x = grid-place a (marginStart d order extent) (strip .first) y x
+    cell-is y x =
+        line-place a (marginStart d order extent + strip .first) y x ∙ ap (workPlace a (across a y x)) (omega arith)
 
     cell-line : (y x : ℕ) → y < h → x < w → across a y x < strip .lines
     cell-line y x p q = turned-below a places (strip .lines) y x p q .0

@@ -18,7 +18,7 @@ use Rattle.blocks.proofs.Geometry.{block-row-below, block-column-below}
 use Rattle.filter.proofs.RowMajor.{same-row-column, place-below}
 use Rattle.strips.specs.declared.BlockShape.{BlockShape}
 use Rattle.strips.specs.Shapes.{shapeOf}
-use Rattle.block.specs.Copies.{GridFits}
+use Rattle.block.specs.Copies.{gridPlace, GridFits}
 use Rattle.block.specs.Work.{workStride, workWords, workCorner, workWindow, workPlace, ShapeFits}
 
 -- ---- what fits
@@ -83,6 +83,23 @@ module _ (plan : Plan) (k n : ℕ) (shape : BlockShape) (shaped : shape ≡ shap
 
   pub corner-in-map : neededPixels plan ≤ n → shape .«first_row» * plan .columns + shape .«first_column» ≤ n
   corner-in-map long = omega (arith, block-in-map long .row 0 (shape-in-work .tall))
+
+-- ---- rectangles of lines
+
+-- The place of the first line's index i as the code chooses it,
+pub place-along : (a : Axis) (i : ℕ) → along a (i * workStride + orderLimit) (orderLimit * workStride + i) ≡ workPlace a 0 i
+place-along columns i = refl
+place-along rows i = refl
+
+-- and the places of a rectangle that starts there.
+pub line-place : (a : Axis) (i y x : ℕ) → gridPlace (workPlace a 0 i) workStride y x ≡ workPlace a (across a y x) (i + along a y x)
+line-place columns i y x = omega arith
+line-place rows i y x = omega arith
+
+pub lines-fit : (a : Axis) (i places lines n : ℕ) → i + places ≤ workStride → lines ≤ 32 → n ≡ workWords
+    → GridFits n (workPlace a 0 i) workStride (along a places lines) (across a places lines)
+lines-fit columns i places lines n h s e = record { row = λ y c. omega arith }
+lines-fit rows i places lines n h s e = record { row = λ y c. omega arith }
 
 -- ---- lines are apart
 

@@ -10,14 +10,14 @@ ghost use Prim.Native.Nat.{_+_, _<_, _≤_};
 ghost use lib.ListN.{length};
 ghost use Rattle.plan.specs.Rules.{orderLimit, keepsRules};
 ghost use Rattle.plan.specs.Sizes.{neededMarks, neededStrips, neededPixels};
-ghost use Rattle.passes.specs.Passes.{directionOf};
+ghost use Rattle.passes.specs.Passes.{axisOf, directionOf};
 ghost use Rattle.filter.specs.Filters.{filterWith};
 ghost use Rattle.blocks.specs.Strips.{stripWritten};
 ghost use Rattle.blocks.specs.Writes.{mapOf, collected, finished};
 ghost use Rattle.strips.specs.Shapes.{shapeOf};
 ghost use Rattle.strips.specs.Reading.{stripBefore};
 ghost use Rattle.block.specs.Copies.{wordsFrom, scaledFrom, heightsFrom, noWords, rowWritten, gridScaled, gridHeights, gridWritten, GridFits};
-ghost use Rattle.block.specs.Work.{workStride, workWords, workCorner, ShapeFits, ClearOutside, BlockRead, marginStart, MarginClear, MarginLoaded, blockPass, edgeStart, workEdge};
+ghost use Rattle.block.specs.Work.{workStride, workWords, workCorner, ShapeFits, ClearOutside, BlockRead, workPlace, marginStart, MarginClear, MarginLoaded, blockPass, edgeStart, workEdge};
 
 // The margin on each side of the block, and the rows of the work array.
 const MARGIN: usize = plan::ORDER_LIMIT;
@@ -272,6 +272,14 @@ fn run_block_pass(shape: BlockShape, pass: usize, words: FilterWords, work: &mut
     filter::run_pass(work, window, pass, words.order, words);
 }
 
+// The place in the work array of an index of the block's first line.
+fn work_place(pass: usize, index: usize) -> usize
+    requires { ⌜ index ≤ workStride ⌝ }
+    ensures { λ r. ⌜ r ≡ workPlace (axisOf pass) 0 index ⌝ }
+{
+    filter::along(pass, index * STRIDE + MARGIN, MARGIN * STRIDE + index)
+}
+
 fn margin_start(pass: usize, order: usize, extent: usize) -> usize
     requires { ⌜ (order ≤ orderLimit) × (extent ≤ 32) ⌝ }
     ensures { λ r. ⌜ r ≡ marginStart (directionOf pass) order extent ⌝ }
@@ -302,33 +310,19 @@ fn load_margin(
     let first = strip.first;
     let places = strip.past - first;
     let start = strip.start + first * strip.place_step;
-    if pass < 2 {
-        let row = margin_start(pass, described.order, shape.rows) + first;
-        copy_rectangle(
-            strips,
-            start,
-            strip.place_step,
-            work,
-            row * STRIDE + MARGIN,
-            STRIDE,
-            places,
-            strip.lines,
-            gain,
-        );
-    } else {
-        let column = margin_start(pass, described.order, shape.columns) + first;
-        copy_rectangle(
-            strips,
-            start,
-            strip.line_step,
-            work,
-            MARGIN * STRIDE + column,
-            STRIDE,
-            strip.lines,
-            places,
-            gain,
-        );
-    }
+    let extent = filter::along(pass, shape.rows, shape.columns);
+    let index = margin_start(pass, described.order, extent) + first;
+    copy_rectangle(
+        strips,
+        start,
+        filter::along(pass, strip.place_step, strip.line_step),
+        work,
+        work_place(pass, index),
+        STRIDE,
+        filter::along(pass, places, strip.lines),
+        filter::across(pass, places, strip.lines),
+        gain,
+    );
 }
 
 fn edge_start(pass: usize, order: usize, extent: usize) -> usize
@@ -374,31 +368,18 @@ fn write_strip(
         clear_words(strips, start, side * order);
         return;
     }
-    if pass < 2 {
-        let row = edge_start(pass, order, shape.rows);
-        copy_rectangle(
-            work,
-            row * STRIDE + MARGIN,
-            STRIDE,
-            strips,
-            start,
-            side,
-            order,
-            side,
-            gain,
-        );
-    } else {
-        let column = edge_start(pass, order, shape.columns);
-        copy_rectangle(
-            work,
-            MARGIN * STRIDE + column,
-            STRIDE,
-            strips,
-            start,
-            order,
-            side,
-            order,
-            gain,
-        );
-    }
+    let extent = filter::along(pass, shape.rows, shape.columns);
+    let index = edge_start(pass, order, extent);
+    let width = filter::across(pass, order, side);
+    copy_rectangle(
+        work,
+        work_place(pass, index),
+        STRIDE,
+        strips,
+        start,
+        width,
+        filter::along(pass, order, side),
+        width,
+        gain,
+    );
 }

@@ -314,13 +314,13 @@ fn filter_lines(
 }
 
 // Passes 0 down, 1 up, 2 right and 3 left: the first two run along columns,
-fn along(pass: usize, vertical: usize, horizontal: usize) -> usize
+pub fn along(pass: usize, vertical: usize, horizontal: usize) -> usize
     ensures { λ r. ⌜ r ≡ along (axisOf pass) vertical horizontal ⌝ }
 {
     if pass < 2 { vertical } else { horizontal }
 }
 
-fn across(pass: usize, vertical: usize, horizontal: usize) -> usize
+pub fn across(pass: usize, vertical: usize, horizontal: usize) -> usize
     ensures { λ r. ⌜ r ≡ across (axisOf pass) vertical horizontal ⌝ }
 {
     if pass < 2 { horizontal } else { vertical }

@@ -122,7 +122,7 @@ loop-again c =
       omega arith,
       omega (arith, c .before .before .write-strip .kept, l .loop .inv .1),
       alone,
-      slot-more (s .args .t1) (s .args .k) kept here (mapOf (s .args .t1) (s .args .map .now)) (l .loop .pass) counted _ alone _
+      slot-more (s .args .t1) (s .args .k) (l .loop .pass) kept here counted (mapOf (s .args .t1) (s .args .map .now)) _ alone _
           (c .before .before .before .before .before .gains-from .ensures) (s .args .strips .now) (l .loop .strips) _ (l .loop .inv .3) (c .before .before .write-strip .ensures),
     )
 
