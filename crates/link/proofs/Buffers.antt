@@ -1,22 +1,23 @@
 -- One turn of each loop over a buffer. Assumes nothing.
 use mathlib.Core.List.{List}
-use mathlib.Core.Path.{_≡_, refl, ap, _∙_}
+use mathlib.Core.Path.{_≡_, refl, _∙_}
 use mathlib.Core.Logic.{_≢_}
 use Prim.Native.Nat.{ℕ, zero, suc, _+_, _*_, _<_}
 use native.Mathlib.Decide.{decLt}
 use native.Mathlib.Omega.{arith}
 use native.Mathlib.Numerals.{add-one}
 use lib.ListN.{length, set}
+use Rattle.word.specs.Word.{_⊗_}
 use Rattle.plan.specs.Rules.{orderLimit}
 use Rattle.passes.specs.Passes.{Direction}
-use Rattle.filter.proofs.Written.{written-next, written-length, written-same-words, written-other, written-at}
+use Rattle.filter.proofs.Written.{written-next, written-length, written-other, written-at}
 use Rattle.filter.specs.Buffer.{wordAt}
 use Rattle.filter.specs.Windows.{beyond}
 use Rattle.filter.specs.Written.{written}
 use Rattle.blocks.specs.Strips.{fromEdge}
 use Rattle.strips.specs.declared.Strip.{Strip}
 use Rattle.squares.specs.Lines.{rowWords}
-use Rattle.link.specs.Words.{rowsWritten, stripLine, stripLines, copied, endsCopied}
+use Rattle.link.specs.Words.{rowsWritten, stripLine, stripLines, scaled, copied, endsCopied}
 use Rattle.link.specs.declared.Course.{Course}
 
 -- A store at the next place.
@@ -60,28 +61,29 @@ module _ (start : ℕ → ℕ) (words : ℕ → ℕ → ℕ) (width : ℕ → �
 
 -- ---- the loops
 
-pub strip-lines-next : (d : Direction) (order : ℕ) (strip : Strip) (strips : List ℕ) (row places n : ℕ) (before : List ℕ)
-    {b a : List ℕ} {place : ℕ}
-    → b ≡ stripLines d order strip strips row places n before → place ≡ fromEdge d order n
-    → a ≡ stripLine strip strips place (row + n) places b
-    → a ≡ stripLines d order strip strips row places (n + 1) before
+pub strip-lines-next : (gain : ℕ) (d : Direction) (order : ℕ) (strip : Strip) (strips : List ℕ) (row places n : ℕ)
+    (before : List ℕ) {b a : List ℕ} {place : ℕ}
+    → b ≡ stripLines gain d order strip strips row places n before → place ≡ fromEdge d order n
+    → a ≡ stripLine gain strip strips place (row + n) places b
+    → a ≡ stripLines gain d order strip strips row places (n + 1) before
 unfolding stripLines rowsWritten stripLine
-strip-lines-next d order strip strips row places n before e f g = rw (add-one n) (rw (← e, ← f) g)
+strip-lines-next gain d order strip strips row places n before e f g = rw (add-one n) (rw (← e, ← f) g)
 
-pub copied-next : (to : ℕ) (words : List ℕ) (at step n : ℕ) (before : List ℕ) {b : List ℕ}
-    → b ≡ copied to words at step n before
-    → set b (to + n) (wordAt words (at + n * step)) ≡ copied to words at step (n + 1) before
+pub scaled-next : (gain to : ℕ) (words : List ℕ) (at step n : ℕ) (before : List ℕ) {b : List ℕ} {v : ℕ}
+    → b ≡ scaled gain to words at step n before → v ≡ gain ⊗ wordAt words (at + n * step)
+    → set b (to + n) v ≡ scaled gain to words at step (n + 1) before
+unfolding scaled
+scaled-next gain to words at step n before e f = written-more (λ p. to + p) _ n before e f
+
+pub copied-next : (to : ℕ) (words : List ℕ) (at n : ℕ) (before : List ℕ) {b : List ℕ} → b ≡ copied to words at n before
+    → set b (to + n) (wordAt words (at + n)) ≡ copied to words at (n + 1) before
 unfolding copied
-copied-next to words at step n before e =
-    written-more (λ p. to + p) (λ p. wordAt words (at + p * step)) n before e refl
+copied-next to words at n before e = written-more (λ p. to + p) (λ p. wordAt words (at + p)) n before e refl
 
 pub ends-next : (d : Direction) (course : Course) (row : ℕ) (lines : List ℕ) (n : ℕ) (before : List ℕ) {b a : List ℕ}
     {to : ℕ}
     → b ≡ endsCopied d course row lines n before → to ≡ beyond d orderLimit (course .lines) n
-    → a ≡ copied (to * orderLimit) lines ((row + n) * rowWords + course .from) 1 (course .order) b
+    → a ≡ copied (to * orderLimit) lines ((row + n) * rowWords + course .from) (course .order) b
     → a ≡ endsCopied d course row lines (n + 1) before
 unfolding endsCopied rowsWritten copied
-ends-next d course row lines n before e f g =
-    rw (add-one n)
-    (rw (← e, ← f)
-    (g ∙ written-same-words _ _ _ (course .order) _ (λ p h. ap (wordAt lines) (omega arith))))
+ends-next d course row lines n before e f g = rw (add-one n) (rw (← e, ← f) g)

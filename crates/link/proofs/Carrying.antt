@@ -6,7 +6,7 @@ use native.Mathlib.Omega.{arith}
 use native.Mathlib.Numerals.{add-one}
 use native.Mathlib.Decide.{decLt, ℕ-discrete}
 use lib.ListN.{length, set, getD}
-use Rattle.word.proofs.Ring.{add-assoc, zero-mul, zero-right, reduced-small}
+use Rattle.word.proofs.Ring.{add-assoc, mul-assoc, mul-left-comm, mul-zero, zero-mul, zero-right, reduced-small}
 use Rattle.word.specs.Word.{_⊕_, _⊗_}
 use Rattle.plan.specs.Rules.{orderLimit}
 use Rattle.plan.specs.declared.Plan.{Plan}
@@ -17,16 +17,15 @@ use Rattle.filter.proofs.RowMajor.{same-row-column}
 use Rattle.filter.proofs.Written.{written-length, written-other, written-at}
 use Rattle.filter.specs.Buffer.{wordAt}
 use Rattle.filter.specs.declared.FilterWords.{FilterWords}
-use Rattle.blocks.specs.Strips.{fromEdge, pastEdges}
 use Rattle.strips.specs.Reading.{stripBefore, stripRead}
 use Rattle.strips.specs.declared.Strip.{Strip}
 use Rattle.squares.specs.LinePasses.{passSquare, withHistories, crossed, response}
 use Rattle.squares.specs.Lines.{rowWords, rowsBefore, filterAt}
-use Rattle.link.specs.Courses.{indexAt, CourseFits, LinkFits}
+use Rattle.link.specs.Courses.{gainsAfter, scaledEdges, indexAt, CourseFits, LinkFits}
 use Rattle.link.specs.Words.{responseWords, LinesReady, responsePlace, linesInside, multipleAdded, weightsAt, MultiplesAdded, DistanceAdded, historyWord, HistoriesAdded, Carried, Held}
 use Rattle.link.specs.declared.Course.{Course}
 use Rattle.link.proofs.Buffers.{written-more}
-use Rattle.link.proofs.Courses.{link-orders, past-edges}
+use Rattle.link.proofs.Courses.{link-orders, scaled-edges}
 use Rattle.link.proofs.Reading.{read-inside, read-outside}
 use Rattle.link.proofs.Weights.{sum-reads}
 
@@ -50,14 +49,18 @@ pub multiples-none : (lines : ℕ) (words weights : ℕ → ℕ) (before : List 
 multiples-none lines words weights before =
     record { length-kept = refl; at = λ line place h b. absurd (omega arith); rest = λ line place h b. refl }
 
+-- The gain of a word may go to its weight.
+gain-of-weight : (gain word weight : ℕ) → word ⊗ (gain ⊗ weight) ≡ (gain ⊗ word) ⊗ weight
+gain-of-weight gain word weight = mul-left-comm word gain weight ∙ sym (mul-assoc gain word weight)
+
 -- One place more.
-pub multiples-next : (lines n : ℕ) (strips : List ℕ) (at step : ℕ) (weights : ℕ → ℕ) (before : List ℕ) → lines ≤ 32
-    → n < orderLimit → length before ≡ responseWords → {b after : List ℕ}
-    → MultiplesAdded lines n (λ l. wordAt strips (at + l * step)) weights before b
-    → after ≡ multipleAdded n strips at step (weights n) lines b
-    → MultiplesAdded lines (n + 1) (λ l. wordAt strips (at + l * step)) weights before after
+pub multiples-next : (lines n : ℕ) (strips : List ℕ) (at step gain : ℕ) (weights : ℕ → ℕ) (before : List ℕ) → lines ≤ 32
+    → n < orderLimit → length before ≡ responseWords → {b after : List ℕ} {weight : ℕ}
+    → MultiplesAdded lines n (λ l. gain ⊗ wordAt strips (at + l * step)) weights before b → weight ≡ gain ⊗ weights n
+    → after ≡ multipleAdded n strips at step weight lines b
+    → MultiplesAdded lines (n + 1) (λ l. gain ⊗ wordAt strips (at + l * step)) weights before after
 unfolding multipleAdded
-multiples-next lines n strips at step weights before few here long {b} {after} added f =
+multiples-next lines n strips at step gain weights before few here long {b} {after} {weight} added g f =
     record {
       length-kept = ap length f ∙ written-length to word lines b ∙ added .length-kept;
       at = λ line p h c.
@@ -66,7 +69,8 @@ multiples-next lines n strips at step weights before few here long {b} {after} a
                 rw q
                 (ap (λ z. wordAt z (responsePlace line n)) f
                 ∙ written-at to word lines b (λ i j x y z. omega arith) (λ i x. omega (arith, added .length-kept)) line h
-                ∙ ap (_⊕ (wordAt strips (at + line * step) ⊗ weights n)) (added .rest line n here (λ x y. omega arith)))
+                ∙ ap₂ _⊕_ (added .rest line n here (λ x y. omega arith))
+                (ap (wordAt strips (at + line * step) ⊗_) g ∙ gain-of-weight gain _ (weights n)))
             | no q ↦ elsewhere line p (omega arith) (λ x y. q y) ∙ added .at line p h (omega arith)
           ];
       rest = λ line p c out.
@@ -77,7 +81,7 @@ multiples-next lines n strips at step weights before few here long {b} {after} a
     to l = responsePlace l n
 
     word : ℕ → ℕ
-    word l = wordAt b (to l) ⊕ wordAt strips (at + l * step) ⊗ weights n
+    word l = wordAt b (to l) ⊕ wordAt strips (at + l * step) ⊗ weight
 
     elsewhere : (line p : ℕ) → p < orderLimit → (line < lines → p ≡ n → ⊥)
         → wordAt after (responsePlace line p) ≡ wordAt b (responsePlace line p)
@@ -95,35 +99,37 @@ add-none : (a b c : ℕ) → a < 2 ^ 64 → b ≡ 0 → a ≡ a ⊕ b ⊗ c
 add-none a b c h e = sym (rw (e, zero-mul, zero-right) (reduced-small a h))
 
 -- The words of a place in the block.
-pub distance-some : (strip : Strip) (place lines places : ℕ) (strips : List ℕ) (weights : ℕ → ℕ) (before : List ℕ)
+pub distance-some : (gain : ℕ) (strip : Strip) (place lines places : ℕ) (strips : List ℕ) (weights : ℕ → ℕ) (before : List ℕ)
     → ((z : ℕ) → wordAt before z < 2 ^ 64) → places ≤ orderLimit → {n : ℕ} {after : List ℕ} → n ≡ linesInside strip place lines
-    → MultiplesAdded n places (λ l. wordAt strips (strip .start + place * strip .«place_step» + l * strip .«line_step»))
+    → MultiplesAdded n places (λ l. gain ⊗ wordAt strips (strip .start + place * strip .«place_step» + l * strip .«line_step»))
     weights before after
-    → DistanceAdded lines places (λ l. stripRead strip strips l place) weights before after
-distance-some strip place lines places strips weights before small few {n} e added =
+    → DistanceAdded lines places (λ l. gain ⊗ stripRead strip strips l place) weights before after
+distance-some gain strip place lines places strips weights before small few {n} e added =
     record {
       length-kept = added .length-kept;
       at = λ line p h b.
           elim (decLt line n) [
             | yes l ↦
                 added .at line p l b
-                ∙ ap (λ z. wordAt before (responsePlace line p) ⊕ z ⊗ weights p)
+                ∙ ap (λ z. wordAt before (responsePlace line p) ⊕ (gain ⊗ z) ⊗ weights p)
                 (sym (read-inside strip place lines strips line (omega arith)))
             | no l ↦
                 added .rest line p (omega arith) (λ x y. l x)
-                ∙ add-none _ _ (weights p) (small _) (read-outside strip place lines strips line (omega arith) h)
+                ∙ add-none _ _ (weights p) (small _)
+                (ap (gain ⊗_) (read-outside strip place lines strips line (omega arith) h) ∙ mul-zero gain)
           ];
     }
 
 -- A place outside the block.
-pub distance-none : (strip : Strip) (place lines places : ℕ) (strips : List ℕ) (weights : ℕ → ℕ) (before : List ℕ)
+pub distance-none : (gain : ℕ) (strip : Strip) (place lines places : ℕ) (strips : List ℕ) (weights : ℕ → ℕ) (before : List ℕ)
     → ((z : ℕ) → wordAt before z < 2 ^ 64) → linesInside strip place lines ≡ 0
-    → DistanceAdded lines places (λ l. stripRead strip strips l place) weights before before
-distance-none strip place lines places strips weights before small e =
+    → DistanceAdded lines places (λ l. gain ⊗ stripRead strip strips l place) weights before before
+distance-none gain strip place lines places strips weights before small e =
     record {
       length-kept = refl;
       at = λ line p h b.
-          add-none _ _ (weights p) (small _) (read-outside strip place lines strips line (omega arith) h);
+          add-none _ _ (weights p) (small _)
+          (ap (gain ⊗_) (read-outside strip place lines strips line (omega arith) h) ∙ mul-zero gain);
     }
 
 -- No distance yet.
@@ -154,15 +160,15 @@ histories-more lines places n H square before held e added =
 -- What `carry_pass` does.
 pub histories-carried : {plan : Plan} {k : ℕ} {course : Course} {filters : List FilterWords} {n : ℕ}
     → LinkFits plan k course filters n → (pass : ℕ) → course .first ≤ pass → pass < course .first + course .passes
-    → (strips lines : List ℕ) → LinesReady (filterAt filters) course (pastEdges plan strips k) lines → (strip : Strip)
-    → strip ≡ stripBefore plan k pass → {row : ℕ} → row ≡ rowsBefore (filterAt filters) pass → {square : List (List ℕ)}
-    {before after : List ℕ}
+    → (strips lines : List ℕ) → LinesReady (filterAt filters) course (scaledEdges plan strips k (course .pass)) lines
+    → (strip : Strip) → strip ≡ stripBefore plan k pass → {gain : ℕ} → gain ≡ gainsAfter plan pass (course .pass) → {row : ℕ}
+    → row ≡ rowsBefore (filterAt filters) pass → {square : List (List ℕ)} {before after : List ℕ}
     → ((p j : ℕ) → p < orderLimit → j < orderLimit
     → wordAt (getD square p []) j ≡ wordAt lines ((row + j) * rowWords + (course .from + p)))
     → HistoriesAdded (course .lines) (course .order) (filterAt filters pass .order)
-    (historyWord (directionOf pass) (filterAt filters pass .order) strip strips) square before after
-    → Carried (filterAt filters) course pass (pastEdges plan strips k pass) before after
-histories-carried {plan} {k} {course} {filters} fits pass a b strips lines ready strip s {row} r {square} {before} q added =
+    (historyWord gain (directionOf pass) (filterAt filters pass .order) strip strips) square before after
+    → Carried (filterAt filters) course pass (scaledEdges plan strips k (course .pass) pass) before after
+histories-carried {plan} {k} {course} {filters} fits pass a b strips lines ready strip s g {row} r {square} {before} q added =
     let h : pass < 4 = omega (arith, fits .course-fits .passes-counted) in
     let order = filterAt filters pass .order in
     let few = link-orders fits .order-limited pass h in
@@ -171,10 +177,7 @@ histories-carried {plan} {k} {course} {filters} fits pass a b strips lines ready
       at = λ line place l i.
           added .at line place l (i .below)
           ∙ ap (wordAt before (responsePlace line place) ⊕_)
-          (sum-reads _ _ _ _ order
-          (λ j c.
-          ap (λ z. stripRead z strips line (fromEdge (directionOf pass) order j)) s
-          ∙ past-edges fits strips pass h line j c)
+          (sum-reads _ _ _ _ order (scaled-edges fits strips pass h s g line)
           (λ j c.
           let low = i .low in
           let high = i .high in

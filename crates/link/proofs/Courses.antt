@@ -4,27 +4,30 @@ use mathlib.Core.Path.{_≡_, refl, ap, ap₂, sym}
 use mathlib.Core.Bool.{true}
 use Prim.Native.Nat.{ℕ, zero, suc, _+_, _-_, _%_, _<_, _≤_}
 use native.Mathlib.Omega.{arith}
+use Rattle.word.specs.Word.{_⊗_}
 use Rattle.plan.proofs.Blocks.{extent-in-side, extent-positive}
 use Rattle.plan.proofs.Record.{rules, order-limited-at}
 use Rattle.plan.specs.Rules.{orderLimit, passAt, keepsRules}
 use Rattle.plan.specs.Sizes.{neededMarks}
 use Rattle.plan.specs.declared.Plan.{Plan}
 use Rattle.passes.specs.Filter.{Filter}
+use Rattle.passes.specs.Gains.{unitGain}
 use Rattle.passes.specs.Passes.{Axis, columns, rows, Direction, forward, backward, axisOf, directionOf, along, across}
 use Rattle.filter.proofs.Filters.{filterWords-filter}
 use Rattle.filter.specs.Filters.{filterOf, filtersOf}
 use Rattle.filter.specs.declared.FilterWords.{FilterWords}
 use Rattle.blocks.proofs.Geometry.{block-row-below, block-column-below}
 use Rattle.blocks.specs.Geometry.{blockRow, blockColumn, rowsOf, columnsOf}
-use Rattle.blocks.specs.Strips.{orderOf, fromEdge, pastEdges}
+use Rattle.blocks.specs.Strips.{orderOf, fromEdge}
 use Rattle.strips.proofs.Passes.{even-forward, odd-backward}
 use Rattle.strips.proofs.Reading.{before-fits, past-edges-read}
 use Rattle.strips.specs.Reading.{stripBefore, stripRead, StripFits}
 use Rattle.strips.specs.Shapes.{shapeOf}
 use Rattle.strips.specs.declared.BlockShape.{BlockShape}
+use Rattle.strips.specs.declared.Strip.{Strip}
 use Rattle.squares.specs.LinePasses.{axisStart, axisPasses}
 use Rattle.squares.specs.Lines.{filterAt, OrdersFit}
-use Rattle.link.specs.Courses.{planFilters, endsFrom, courseAlong, courseOf, CourseFits, LinkFits}
+use Rattle.link.specs.Courses.{unitGainFilters, gainsAfter, scaledEdges, endsFrom, courseAlong, courseOf, CourseFits, LinkFits}
 use Rattle.link.specs.declared.Course.{Course}
 
 one-pass : (pass : ℕ) → pass % 2 ≡ 0 → axisPasses pass ≡ 1
@@ -107,6 +110,14 @@ counted pass =
     by (suc zero) = omega arith
     by (suc (suc pass)) = omega arith
 
+-- The last of the passes of an axis, up to a pass, is the pass itself.
+last-of-axis : (pass : ℕ) → pass < 4 → axisStart pass + axisPasses pass ≡ suc pass
+last-of-axis zero h = refl
+last-of-axis (suc zero) h = refl
+last-of-axis (suc (suc zero)) h = refl
+last-of-axis (suc (suc (suc zero))) h = refl
+last-of-axis (suc (suc (suc (suc pass)))) h = absurd (omega arith)
+
 ends-in-line : (d : Direction) (n order : ℕ) → endsFrom d n order ≤ orderLimit + n
 ends-in-line forward n order = omega arith
 ends-in-line backward n order = omega arith
@@ -141,16 +152,17 @@ course-fits plan k pass kept here h some =
       passes-counted = c .passes-counted;
       first-is = refl;
       passes-are = refl;
+      last-is = last-of-axis pass h;
     }
 
 -- ---- filters and strips
 
-pub filter-is : (plan : Plan) (pass : ℕ) → pass < 4 → filterAt (planFilters plan) pass ≡ filtersOf plan pass
-unfolding planFilters
-filter-is plan zero h = filterWords-filter (passAt plan 0)
-filter-is plan (suc zero) h = filterWords-filter (passAt plan 1)
-filter-is plan (suc (suc zero)) h = filterWords-filter (passAt plan 2)
-filter-is plan (suc (suc (suc zero))) h = filterWords-filter (passAt plan 3)
+pub filter-is : (plan : Plan) (pass : ℕ) → pass < 4 → filterAt (unitGainFilters plan) pass ≡ unitGain (filtersOf plan pass)
+unfolding unitGainFilters
+filter-is plan zero h = ap unitGain (filterWords-filter (passAt plan 0))
+filter-is plan (suc zero) h = ap unitGain (filterWords-filter (passAt plan 1))
+filter-is plan (suc (suc zero)) h = ap unitGain (filterWords-filter (passAt plan 2))
+filter-is plan (suc (suc (suc zero))) h = ap unitGain (filterWords-filter (passAt plan 3))
 filter-is plan (suc (suc (suc (suc pass)))) h = absurd (omega arith)
 
 module _ {plan : Plan} {k : ℕ} {course : Course} {filters : List FilterWords} {n : ℕ} (fits : LinkFits plan k course filters n) where
@@ -162,14 +174,16 @@ module _ {plan : Plan} {k : ℕ} {course : Course} {filters : List FilterWords} 
   link-orders =
       record { order-limited = λ pass h. rw (order-is pass h) (order-limited-at plan (fits .kept) pass h) }
 
-  -- What is read at a distance in the strip of the block that a pass comes from.
-  pub past-edges : (strips : List ℕ) (pass : ℕ) → pass < 4 → (line distance : ℕ) → distance < filterAt filters pass .order
-      → stripRead (stripBefore plan k pass) strips line
-      (fromEdge (directionOf pass) (filterAt filters pass .order) distance)
-      ≡ pastEdges plan strips k pass line distance
-  past-edges strips pass h line distance b =
+  -- What is read at a distance in the strip of the block that a pass comes from, times the gains of the passes after it.
+  pub scaled-edges : (strips : List ℕ) (pass : ℕ) → pass < 4 → {strip : Strip} → strip ≡ stripBefore plan k pass → {gain : ℕ}
+      → gain ≡ gainsAfter plan pass (course .pass) → (line distance : ℕ) → distance < filterAt filters pass .order
+      → gain ⊗ stripRead strip strips line (fromEdge (directionOf pass) (filterAt filters pass .order) distance)
+      ≡ scaledEdges plan strips k (course .pass) pass line distance
+  unfolding scaledEdges
+  scaled-edges strips pass h s g line distance b =
       let b' : distance < orderOf plan pass = rw (order-is pass h) at b in
-      rw (order-is pass h) (past-edges-read plan strips k pass line distance b')
+      rw (s, g, order-is pass h)
+      (ap (gainsAfter plan pass (course .pass) ⊗_) (past-edges-read plan strips k pass line distance b'))
 
   pub before-strip-fits : (pass : ℕ) → pass < 4 → StripFits n (stripBefore plan k pass)
   before-strip-fits pass h = before-fits plan k pass n (fits .counted) h (fits .strips-long)

@@ -11,6 +11,8 @@ use native.Mathlib.Numerals.{add-one}
 use native.Mathlib.Nat.{zero-add, add-zero, sub-zero, mul-le-mul-right}
 use borrow.Author.Tests.{lt-ltb, le-ltb}
 use lib.ListN.{length}
+use Rattle.word.proofs.Ring.{mul-zero}
+use Rattle.word.specs.Word.{_⊗_}
 use Rattle.plan.specs.Rules.{orderLimit}
 use Rattle.passes.proofs.Passes.{filterLine-reads}
 use Rattle.passes.specs.Filter.{Filter}
@@ -39,13 +41,13 @@ use Rattle.link.proofs.Reading.{lines-few, read-outside}
 
 -- ---- the lines of a strip in rows of zeros
 
-module _ (places t m row : ℕ) (few-places : places ≤ 32) (d : Direction) (order : ℕ) (strip : Strip) (strips before : List ℕ)
-    (long : (row + order) * rowWords ≤ length before) (zeros : ZerosFrom row before) where
+module _ (places t m row : ℕ) (few-places : places ≤ 32) (gain : ℕ) (d : Direction) (order : ℕ) (strip : Strip)
+    (strips before : List ℕ) (long : (row + order) * rowWords ≤ length before) (zeros : ZerosFrom row before) where
   abbrev lineStart : ℕ → ℕ
   lineStart k = (row + k) * rowWords + orderLimit
 
   abbrev lineWord : ℕ → ℕ → ℕ
-  lineWord k j = stripRead strip strips j (fromEdge d order k)
+  lineWord k j = gain ⊗ stripRead strip strips j (fromEdge d order k)
 
   abbrev lineWidth : ℕ → ℕ
   lineWidth k = linesInside strip (fromEdge d order k) places
@@ -54,7 +56,7 @@ module _ (places t m row : ℕ) (few-places : places ≤ 32) (d : Direction) (or
   narrow k = lines-few strip (fromEdge d order k) places
 
   abbrev filled : List ℕ
-  filled = stripLines d order strip strips row places order before
+  filled = stripLines gain d order strip strips row places order before
 
   -- Two places of the lines that are one.
   same-line : (i j l p : ℕ) → j < places → p < places → lineStart i + j ≡ lineStart l + p → (i ≡ l) × (j ≡ p)
@@ -78,7 +80,8 @@ module _ (places t m row : ℕ) (few-places : places ≤ 32) (d : Direction) (or
             let here : y ≡ k = omega (arith, same .0) in
             w (omega (arith, same .1, (rw here at f))))
             ∙ zeros _ (omega arith)
-            ∙ sym (read-outside strip (fromEdge d order k) places strips j (omega arith) b)
+            ∙ sym
+            (ap (gain ⊗_) (read-outside strip (fromEdge d order k) places strips j (omega arith) b) ∙ mul-zero gain)
       ]
 
   pub strips-filled : RowsFilled places t m row order (λ k u i. 0) lineWord before filled
@@ -171,17 +174,18 @@ module _ (filters : ℕ → Filter) (course : Course) (fits : CourseFits course)
   long-enough =
       omega (arith, mul-le-mul-right rowWords (rows-in filters orders pass (omega (arith, fits .passes-counted))))
 
-  pub pass-strips : {row : ℕ} {after : List ℕ} → row ≡ rowsBefore filters pass → (strip : Strip) (strips : List ℕ)
+  pub pass-strips : {row : ℕ} {after : List ℕ} → row ≡ rowsBefore filters pass → (gain : ℕ) (strip : Strip) (strips : List ℕ)
       → pass < course .first
-      → after ≡ stripLines (directionOf pass) (filters pass .order) strip strips row (course .places) (filters pass .order) before
+      → after
+      ≡ stripLines gain (directionOf pass) (filters pass .order) strip strips row (course .places) (filters pass .order) before
       → ((k j : ℕ) → k < filters pass .order
-      → stripRead strip strips j (fromEdge (directionOf pass) (filters pass .order) k) ≡ H pass j k)
+      → gain ⊗ stripRead strip strips j (fromEdge (directionOf pass) (filters pass .order) k) ≡ H pass j k)
       → Filled after
-  pass-strips row-is strip strips h e f =
+  pass-strips row-is gain strip strips h e f =
       strip-rows course H pass (rowsBefore filters pass) (filters pass .order) h
       (rw (e, row-is)
       (strips-filled (course .places) (course .first) (course .passes) (rowsBefore filters pass) (fits .few-places)
-      (directionOf pass) (filters pass .order) strip strips before long-enough zeros))
+      gain (directionOf pass) (filters pass .order) strip strips before long-enough zeros))
       f
 
   pub pass-units : {row : ℕ} {after : List ℕ} → row ≡ rowsBefore filters pass → course .first ≤ pass

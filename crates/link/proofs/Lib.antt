@@ -1,3 +1,4 @@
+pub mod Gains
 pub mod Courses
 pub mod Buffers
 pub mod Reading

@@ -7,13 +7,14 @@ use native.Mathlib.Decide.{decLe, decLt}
 use native.Mathlib.Omega.{arith}
 use borrow.Author.Tests.{ltb-true, lt-ltb, le-ltb, le-leb, lt-leb}
 use lib.Dec.{ltb, leb}
+use Rattle.word.specs.Word.{_⊗_}
 use Rattle.plan.specs.Rules.{orderLimit}
 use Rattle.filter.proofs.Written.{written-none, written-same-words}
 use Rattle.filter.specs.Buffer.{wordAt}
 use Rattle.strips.specs.Reading.{addressIn, stripRead, StripFits}
 use Rattle.strips.specs.declared.Strip.{Strip}
 use Rattle.squares.specs.Lines.{rowWords}
-use Rattle.link.specs.Words.{WordsFit, copied, linesInside, stripLine}
+use Rattle.link.specs.Words.{WordsFit, scaled, linesInside, stripLine}
 
 module _ (strip : Strip) (place n : ℕ) where
   pub lines-read : strip .first ≤ place → place < strip .past → {r : ℕ} → r ≡ min n (strip .lines)
@@ -93,15 +94,18 @@ module _ (strip : Strip) (place n : ℕ) where
 
 -- ---- a row of them
 
-module _ (strip : Strip) (strips : List ℕ) (place row places : ℕ) (before : List ℕ) where
+module _ (gain : ℕ) (strip : Strip) (strips : List ℕ) (place row places : ℕ) (before : List ℕ) where
   pub line-some : {n : ℕ} {after : List ℕ} → n ≡ linesInside strip place places
-      → after ≡ copied (row * rowWords + orderLimit) strips (strip .start + place * strip .«place_step») (strip .«line_step») n before
-      → after ≡ stripLine strip strips place row places before
-  unfolding copied stripLine
+      → after
+      ≡ scaled gain (row * rowWords + orderLimit) strips (strip .start + place * strip .«place_step») (strip .«line_step») n
+      before
+      → after ≡ stripLine gain strip strips place row places before
+  unfolding scaled stripLine
   line-some e f =
       (rw e at f)
-      ∙ written-same-words _ _ _ (linesInside strip place places) before (λ j h. sym (read-inside strip place places strips j h))
+      ∙ written-same-words _ _ _ (linesInside strip place places) before
+      (λ j h. ap (gain ⊗_) (sym (read-inside strip place places strips j h)))
 
-  pub line-none : linesInside strip place places ≡ 0 → before ≡ stripLine strip strips place row places before
+  pub line-none : linesInside strip place places ≡ 0 → before ≡ stripLine gain strip strips place row places before
   unfolding stripLine
   line-none e = rw e (sym (written-none _ _ before))

@@ -19,6 +19,7 @@ use Rattle.plan.specs.Rules.{orderLimit, keepsRules}
 use Rattle.plan.specs.Sizes.{neededMarks, neededStrips}
 use Rattle.plan.specs.declared.Plan.{Plan}
 use Rattle.passes.specs.Filter.{Filter}
+use Rattle.passes.specs.Gains.{unitGain}
 use Rattle.passes.specs.Passes.{Axis, columns, rows, Direction, forward, backward, axisOf, directionOf, along, across, lineOf, filterLines, passesOver}
 use Rattle.filter.proofs.Written.{written-none, written-length, written-same-words, written-other, written-at}
 use Rattle.filter.specs.Buffer.{wordAt}
@@ -33,11 +34,12 @@ use Rattle.blocks.specs.Writes.{blockPasses, linkWord, linked}
 use Rattle.squares.proofs.Response.{response-is}
 use Rattle.squares.specs.LinePasses.{response}
 use Rattle.squares.specs.Lines.{filterAt}
-use Rattle.link.specs.Courses.{planFilters, endsFrom, courseOf, Inside, CourseFits, LinkFits}
+use Rattle.link.specs.Courses.{unitGainFilters, gainsAfter, scaledEdges, endsFrom, courseOf, Inside, CourseFits, LinkFits}
 use Rattle.link.specs.Words.{WordsFit, responsePlace, Held, placeTest, courseLines, linkedWord, responsesAdded, linesCleared, PlaceWritten, laidAt, PlacesWritten, StripLaid, linkedTo, StripLong}
 use Rattle.link.specs.declared.Course.{Course}
 use Rattle.link.proofs.Buffers.{written-more}
 use Rattle.link.proofs.Courses.{filter-is, course-fits}
+use Rattle.link.proofs.Gains.{gains-past-edges}
 
 -- ---- the lines of the course that have a word at a place
 
@@ -355,10 +357,11 @@ sum-inside true t e f g = rw (← e) (ap₂ _⊕_ f (g refl))
 sum-inside false t e f g = rw (← e) (sym zero-add)
 
 module _ (plan : Plan) (kept : keepsRules plan ≡ true) (k pass : ℕ) (here : pass < 4) (strips responses : List ℕ)
-    (filters : List FilterWords) (filters-are : filters ≡ planFilters plan)
+    (filters : List FilterWords) (filters-are : filters ≡ unitGainFilters plan)
     (held : Held (courseOf plan k pass)
     (λ l i.
-    response (filterAt filters) (courseOf plan k pass .lines) (courseOf plan k pass .places) (pastEdges plan strips k) pass l i)
+    response (filterAt filters) (courseOf plan k pass .lines) (courseOf plan k pass .places)
+    (scaledEdges plan strips k pass) pass l i)
     responses) where
   few-order : orderOf plan pass ≤ orderLimit
   few-order = order-limited-at plan kept pass here
@@ -368,18 +371,20 @@ module _ (plan : Plan) (kept : keepsRules plan ≡ true) (k pass : ℕ) (here : 
       → lineOf (axisOf pass) (blockPasses plan k (pastEdges plan strips k) (λ y x. 0) (suc pass)) line
       (indexOfPlace (directionOf pass) (along (axisOf pass) (rowsOf plan k) (columnsOf plan k)) (orderOf plan pass) place)
       ≡ wordAt responses (responsePlace line place)
-  unfolding courseOf
+  unfolding courseOf scaledEdges gainsAfter
   response-word line place h i =
       ap
       (λ Z.
       lineOf (axisOf pass) Z line
       (indexOfPlace (directionOf pass) (along (axisOf pass) (rowsOf plan k) (columnsOf plan k)) (orderOf plan pass) place))
-      (passes-filters (filtersOf plan) (filterAt filters) (rowsOf plan k) (columnsOf plan k) (pastEdges plan strips k)
-      (λ y x. 0) (suc pass) (λ u b. rw filters-are (sym (filter-is plan u (omega arith)))))
-      ∙ response-is (filterAt filters) (rowsOf plan k) (columnsOf plan k) (pastEdges plan strips k) pass here line _
+      (gains-past-edges (filtersOf plan) (rowsOf plan k) (columnsOf plan k) (pastEdges plan strips k) pass
+      ∙ passes-filters (λ u. unitGain (filtersOf plan u)) (filterAt filters) (rowsOf plan k) (columnsOf plan k)
+      (scaledEdges plan strips k pass) (λ y x. 0) (suc pass)
+      (λ u b. rw filters-are (sym (filter-is plan u (omega arith)))))
+      ∙ response-is (filterAt filters) (rowsOf plan k) (columnsOf plan k) (scaledEdges plan strips k pass) pass here line _
       ∙ ap
       (response (filterAt filters) (across (axisOf pass) (rowsOf plan k) (columnsOf plan k))
-      (along (axisOf pass) (rowsOf plan k) (columnsOf plan k)) (pastEdges plan strips k) pass line)
+      (along (axisOf pass) (rowsOf plan k) (columnsOf plan k)) (scaledEdges plan strips k pass) pass line)
       (sym
       (same-index (directionOf pass) (along (axisOf pass) (rowsOf plan k) (columnsOf plan k)) (orderOf plan pass) place
       few-order (i .below) (i .low)))
@@ -434,7 +439,7 @@ module _ (plan : Plan) (kept : keepsRules plan ≡ true) (k pass : ℕ) (counted
       let none : plan .side * orderOf plan pass ≡ 0 = rw (← order-of-course, e) (omega arith) in
       rw none (sym (written-none _ _ strips))
 
-  pub link-fits : {filters : List FilterWords} {n : ℕ} → (course .order ≡ 0 → ⊥) → filters ≡ planFilters plan
+  pub link-fits : {filters : List FilterWords} {n : ℕ} → (course .order ≡ 0 → ⊥) → filters ≡ unitGainFilters plan
       → neededStrips plan ≤ n → LinkFits plan k course filters n
   unfolding courseOf filterOf
   link-fits some filters-are long =
@@ -460,10 +465,11 @@ module _ (plan : Plan) (kept : keepsRules plan ≡ true) (k pass : ℕ) (counted
       }
 
   -- What `link` writes.
-  pub link-is : {filters : List FilterWords} → filters ≡ planFilters plan → (strips responses : List ℕ) {after : List ℕ}
+  pub link-is : {filters : List FilterWords} → filters ≡ unitGainFilters plan → (strips responses : List ℕ) {after : List ℕ}
       {start : ℕ} → start ≡ stripStart plan k pass
       → Held course
-      (λ l i. response (filterAt filters) (course .lines) (course .places) (pastEdges plan strips k) (course .pass) l i)
+      (λ l i.
+      response (filterAt filters) (course .lines) (course .places) (scaledEdges plan strips k (course .pass)) (course .pass) l i)
       responses
       → after ≡ linkedTo course responses (plan .side) start (plan .side * course .order) strips
       → after ≡ linked plan k pass strips

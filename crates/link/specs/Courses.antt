@@ -2,26 +2,36 @@
 use mathlib.Core.Path.{_≡_}
 use mathlib.Core.List.{List, [], _∷_}
 use mathlib.Core.Bool.{true}
-use Prim.Native.Nat.{ℕ, _+_, _-_, _<_, _≤_}
+use Prim.Native.Nat.{ℕ, suc, _+_, _-_, _<_, _≤_}
+use Rattle.word.specs.Word.{_⊗_}
 use Rattle.plan.specs.Rules.{orderLimit, passAt, keepsRules}
 use Rattle.plan.specs.Sizes.{neededMarks, neededStrips}
 use Rattle.plan.specs.declared.Plan.{Plan}
+use Rattle.passes.specs.Gains.{gainsFrom}
 use Rattle.passes.specs.Passes.{Direction, forward, backward, axisOf, directionOf, along, across}
-use Rattle.filter.specs.Filters.{filterWords}
+use Rattle.filter.specs.Filters.{filtersOf, filterWords, withGain}
 use Rattle.filter.specs.declared.FilterWords.{FilterWords}
 use Rattle.blocks.specs.Geometry.{rowsOf, columnsOf}
-use Rattle.blocks.specs.Strips.{orderOf}
+use Rattle.blocks.specs.Strips.{orderOf, pastEdges}
 use Rattle.squares.specs.LinePasses.{axisStart, axisPasses}
 use Rattle.link.specs.declared.Course.{Course}
 
--- The words of the four filters of a plan.
-unfoldable pub planFilters : Plan → List FilterWords
-planFilters plan =
-    filterWords (passAt plan 0)
-    ∷ filterWords (passAt plan 1)
-    ∷ filterWords (passAt plan 2)
-    ∷ filterWords (passAt plan 3)
+-- The words of the four filters of a plan, with gain 1.
+unfoldable pub unitGainFilters : Plan → List FilterWords
+unitGainFilters plan =
+    withGain 1 (filterWords (passAt plan 0))
+    ∷ withGain 1 (filterWords (passAt plan 1))
+    ∷ withGain 1 (filterWords (passAt plan 2))
+    ∷ withGain 1 (filterWords (passAt plan 3))
     ∷ []
+
+-- The product of the gains of the passes after a pass, up to the last.
+unfoldable pub gainsAfter : Plan → (pass last : ℕ) → ℕ
+gainsAfter plan pass last = gainsFrom (filtersOf plan) (suc pass) (last - pass)
+
+-- The words past the edges of block k, each times the gains of the passes after its own, up to the last.
+unfoldable pub scaledEdges : Plan → List ℕ → (k last pass line distance : ℕ) → ℕ
+scaledEdges plan strips k last pass line distance = gainsAfter plan pass last ⊗ pastEdges plan strips k pass line distance
 
 -- The column, in a row of lines, of the first place of a strip of an order, where the lines have n places: the strip has
 -- the last places of a line where the pass runs forward, the first where it runs backward.
@@ -73,11 +83,13 @@ pub record CourseFits (course : Course) : Type 0 where
   pub passes-counted : course .first + course .passes ≤ 4
   pub first-is : course .first ≡ axisStart (course .pass)
   pub passes-are : course .passes ≡ axisPasses (course .pass)
+  pub last-is : course .first + course .passes ≡ suc (course .pass)
 
--- What a link of block k along a course wants, with strips of so many words: the filters are the plan's.
+-- What a link of block k along a course wants, with strips of so many words: the filters are the plan's,
+-- with gain 1.
 pub record LinkFits (plan : Plan) (k : ℕ) (course : Course) (filters : List FilterWords) (strips : ℕ) : Type 0 where
   pub kept : keepsRules plan ≡ true
   pub counted : k < neededMarks plan
   pub course-fits : CourseFits course
-  pub filters-are : filters ≡ planFilters plan
+  pub filters-are : filters ≡ unitGainFilters plan
   pub strips-long : neededStrips plan ≤ strips

@@ -35,9 +35,14 @@ rowsWritten start words width (suc n) buffer =
 pub record WordsFit (n at step lines : ℕ) : Type 0 where
   pub inside : (line : ℕ) → line < lines → at + line * step < n
 
--- A buffer after `count` words of another, which lie `step` apart, have gone to it.
-unfoldable pub copied : (to : ℕ) → List ℕ → (at step count : ℕ) → List ℕ → List ℕ
-copied to from at step count buffer = written (λ p. to + p) (λ p. wordAt from (at + p * step)) count buffer
+-- A buffer after `count` words of another have gone to it,
+unfoldable pub copied : (to : ℕ) → List ℕ → (at count : ℕ) → List ℕ → List ℕ
+copied to from at count buffer = written (λ p. to + p) (λ p. wordAt from (at + p)) count buffer
+
+-- and after words that lie `step` apart have, each times a gain.
+unfoldable pub scaled : (gain to : ℕ) → List ℕ → (at step count : ℕ) → List ℕ → List ℕ
+scaled gain to from at step count buffer =
+    written (λ p. to + p) (λ p. gain ⊗ wordAt from (at + p * step)) count buffer
 
 -- ---- the lines past a block's edges
 
@@ -45,15 +50,17 @@ copied to from at step count buffer = written (λ p. to + p) (λ p. wordAt from 
 unfoldable pub linesInside : Strip → (place n : ℕ) → ℕ
 linesInside strip place n = cond (leb (strip .first) place && ltb place (strip .past)) (min n (strip .lines)) 0
 
--- A buffer after the words of a strip at one place of its lines, where they lie in the block, have gone to a row of lines.
-unfoldable pub stripLine : Strip → List ℕ → (place row places : ℕ) → List ℕ → List ℕ
-stripLine strip strips place row places buffer =
-    written (λ j. row * rowWords + orderLimit + j) (λ j. stripRead strip strips j place) (linesInside strip place places) buffer
+-- A buffer after the words of a strip at one place of its lines, where they lie in the block, have gone to a row of lines,
+-- each times a gain.
+unfoldable pub stripLine : (gain : ℕ) → Strip → List ℕ → (place row places : ℕ) → List ℕ → List ℕ
+stripLine gain strip strips place row places buffer =
+    written (λ j. row * rowWords + orderLimit + j) (λ j. gain ⊗ stripRead strip strips j place)
+    (linesInside strip place places) buffer
 
 -- The same of the first n distances from the edge that a pass leaves by, each to its row, from a row on.
-unfoldable pub stripLines : Direction → (order : ℕ) → Strip → List ℕ → (row places n : ℕ) → List ℕ → List ℕ
-stripLines d order strip strips row places n buffer =
-    rowsWritten (λ k. (row + k) * rowWords + orderLimit) (λ k j. stripRead strip strips j (fromEdge d order k))
+unfoldable pub stripLines : (gain : ℕ) → Direction → (order : ℕ) → Strip → List ℕ → (row places n : ℕ) → List ℕ → List ℕ
+stripLines gain d order strip strips row places n buffer =
+    rowsWritten (λ k. (row + k) * rowWords + orderLimit) (λ k j. gain ⊗ stripRead strip strips j (fromEdge d order k))
     (λ k. linesInside strip (fromEdge d order k) places) n buffer
 
 -- ---- the lines of a link: H u j k stands for place j of line k past the block's edge where pass u comes from
@@ -137,9 +144,9 @@ pub record DistanceAdded (lines places : ℕ) (words weights : ℕ → ℕ) (bef
   pub at : (line place : ℕ) → line < lines → place < places
       → wordAt after (responsePlace line place) ≡ wordAt before (responsePlace line place) ⊕ words line ⊗ weights place
 
--- The history of a line of a strip, nearest first.
-abbrev pub historyWord : Direction → (order : ℕ) → Strip → List ℕ → (line distance : ℕ) → ℕ
-historyWord d order strip strips line distance = stripRead strip strips line (fromEdge d order distance)
+-- The history of a line of a strip, nearest first, times a gain.
+abbrev pub historyWord : (gain : ℕ) → Direction → (order : ℕ) → Strip → List ℕ → (line distance : ℕ) → ℕ
+historyWord gain d order strip strips line distance = gain ⊗ stripRead strip strips line (fromEdge d order distance)
 
 -- The first n places of the histories H of the lines have been added to the responses, weighted by a square.
 pub record HistoriesAdded (lines places n : ℕ) (H : ℕ → ℕ → ℕ) (square : List (List ℕ)) (before after : List ℕ) : Type 0 where

@@ -1,5 +1,6 @@
 // The four links: a strip made true by the strips of its needs. No heights are read, and no block is swept: the passes run
-// along the unit histories of each pass, along the few lines past the block's edges, and over their ends.
+// along the unit histories of each pass, along the few lines past the block's edges, and over their ends. They run with gain
+// 1; the words past an edge take the gains of the passes after their own, up to the link's.
 // An inner crate: what its functions require, their callers in this repository show.
 use filter::FilterWords;
 use filter::Window;
@@ -9,18 +10,19 @@ ghost use mathlib.Core.Path.{_≡_};
 ghost use mathlib.Core.Bool.{true};
 ghost use Prim.Native.Nat.{ℕ, _+_, _-_, _*_, _<_, _≤_};
 ghost use lib.ListN.{length};
+ghost use Rattle.word.specs.Word.{_⊗_};
 ghost use Rattle.plan.specs.Rules.{orderLimit, keepsRules};
 ghost use Rattle.plan.specs.Sizes.{neededMarks, neededStrips};
 ghost use Rattle.passes.specs.Passes.{directionOf};
 ghost use Rattle.filter.specs.Buffer.{wordAt};
-ghost use Rattle.blocks.specs.Strips.{fromEdge, pastEdges};
+ghost use Rattle.blocks.specs.Strips.{fromEdge};
 ghost use Rattle.blocks.specs.Writes.{linked};
 ghost use Rattle.strips.specs.Reading.{stripRead, StripFits};
 ghost use Rattle.squares.specs.LinePasses.{response, crossed};
 ghost use Rattle.squares.specs.Lines.{lineRows, lineWords, filterAt, OrdersFit, rowsBefore};
 ghost use Rattle.squares.specs.Rows.{ZerosFrom, RowsFilled};
-ghost use Rattle.link.specs.Courses.{planFilters, courseAlong, courseOf, CourseFits, LinkFits};
-ghost use Rattle.link.specs.Words.{stripLine, stripLines, rowHistory, rowInput, LinesFilled, LinesReady, responseWords, copied, endsCopied, Crossed, linesInside, WordsFit, multipleAdded, weightsAt, MultiplesAdded, DistanceAdded, historyWord, HistoriesAdded, Carried, Held, courseLines, linkedWord, responsesAdded, linesCleared, PlaceWritten, PlacesWritten, StripLaid, linkedTo, StripLong};
+ghost use Rattle.link.specs.Courses.{unitGainFilters, gainsAfter, scaledEdges, courseAlong, courseOf, CourseFits, LinkFits};
+ghost use Rattle.link.specs.Words.{stripLine, stripLines, rowHistory, rowInput, LinesFilled, LinesReady, responseWords, scaled, copied, endsCopied, Crossed, linesInside, WordsFit, multipleAdded, weightsAt, MultiplesAdded, DistanceAdded, historyWord, HistoriesAdded, Carried, Held, courseLines, linkedWord, responsesAdded, linesCleared, PlaceWritten, PlacesWritten, StripLaid, linkedTo, StripLong};
 
 // The passes along the axis of a link, `passes` of them from `first` on; the lines that they run along and the places of each;
 // and the column, in a row of lines, of the first place of the strip.
@@ -37,20 +39,28 @@ pub struct Course {
 // The words of a buffer of responses: a row of ORDER_LIMIT words for each line, between margins of ORDER_LIMIT rows.
 const RESPONSES: usize = squares::ROW * plan::ORDER_LIMIT;
 
-// The words of the four filters of a plan.
-fn plan_filters(plan: Plan) -> [FilterWords; 4]
-    ensures { λ r. ⌜ r ≡ planFilters plan ⌝ }
+// The words of the four filters of a plan, with gain 1.
+fn unit_gain_filters(plan: Plan) -> [FilterWords; 4]
+    ensures { λ r. ⌜ r ≡ unitGainFilters plan ⌝ }
 {
     let down = plan.passes[0];
     let up = plan.passes[1];
     let right = plan.passes[2];
     let left = plan.passes[3];
     [
-        filter::filter_words(down),
-        filter::filter_words(up),
-        filter::filter_words(right),
-        filter::filter_words(left),
+        filter::filter_with_gain(down, 1),
+        filter::filter_with_gain(up, 1),
+        filter::filter_with_gain(right, 1),
+        filter::filter_with_gain(left, 1),
     ]
+}
+
+// The product of the gains of the passes after a pass, up to the last.
+fn gains_after(plan: Plan, pass: usize, last: usize) -> u64
+    requires { ⌜ (pass ≤ last) × (last < 4) ⌝ }
+    ensures { λ r. ⌜ r ≡ gainsAfter plan pass last ⌝ }
+{
+    filter::gains_from(plan, pass + 1, last - pass)
 }
 
 fn course_along(pass: usize, first: usize, places: usize, lines: usize, order: usize) -> Course
@@ -118,19 +128,28 @@ fn lines_inside(strip: Strip, place: usize, count: usize) -> usize
     0
 }
 
-// Puts words that lie `step` apart into a buffer, one after another.
-fn copy_words(buffer: &mut [u64], to: usize, words: &[u64], at: usize, step: usize, count: usize)
+// Puts words that lie `step` apart into a buffer, one after another, each times a gain.
+fn scale_words(
+    buffer: &mut [u64],
+    to: usize,
+    words: &[u64],
+    at: usize,
+    step: usize,
+    count: usize,
+    gain: u64,
+)
     requires { ⌜ (to + count ≤ length (now buffer)) × WordsFit (length (now words)) at step count ⌝ }
-    ensures { λ _. ⌜ now (buffer .exit) ≡ copied to (now (words .entry)) at step count (now (buffer .entry)) ⌝ }
+    ensures { λ _. ⌜ now (buffer .exit) ≡ scaled gain to (now (words .entry)) at step count (now (buffer .entry)) ⌝ }
 {
     let mut p = 0;
     while p < count {
-        buffer[to + p] = words[at + p * step];
+        buffer[to + p] = word::mul(gain, words[at + p * step]);
         p += 1;
     }
 }
 
-// Puts the words of a strip at one place of its lines into a row of lines; the words outside the block are left out.
+// Puts the words of a strip at one place of its lines, times a gain, into a row of lines; the words outside the block are
+// left out.
 fn strip_line(
     lines: &mut [u64],
     row: usize,
@@ -138,24 +157,26 @@ fn strip_line(
     strips: &[u64],
     strip: Strip,
     place: usize,
+    gain: u64,
 )
     requires { ⌜ (row < lineRows) × ((places ≤ 32) × ((lineWords ≤ length (now lines)) × StripFits (length (now strips)) strip)) ⌝ }
-    ensures { λ _. ⌜ now (lines .exit) ≡ stripLine strip (now (strips .entry)) place row places (now (lines .entry)) ⌝ }
+    ensures { λ _. ⌜ now (lines .exit) ≡ stripLine gain strip (now (strips .entry)) place row places (now (lines .entry)) ⌝ }
 {
     let count = lines_inside(strip, place, places);
     if 0 < count {
-        copy_words(
+        scale_words(
             lines,
             row * squares::ROW + plan::ORDER_LIMIT,
             strips,
             strip.start + place * strip.place_step,
             strip.line_step,
             count,
+            gain,
         );
     }
 }
 
-// Puts the lines of a strip at each distance from the edge into rows of lines, from a row on.
+// Puts the lines of a strip at each distance from the edge, times a gain, into rows of lines, from a row on.
 fn strip_lines(
     lines: &mut [u64],
     row: usize,
@@ -164,20 +185,21 @@ fn strip_lines(
     strip: Strip,
     pass: usize,
     order: usize,
+    gain: u64,
 )
     requires { ⌜ (row + order ≤ lineRows) × ((places ≤ 32) × ((lineWords ≤ length (now lines)) × StripFits (length (now strips)) strip)) ⌝ }
-    ensures { λ _. ⌜ now (lines .exit) ≡ stripLines (directionOf pass) order strip (now (strips .entry)) row places order (now (lines .entry)) ⌝ }
+    ensures { λ _. ⌜ now (lines .exit) ≡ stripLines gain (directionOf pass) order strip (now (strips .entry)) row places order (now (lines .entry)) ⌝ }
 {
     let mut distance = 0;
     while distance < order {
         let place = from_edge(pass, order, distance);
-        strip_line(lines, row + distance, places, strips, strip, place);
+        strip_line(lines, row + distance, places, strips, strip, place, gain);
         distance += 1;
     }
 }
 
-// Fills the rows of a pass: with the lines past the block's edge where the pass runs along the other axis, and with the
-// unit histories where it runs along the link's own.
+// Fills the rows of a pass: with the lines past the block's edge, times the gains of the passes after it, where the pass runs
+// along the other axis, and with the unit histories where it runs along the link's own.
 fn fill_pass(
     lines: &mut [u64],
     strips: &[u64],
@@ -189,14 +211,15 @@ fn fill_pass(
 )
     requires { ⌜ LinkFits plan k course filters (length (now strips)) × ((pass < course .first + course .passes) × (lineWords ≤ length (now lines))) ⌝ }
     requires { ⌜ ZerosFrom (rowsBefore (filterAt filters) pass) (now lines) ⌝ }
-    ensures { λ _. ⌜ RowsFilled (course .places) (course .first) (course .passes) (rowsBefore (filterAt filters) pass) (filterAt filters pass .order) (rowHistory course pass) (rowInput course (pastEdges plan (now (strips .entry)) k) pass) (now (lines .entry)) (now (lines .exit)) ⌝ }
+    ensures { λ _. ⌜ RowsFilled (course .places) (course .first) (course .passes) (rowsBefore (filterAt filters) pass) (filterAt filters pass .order) (rowHistory course pass) (rowInput course (scaledEdges plan (now (strips .entry)) k (course .pass)) pass) (now (lines .entry)) (now (lines .exit)) ⌝ }
 {
     let filter = filters[pass];
     let order = filter.order;
     let row = squares::rows_before(filters, pass);
     if pass < course.first {
         let strip = strips::strip_before(plan, k, pass);
-        strip_lines(lines, row, course.places, strips, strip, pass, order);
+        let gain = gains_after(plan, pass, course.pass);
+        strip_lines(lines, row, course.places, strips, strip, pass, order, gain);
     } else {
         squares::unit_lines(lines, row, pass, course.places, order);
     }
@@ -213,7 +236,7 @@ fn fill_lines(
 )
     requires { ⌜ LinkFits plan k course filters (length (now strips)) × (length (now lines) ≡ lineWords) ⌝ }
     requires { ⌜ ((z : ℕ) → wordAt (now lines) z ≡ 0) ⌝ }
-    ensures { λ _. ⌜ LinesFilled (filterAt filters) course (pastEdges plan (now (strips .entry)) k) (course .first + course .passes) (now (lines .exit)) ⌝ }
+    ensures { λ _. ⌜ LinesFilled (filterAt filters) course (scaledEdges plan (now (strips .entry)) k (course .pass)) (course .first + course .passes) (now (lines .exit)) ⌝ }
 {
     let count = course.first + course.passes;
     let mut filled = 0;
@@ -234,10 +257,22 @@ fn link_lines(
 )
     requires { ⌜ LinkFits plan k course filters (length (now strips)) × (length (now lines) ≡ lineWords) ⌝ }
     requires { ⌜ ((z : ℕ) → wordAt (now lines) z ≡ 0) ⌝ }
-    ensures { λ _. ⌜ LinesReady (filterAt filters) course (pastEdges plan (now (strips .entry)) k) (now (lines .exit)) ⌝ }
+    ensures { λ _. ⌜ LinesReady (filterAt filters) course (scaledEdges plan (now (strips .entry)) k (course .pass)) (now (lines .exit)) ⌝ }
 {
     fill_lines(lines, strips, plan, k, course, filters);
     squares::run_lines(lines, course.places, filters, course.first, course.passes);
+}
+
+// Puts words of one buffer into another.
+fn copy_words(buffer: &mut [u64], to: usize, words: &[u64], at: usize, count: usize)
+    requires { ⌜ (to + count ≤ length (now buffer)) × (at + count ≤ length (now words)) ⌝ }
+    ensures { λ _. ⌜ now (buffer .exit) ≡ copied to (now (words .entry)) at count (now (buffer .entry)) ⌝ }
+{
+    let mut p = 0;
+    while p < count {
+        buffer[to + p] = words[at + p];
+        p += 1;
+    }
 }
 
 // Puts the ends of lines, from a row on, into the margin of the responses.
@@ -260,7 +295,6 @@ fn copy_ends(
             to * plan::ORDER_LIMIT,
             lines,
             (row + distance) * squares::ROW + course.from,
-            1,
             course.order,
         );
         distance += 1;
@@ -326,7 +360,8 @@ fn add_multiple(
     }
 }
 
-// Adds such words to all places of the responses, each times its weight for a distance.
+// Adds such words, times a gain, to all places of the responses, each times its weight for a distance. The weight takes the
+// gain, once for all lines.
 fn add_multiples(
     responses: &mut [u64],
     order: usize,
@@ -336,19 +371,21 @@ fn add_multiples(
     lines: usize,
     square: [[u64; plan::ORDER_LIMIT]; plan::ORDER_LIMIT],
     distance: usize,
+    gain: u64,
 )
     requires { ⌜ (order ≤ orderLimit) × ((distance < orderLimit) × ((lines ≤ 32) × ((length (now responses) ≡ responseWords) × WordsFit (length (now strips)) at step lines))) ⌝ }
-    ensures { λ _. ⌜ MultiplesAdded lines order (λ l. wordAt (now (strips .entry)) (at + l * step)) (weightsAt square distance) (now (responses .entry)) (now (responses .exit)) ⌝ }
+    ensures { λ _. ⌜ MultiplesAdded lines order (λ l. gain ⊗ wordAt (now (strips .entry)) (at + l * step)) (weightsAt square distance) (now (responses .entry)) (now (responses .exit)) ⌝ }
 {
     let mut place = 0;
     while place < order {
         let weights = square[place];
-        add_multiple(responses, place, strips, at, step, lines, weights[distance]);
+        let weight = word::mul(gain, weights[distance]);
+        add_multiple(responses, place, strips, at, step, lines, weight);
         place += 1;
     }
 }
 
-// Adds the words of a strip at one place of its lines, which is a distance from the edge, to the responses.
+// Adds the words of a strip at one place of its lines, which is a distance from the edge, times a gain, to the responses.
 fn add_distance(
     responses: &mut [u64],
     strips: &[u64],
@@ -357,9 +394,10 @@ fn add_distance(
     place: usize,
     square: [[u64; plan::ORDER_LIMIT]; plan::ORDER_LIMIT],
     distance: usize,
+    gain: u64,
 )
     requires { ⌜ CourseFits course × ((distance < orderLimit) × ((length (now responses) ≡ responseWords) × StripFits (length (now strips)) strip)) ⌝ }
-    ensures { λ _. ⌜ DistanceAdded (course .lines) (course .order) (λ l. stripRead strip (now (strips .entry)) l place) (weightsAt square distance) (now (responses .entry)) (now (responses .exit)) ⌝ }
+    ensures { λ _. ⌜ DistanceAdded (course .lines) (course .order) (λ l. gain ⊗ stripRead strip (now (strips .entry)) l place) (weightsAt square distance) (now (responses .entry)) (now (responses .exit)) ⌝ }
 {
     let lines = lines_inside(strip, place, course.lines);
     if 0 < lines {
@@ -372,11 +410,12 @@ fn add_distance(
             lines,
             square,
             distance,
+            gain,
         );
     }
 }
 
-// Adds the histories of all lines to the responses, weighted by a square.
+// Adds the histories of all lines, times a gain, to the responses, weighted by a square.
 fn add_histories(
     responses: &mut [u64],
     strips: &[u64],
@@ -385,19 +424,29 @@ fn add_histories(
     pass: usize,
     order: usize,
     square: [[u64; plan::ORDER_LIMIT]; plan::ORDER_LIMIT],
+    gain: u64,
 )
     requires { ⌜ CourseFits course × ((order ≤ orderLimit) × ((length (now responses) ≡ responseWords) × StripFits (length (now strips)) strip)) ⌝ }
-    ensures { λ _. ⌜ HistoriesAdded (course .lines) (course .order) order (historyWord (directionOf pass) order strip (now (strips .entry))) square (now (responses .entry)) (now (responses .exit)) ⌝ }
+    ensures { λ _. ⌜ HistoriesAdded (course .lines) (course .order) order (historyWord gain (directionOf pass) order strip (now (strips .entry))) square (now (responses .entry)) (now (responses .exit)) ⌝ }
 {
     let mut distance = 0;
     while distance < order {
         let place = from_edge(pass, order, distance);
-        add_distance(responses, strips, strip, course, place, square, distance);
+        add_distance(
+            responses,
+            strips,
+            strip,
+            course,
+            place,
+            square,
+            distance,
+            gain,
+        );
         distance += 1;
     }
 }
 
-// Adds the histories of a pass of the link's axis to the responses.
+// Adds the histories of a pass of the link's axis, times the gains of the passes after it, to the responses.
 fn carry_pass(
     responses: &mut [u64],
     lines: &[u64],
@@ -409,13 +458,14 @@ fn carry_pass(
     pass: usize,
 )
     requires { ⌜ LinkFits plan k course filters (length (now strips)) × ((course .first ≤ pass) × ((pass < course .first + course .passes) × (length (now responses) ≡ responseWords))) ⌝ }
-    requires { ⌜ LinesReady (filterAt filters) course (pastEdges plan (now strips) k) (now lines) ⌝ }
-    ensures { λ _. ⌜ Carried (filterAt filters) course pass (pastEdges plan (now (strips .entry)) k pass) (now (responses .entry)) (now (responses .exit)) ⌝ }
+    requires { ⌜ LinesReady (filterAt filters) course (scaledEdges plan (now strips) k (course .pass)) (now lines) ⌝ }
+    ensures { λ _. ⌜ Carried (filterAt filters) course pass (scaledEdges plan (now (strips .entry)) k (course .pass) pass) (now (responses .entry)) (now (responses .exit)) ⌝ }
 {
     let filter = filters[pass];
     let row = squares::rows_before(filters, pass);
     let square = squares::square_from(lines, row, course.from);
     let past_edge = strips::strip_before(plan, k, pass);
+    let gain = gains_after(plan, pass, course.pass);
     add_histories(
         responses,
         strips,
@@ -424,6 +474,7 @@ fn carry_pass(
         pass,
         filter.order,
         square,
+        gain,
     );
 }
 
@@ -438,9 +489,9 @@ fn carry(
     filters: [FilterWords; 4],
 )
     requires { ⌜ LinkFits plan k course filters (length (now strips)) × (length (now responses) ≡ responseWords) ⌝ }
-    requires { ⌜ LinesReady (filterAt filters) course (pastEdges plan (now strips) k) (now lines) ⌝ }
-    requires { ⌜ Held course (λ l i. crossed (filterAt filters) (course .lines) (course .places) (pastEdges plan (now strips) k) (course .pass) i l) (now responses) ⌝ }
-    ensures { λ _. ⌜ (length (now (responses .exit)) ≡ responseWords) × Held course (λ l i. response (filterAt filters) (course .lines) (course .places) (pastEdges plan (now (strips .entry)) k) (course .pass) l i) (now (responses .exit)) ⌝ }
+    requires { ⌜ LinesReady (filterAt filters) course (scaledEdges plan (now strips) k (course .pass)) (now lines) ⌝ }
+    requires { ⌜ Held course (λ l i. crossed (filterAt filters) (course .lines) (course .places) (scaledEdges plan (now strips) k (course .pass)) (course .pass) i l) (now responses) ⌝ }
+    ensures { λ _. ⌜ (length (now (responses .exit)) ≡ responseWords) × Held course (λ l i. response (filterAt filters) (course .lines) (course .places) (scaledEdges plan (now (strips .entry)) k (course .pass)) (course .pass) l i) (now (responses .exit)) ⌝ }
 {
     let mut done = 0;
     while done < course.passes {
@@ -572,7 +623,7 @@ pub fn link(plan: Plan, k: usize, pass: usize, strips: &mut [u64])
     if course.order == 0 {
         return;
     }
-    let filters = plan_filters(plan);
+    let filters = unit_gain_filters(plan);
     let mut lines = [0; squares::LINES];
     link_lines(&mut lines, strips, plan, k, course, filters);
     let mut responses = [0; RESPONSES];

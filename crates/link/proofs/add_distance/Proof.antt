@@ -59,8 +59,8 @@ returns c =
     let n = p .before .before .before .before .before in
     let s = n .before .before in
     let a = s .before in
-    distance-some (a .args .strip) (a .args .place) (a .args .course .lines) (a .args .course .order) (a .args .strips .now) _
-    (a .args .responses .now) (λ z. omega (arith, s .slice-known .given z)) (a .pre .0 .order-limited)
+    distance-some (a .args .gain) (a .args .strip) (a .args .place) (a .args .course .lines) (a .args .course .order)
+    (a .args .strips .now) _ (a .args .responses .now) (λ z. omega (arith, s .slice-known .given z)) (a .pre .0 .order-limited)
     (n .lines-inside .ensures) (p .add-multiples .ensures)
 
 returns-2 : tie.Need-returns-2
@@ -68,8 +68,9 @@ returns-2 c =
     let n = c .before in
     let s = n .before .before in
     let a = s .before in
-    distance-none (a .args .strip) (a .args .place) (a .args .course .lines) (a .args .course .order) (a .args .strips .now) _
-    (a .args .responses .now) (λ z. omega (arith, s .slice-known .given z)) (omega (arith, n .lines-inside .ensures))
+    distance-none (a .args .gain) (a .args .strip) (a .args .place) (a .args .course .lines) (a .args .course .order)
+    (a .args .strips .now) _ (a .args .responses .now) (λ z. omega (arith, s .slice-known .given z))
+    (omega (arith, n .lines-inside .ensures))
 
 pub add-distance-spec : {M : Type 1} → statement M
 add-distance-spec =

@@ -3,6 +3,7 @@ use mathlib.Core.Path.{_≡_, ap}
 use Prim.Native.Nat.{_-_, _≤_}
 use native.Mathlib.Omega.{arith}
 use borrow.Author.Needs.{needs}
+use Rattle.word.specs.Word.{_⊗_}
 use Rattle.passes.specs.Passes.{directionOf}
 use Rattle.strips.specs.Reading.{stripRead}
 use Rattle.link.specs.Words.{historyWord, HistoriesAdded}
@@ -11,13 +12,13 @@ use Rattle.link.proofs.add_histories.Statement.{statement}
 use Rattle.link.proofs.add_histories.Tie as tie
 
 abbrev Inv-loop : tie.InvT-loop
-Inv-loop responses₀ strips strip course pass order square distance₀ responses distance =
+Inv-loop responses₀ strips strip course pass order square gain distance₀ responses distance =
     (distance ≤ order)
-    × HistoriesAdded (course .lines) (course .order) distance (historyWord (directionOf pass) order strip strips) square responses₀
-    responses
+    × HistoriesAdded (course .lines) (course .order) distance (historyWord gain (directionOf pass) order strip strips) square
+    responses₀ responses
 
 abbrev μ-loop : tie.MeasureT-loop
-μ-loop responses₀ strips strip course pass order square distance₀ responses distance = order - distance
+μ-loop responses₀ strips strip course pass order square gain distance₀ responses distance = order - distance
 
 loop-holds : tie.Need-loop-holds Inv-loop μ-loop
 loop-holds c =
@@ -47,7 +48,8 @@ loop-again c =
     let a = l .before .before .before .args in (
       omega arith,
       histories-more (a .course .lines) (a .course .order) (l .loop .distance) _ (a .square) (a .responses .now) (l .loop .inv .1)
-          (λ line. ap (stripRead (a .strip) (a .strips .now) line) (m .from-edge .ensures)) (f .add-distance .ensures),
+          (λ line. ap (λ place. a .gain ⊗ stripRead (a .strip) (a .strips .now) line place) (m .from-edge .ensures))
+          (f .add-distance .ensures),
     )
 
 same-length : tie.Need-same-length Inv-loop μ-loop

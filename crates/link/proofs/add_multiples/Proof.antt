@@ -3,6 +3,7 @@ use Prim.Native.Nat.{_+_, _-_, _*_, _≤_}
 use mathlib.Core.Path.{_≡_}
 use native.Mathlib.Omega.{arith}
 use borrow.Author.Needs.{needs}
+use Rattle.word.specs.Word.{_⊗_}
 use Rattle.filter.specs.Buffer.{wordAt}
 use Rattle.link.specs.Words.{weightsAt, MultiplesAdded}
 use Rattle.link.proofs.Carrying.{multiples-none, multiples-next}
@@ -10,12 +11,12 @@ use Rattle.link.proofs.add_multiples.Statement.{statement}
 use Rattle.link.proofs.add_multiples.Tie as tie
 
 abbrev Inv-loop : tie.InvT-loop
-Inv-loop responses₀ order strips at step lines distance square place₀ responses place =
+Inv-loop responses₀ order strips at step lines distance gain square place₀ responses place =
     (place ≤ order)
-    × MultiplesAdded lines place (λ l. wordAt strips (at + l * step)) (weightsAt square distance) responses₀ responses
+    × MultiplesAdded lines place (λ l. gain ⊗ wordAt strips (at + l * step)) (weightsAt square distance) responses₀ responses
 
 abbrev μ-loop : tie.MeasureT-loop
-μ-loop responses₀ order strips at step lines distance square place₀ responses place = order - place
+μ-loop responses₀ order strips at step lines distance gain square place₀ responses place = order - place
 
 loop-holds : tie.Need-loop-holds Inv-loop μ-loop
 loop-holds c = (omega arith, multiples-none _ _ _ _)
@@ -26,15 +27,18 @@ mul-weights c = search needs
 array-copy-out-weights : tie.Need-array-copy-out-weights Inv-loop μ-loop
 array-copy-out-weights c = search needs
 
-mul-add-multiple : tie.Need-mul-add-multiple Inv-loop μ-loop
-mul-add-multiple c = search needs
+mul-mul : tie.Need-mul-mul Inv-loop μ-loop
+mul-mul c = search needs
 
-array-read-add-multiple : tie.Need-array-read-add-multiple Inv-loop μ-loop
-array-read-add-multiple c = search needs
+array-read-mul : tie.Need-array-read-mul Inv-loop μ-loop
+array-read-mul c = search needs
+
+mul-requires : tie.Need-mul-requires Inv-loop μ-loop
+mul-requires c κs = search needs
 
 add-multiple-requires : tie.Need-add-multiple-requires Inv-loop μ-loop
 add-multiple-requires c κs =
-    let l = c .before .before .before in
+    let l = c .before .before .before .before in
     let a = l .before .before .before in
     (omega arith, (a .pre .1 .1 .0, (omega (arith, l .loop .inv .1 .length-kept), a .pre .1 .1 .1 .1)))
 
@@ -47,11 +51,13 @@ loop-less c = search needs
 loop-again : tie.Need-loop-again Inv-loop μ-loop
 loop-again c =
     let f = c .before .before in
-    let l = f .before .before .before .before in
+    let m = f .before .before in
+    let l = m .before .before .before in
     let a = l .before .before .before in (
       omega arith,
-      multiples-next (a .args .lines) (l .loop .place) (a .args .strips .now) (a .args .at) (a .args .step) _ (a .args .responses .now)
-          (a .pre .1 .1 .0) (omega arith) (a .pre .1 .1 .1 .0) (l .loop .inv .1) (f .add-multiple .ensures),
+      multiples-next (a .args .lines) (l .loop .place) (a .args .strips .now) (a .args .at) (a .args .step) (a .args .gain) _
+          (a .args .responses .now) (a .pre .1 .1 .0) (omega arith) (a .pre .1 .1 .1 .0) (l .loop .inv .1) (m .mul .ensures)
+          (f .add-multiple .ensures),
     )
 
 same-length : tie.Need-same-length Inv-loop μ-loop
@@ -71,8 +77,9 @@ add-multiples-spec =
     loop-holds
     mul-weights
     array-copy-out-weights
-    mul-add-multiple
-    array-read-add-multiple
+    mul-mul
+    array-read-mul
+    mul-requires
     add-multiple-requires
     add-place
     loop-less

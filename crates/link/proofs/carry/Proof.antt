@@ -4,8 +4,8 @@ use Prim.Native.Nat.{_-_, _≤_}
 use native.Mathlib.Omega.{arith}
 use borrow.Author.Needs.{needs}
 use lib.ListN.{length}
-use Rattle.blocks.specs.Strips.{pastEdges}
 use Rattle.squares.specs.Lines.{filterAt}
+use Rattle.link.specs.Courses.{scaledEdges}
 use Rattle.link.specs.Words.{responseWords, Held}
 use Rattle.link.proofs.Carrying.{carriedTo, carry-none, carry-next, carry-all}
 use Rattle.link.proofs.carry.Statement.{statement}
@@ -15,7 +15,7 @@ abbrev Inv-loop : tie.InvT-loop
 Inv-loop responses₀ lines strips plan k course filters done₀ responses done =
     (done ≤ course .passes)
     × (length responses ≡ responseWords)
-    × Held course (carriedTo (filterAt filters) course (pastEdges plan strips k) done) responses
+    × Held course (carriedTo (filterAt filters) course (scaledEdges plan strips k (course .pass)) done) responses
 
 abbrev μ-loop : tie.MeasureT-loop
 μ-loop responses₀ lines strips plan k course filters done₀ responses done = course .passes - done

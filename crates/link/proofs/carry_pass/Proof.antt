@@ -37,9 +37,12 @@ square-from-requires c κs =
 strip-before-requires : tie.Need-strip-before-requires
 strip-before-requires c κs = search needs
 
+gains-after-requires : tie.Need-gains-after-requires
+gains-after-requires c κs = search needs
+
 add-histories-requires : tie.Need-add-histories-requires
 add-histories-requires c κs =
-    let s = c .before in
+    let s = c .before .before in
     let a = s .before .before .before .before .before .before .before in
     let fits = a .pre .0 .0 in
     let h : a .args .pass < 4 = omega (arith, fits .course-fits .passes-counted) in (
@@ -59,13 +62,14 @@ same-length c = search needs
 returns : tie.Need-returns
 returns c =
     let p = c .before .before in
-    let s = p .before .before in
+    let g = p .before .before in
+    let s = g .before in
     let q = s .before in
     let r = q .before in
     let a = r .before .before .before .before .before in
     histories-carried (a .pre .0 .0) (a .args .pass) (a .pre .0 .1 .0) (a .pre .0 .1 .1 .0) (a .args .strips .now) (a .args .lines .now)
-    (a .pre .1) (s .strip-before .result) (s .strip-before .ensures) (r .rows-before .ensures) (q .square-from .ensures)
-    (p .add-histories .ensures)
+    (a .pre .1) (s .strip-before .result) (s .strip-before .ensures) (g .gains-after .ensures) (r .rows-before .ensures)
+    (q .square-from .ensures) (p .add-histories .ensures)
 
 pub carry-pass-spec : {M : Type 1} → statement M
 carry-pass-spec =
@@ -76,6 +80,7 @@ carry-pass-spec =
     rows-before-requires
     square-from-requires
     strip-before-requires
+    gains-after-requires
     add-histories-requires
     same-length
     returns)

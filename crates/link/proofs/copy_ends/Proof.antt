@@ -54,9 +54,7 @@ copy-words-requires c κs =
     let l = m .before .before in
     let a = l .before .before .before in (
       omega (arith, l .loop .inv .1, a .pre .0 .order-limited),
-      record {
-        inside = λ p b. omega (arith, a .pre .0 .inside, a .pre .0 .few-places, a .pre .0 .order-limited);
-      },
+      omega (arith, a .pre .0 .inside, a .pre .0 .few-places, a .pre .0 .order-limited),
     )
 
 add-distance : tie.Need-add-distance Inv-loop μ-loop

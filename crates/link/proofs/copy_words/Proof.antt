@@ -1,6 +1,6 @@
 -- `copy_words` has copied the words so far.
 use mathlib.Core.Path.{_≡_, refl, _∙_}
-use Prim.Native.Nat.{_+_, _-_, _*_, _<_, _≤_}
+use Prim.Native.Nat.{_-_, _≤_}
 use native.Mathlib.Omega.{arith}
 use borrow.Author.Needs.{needs}
 use lib.ListN.{length, length-set}
@@ -11,39 +11,30 @@ use Rattle.link.proofs.copy_words.Statement.{statement}
 use Rattle.link.proofs.copy_words.Tie as tie
 
 abbrev Inv-loop : tie.InvT-loop
-Inv-loop buffer₀ to words at step count p₀ buffer p =
-    (p ≤ count) × (length buffer ≡ length buffer₀) × (buffer ≡ copied to words at step p buffer₀)
+Inv-loop buffer₀ to words at count p₀ buffer p =
+    (p ≤ count) × (length buffer ≡ length buffer₀) × (buffer ≡ copied to words at p buffer₀)
 
 abbrev μ-loop : tie.MeasureT-loop
-μ-loop buffer₀ to words at step count p₀ buffer p = count - p
-
--- The word of this turn is in the other buffer.
-here : (c : tie.In-loop Inv-loop μ-loop)
-    → let a = c .before .before .args in
-    a .at + c .before .loop .p * a .step < length (a .words .now)
-here c = c .before .before .pre .1 .inside (c .before .loop .p) (omega arith)
+μ-loop buffer₀ to words at count p₀ buffer p = count - p
 
 loop-holds : tie.Need-loop-holds Inv-loop μ-loop
 unfolding copied written
 loop-holds c = (omega arith, refl, refl)
 
-mul-buffer : tie.Need-mul-buffer Inv-loop μ-loop
-mul-buffer c = let h = here c in search needs
-
 add-buffer : tie.Need-add-buffer Inv-loop μ-loop
-add-buffer c = let h = here c in search needs
+add-buffer c = search needs
 
-mul-buffer-2 : tie.Need-mul-buffer-2 Inv-loop μ-loop
-mul-buffer-2 c = let h = here c in search needs
+mul-buffer : tie.Need-mul-buffer Inv-loop μ-loop
+mul-buffer c = search needs
 
 shared-slice-read-buffer : tie.Need-shared-slice-read-buffer Inv-loop μ-loop
-shared-slice-read-buffer c = let h = here (c .before) in search needs
+shared-slice-read-buffer c = search needs
 
 add-buffer-2 : tie.Need-add-buffer-2 Inv-loop μ-loop
 add-buffer-2 c = search needs
 
-mul-buffer-3 : tie.Need-mul-buffer-3 Inv-loop μ-loop
-mul-buffer-3 c = search needs
+mul-buffer-2 : tie.Need-mul-buffer-2 Inv-loop μ-loop
+mul-buffer-2 c = search needs
 
 slice-write-buffer : tie.Need-slice-write-buffer Inv-loop μ-loop
 slice-write-buffer c = search needs
@@ -60,7 +51,7 @@ loop-again c =
     let a = l .before .args in (
       omega arith,
       length-set (l .loop .buffer) _ _ ∙ l .loop .inv .1,
-      copied-next (a .to) (a .words .now) (a .at) (a .step) (l .loop .p) (a .buffer .now) (l .loop .inv .2),
+      copied-next (a .to) (a .words .now) (a .at) (l .loop .p) (a .buffer .now) (l .loop .inv .2),
     )
 
 same-length : tie.Need-same-length Inv-loop μ-loop
@@ -78,12 +69,11 @@ copy-words-spec =
     Inv-loop
     μ-loop
     loop-holds
-    mul-buffer
     add-buffer
-    mul-buffer-2
+    mul-buffer
     shared-slice-read-buffer
     add-buffer-2
-    mul-buffer-3
+    mul-buffer-2
     slice-write-buffer
     add-p
     loop-less

@@ -3,8 +3,8 @@ use mathlib.Core.Path.{_≡_}
 use Prim.Native.Nat.{_+_, _-_, _≤_}
 use native.Mathlib.Omega.{arith}
 use borrow.Author.Needs.{needs}
-use Rattle.blocks.specs.Strips.{pastEdges}
 use Rattle.squares.specs.Lines.{filterAt}
+use Rattle.link.specs.Courses.{scaledEdges}
 use Rattle.link.specs.Words.{LinesFilled}
 use Rattle.link.proofs.Crossing.{filled-none, filled-more}
 use Rattle.link.proofs.fill_lines.Statement.{statement}
@@ -12,7 +12,8 @@ use Rattle.link.proofs.fill_lines.Tie as tie
 
 abbrev Inv-loop : tie.InvT-loop
 Inv-loop lines₀ strips plan k course filters count filled₀ lines filled =
-    (filled ≤ course .first + course .passes) × LinesFilled (filterAt filters) course (pastEdges plan strips k) filled lines
+    (filled ≤ course .first + course .passes)
+    × LinesFilled (filterAt filters) course (scaledEdges plan strips k (course .pass)) filled lines
 
 abbrev μ-loop : tie.MeasureT-loop
 μ-loop lines₀ strips plan k course filters count filled₀ lines filled = count - filled

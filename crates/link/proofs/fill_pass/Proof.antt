@@ -4,7 +4,7 @@ use native.Mathlib.Omega.{arith}
 use borrow.Author.Needs.{needs}
 use Rattle.squares.proofs.Rows.{rows-in}
 use Rattle.squares.specs.Lines.{filterAt}
-use Rattle.link.proofs.Courses.{link-orders, past-edges, before-strip-fits}
+use Rattle.link.proofs.Courses.{link-orders, scaled-edges, before-strip-fits}
 use Rattle.link.proofs.Crossing.{pass-strips, pass-units}
 use Rattle.link.proofs.fill_pass.Statement.{statement}
 use Rattle.link.proofs.fill_pass.Tie as tie
@@ -23,9 +23,12 @@ rows-before-requires c κs =
 strip-before-requires : tie.Need-strip-before-requires
 strip-before-requires c κs = search needs
 
+gains-after-requires : tie.Need-gains-after-requires
+gains-after-requires c κs = search needs
+
 strip-lines-requires : tie.Need-strip-lines-requires
 strip-lines-requires c κs =
-    let s = c .before in
+    let s = c .before .before in
     let r = s .before .before .before in
     let a = r .before .before .before .before in
     let h : a .args .pass < 4 = omega (arith, a .pre .0 .0 .course-fits .passes-counted) in (
@@ -59,14 +62,17 @@ same-length c = search needs
 returns : tie.Need-returns
 returns c =
     let p = c .before .before in
-    let s = p .before .before in
+    let g = p .before .before in
+    let s = g .before in
     let r = s .before .before .before in
     let a = r .before .before .before .before in
     let h : a .args .pass < 4 = omega (arith, a .pre .0 .0 .course-fits .passes-counted) in
     pass-strips (filterAt (a .args .t6)) (a .args .course) (a .pre .0 .0 .course-fits) (link-orders (a .pre .0 .0)) _ (a .args .pass)
-    (a .pre .0 .1 .0) (a .args .lines .now) (a .pre .0 .1 .1) (a .pre .1) (r .rows-before .ensures) (s .strip-before .result)
-    (a .args .strips .now) (omega arith) (p .strip-lines .ensures)
-    (λ k j b. rw (s .strip-before .ensures) (past-edges (a .pre .0 .0) (a .args .strips .now) (a .args .pass) h j k b))
+    (a .pre .0 .1 .0) (a .args .lines .now) (a .pre .0 .1 .1) (a .pre .1) (r .rows-before .ensures) (g .gains-after .result)
+    (s .strip-before .result) (a .args .strips .now) (omega arith) (p .strip-lines .ensures)
+    (λ k j.
+    scaled-edges (a .pre .0 .0) (a .args .strips .now) (a .args .pass) h (s .strip-before .ensures) (g .gains-after .ensures)
+    j k)
 
 same-length-2 : tie.Need-same-length-2
 same-length-2 c = search needs
@@ -88,6 +94,7 @@ fill-pass-spec =
     array-copy-out-filter
     rows-before-requires
     strip-before-requires
+    gains-after-requires
     strip-lines-requires
     unit-lines-requires
     same-length

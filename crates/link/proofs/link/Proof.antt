@@ -19,8 +19,8 @@ returns c =
     link-none (a .args .plan) (a .pre .0) (a .args .k) (a .args .pass) (a .pre .1 .0) (a .pre .1 .1 .0) (d .course-of .ensures)
     (a .args .strips .now) (c .if1 .taken)
 
-plan-filters-requires : tie.Need-plan-filters-requires
-plan-filters-requires c κs = search needs
+unit-gain-filters-requires : tie.Need-unit-gain-filters-requires
+unit-gain-filters-requires c κs = search needs
 
 slice-aggregate-link-lines : tie.Need-slice-aggregate-link-lines
 slice-aggregate-link-lines c = search needs
@@ -32,7 +32,7 @@ link-lines-requires c κs =
     let d = i .before .before in
     let a = d .before .before in
     let fits = link-fits (a .args .plan) (a .pre .0) (a .args .k) (a .args .pass) (a .pre .1 .0) (a .pre .1 .1 .0)
-    (d .course-of .ensures) (i .if1 .left) (f .plan-filters .ensures) (a .pre .1 .1 .1) in
+    (d .course-of .ensures) (i .if1 .left) (f .unit-gain-filters .ensures) (a .pre .1 .1 .1) in
     ((fits, refl), zeros-at lineWords)
 
 slice-aggregate-cross : tie.Need-slice-aggregate-cross
@@ -49,7 +49,7 @@ cross-requires c κs =
     let d = i .before .before in
     let a = d .before .before in
     let fits = link-fits (a .args .plan) (a .pre .0) (a .args .k) (a .args .pass) (a .pre .1 .0) (a .pre .1 .1 .0)
-    (d .course-of .ensures) (i .if1 .left) (f .plan-filters .ensures) (a .pre .1 .1 .1) in
+    (d .course-of .ensures) (i .if1 .left) (f .unit-gain-filters .ensures) (a .pre .1 .1 .1) in
     ((fits .course-fits, (link-orders fits, (refl, g .link-lines .ensures .length-is))), zeros-at responseWords)
 
 slice-aggregate-carry : tie.Need-slice-aggregate-carry
@@ -67,7 +67,7 @@ carry-requires c κs =
     let d = i .before .before in
     let a = d .before .before in
     let fits = link-fits (a .args .plan) (a .pre .0) (a .args .k) (a .args .pass) (a .pre .1 .0) (a .pre .1 .1 .0)
-    (d .course-of .ensures) (i .if1 .left) (f .plan-filters .ensures) (a .pre .1 .1 .1) in
+    (d .course-of .ensures) (i .if1 .left) (f .unit-gain-filters .ensures) (a .pre .1 .1 .1) in
     let ready = g .link-lines .ensures in
     ((fits, x .cross .ensures .0), (ready, x .cross .ensures .1 _ ready))
 
@@ -88,7 +88,7 @@ write-strip-requires c κs =
     let d = i .before .before in
     let a = d .before .before in
     let fits = link-fits (a .args .plan) (a .pre .0) (a .args .k) (a .args .pass) (a .pre .1 .0) (a .pre .1 .1 .0)
-    (d .course-of .ensures) (i .if1 .left) (f .plan-filters .ensures) (a .pre .1 .1 .1) in (
+    (d .course-of .ensures) (i .if1 .left) (f .unit-gain-filters .ensures) (a .pre .1 .1 .1) in (
       fits .course-fits,
       (
         strip-long (a .args .plan) (a .pre .0) (a .args .k) (a .args .pass) (a .pre .1 .0) (a .pre .1 .1 .0)
@@ -111,7 +111,7 @@ returns-2 c =
     let d = f .before .before .before in
     let a = d .before .before in
     link-is (a .args .plan) (a .pre .0) (a .args .k) (a .args .pass) (a .pre .1 .0) (a .pre .1 .1 .0) (d .course-of .ensures)
-    (f .plan-filters .ensures) (a .args .strips .now) _ (s .strip-start .ensures) (y .carry .ensures .1)
+    (f .unit-gain-filters .ensures) (a .args .strips .now) _ (s .strip-start .ensures) (y .carry .ensures .1)
     (w .write-strip .ensures)
 
 pub link-spec : {M : Type 1} → statement M
@@ -120,7 +120,7 @@ link-spec =
     (tie.spec
     course-of-requires
     returns
-    plan-filters-requires
+    unit-gain-filters-requires
     slice-aggregate-link-lines
     link-lines-requires
     slice-aggregate-cross

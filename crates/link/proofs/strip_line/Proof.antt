@@ -1,4 +1,4 @@
--- `strip_line` copies the words of a place that lie in the block.
+-- `strip_line` puts the words of a place that lie in the block into their row.
 use Prim.Native.Nat.{_+_, _*_, _<_}
 use native.Mathlib.Omega.{arith}
 use borrow.Author.Needs.{needs}
@@ -19,20 +19,20 @@ first c =
     let a = n .before .before .before in
     first-word (a .args .strip) (a .args .place) (a .args .places) (a .pre .1 .1 .1) (omega (arith, n .lines-inside .ensures))
 
-mul-copy-words : tie.Need-mul-copy-words
-mul-copy-words c = search needs
+mul-scale-words : tie.Need-mul-scale-words
+mul-scale-words c = search needs
 
-add-copy-words : tie.Need-add-copy-words
-add-copy-words c = search needs
+add-scale-words : tie.Need-add-scale-words
+add-scale-words c = search needs
 
-mul-copy-words-2 : tie.Need-mul-copy-words-2
-mul-copy-words-2 c = let h = first (c .before .before) in omega arith
+mul-scale-words-2 : tie.Need-mul-scale-words-2
+mul-scale-words-2 c = let h = first (c .before .before) in omega arith
 
-add-copy-words-2 : tie.Need-add-copy-words-2
-add-copy-words-2 c = let h = first (c .before .before .before) in omega arith
+add-scale-words-2 : tie.Need-add-scale-words-2
+add-scale-words-2 c = let h = first (c .before .before .before) in omega arith
 
-copy-words-requires : tie.Need-copy-words-requires
-copy-words-requires c κs =
+scale-words-requires : tie.Need-scale-words-requires
+scale-words-requires c κs =
     let n = c .before .before .before .before in
     let a = n .before .before .before in (
       omega (
@@ -52,25 +52,26 @@ returns c =
     let p = c .before .before in
     let n = p .before .before .before .before .before in
     let a = n .before .before .before .args in
-    line-some (a .strip) (a .strips .now) (a .place) (a .row) (a .places) (a .lines .now) (n .lines-inside .ensures)
-    (p .copy-words .ensures)
+    line-some (a .gain) (a .strip) (a .strips .now) (a .place) (a .row) (a .places) (a .lines .now) (n .lines-inside .ensures)
+    (p .scale-words .ensures)
 
 returns-2 : tie.Need-returns-2
 returns-2 c =
     let n = c .before in
     let a = n .before .before .before .args in
-    line-none (a .strip) (a .strips .now) (a .place) (a .row) (a .places) (a .lines .now) (omega (arith, n .lines-inside .ensures))
+    line-none (a .gain) (a .strip) (a .strips .now) (a .place) (a .row) (a .places) (a .lines .now)
+    (omega (arith, n .lines-inside .ensures))
 
 pub strip-line-spec : {M : Type 1} → statement M
 strip-line-spec =
     tie.close
     (tie.spec
     lines-inside-requires
-    mul-copy-words
-    add-copy-words
-    mul-copy-words-2
-    add-copy-words-2
-    copy-words-requires
+    mul-scale-words
+    add-scale-words
+    mul-scale-words-2
+    add-scale-words-2
+    scale-words-requires
     same-length
     returns
     returns-2)

@@ -11,11 +11,13 @@ use Rattle.link.proofs.strip_lines.Statement.{statement}
 use Rattle.link.proofs.strip_lines.Tie as tie
 
 abbrev Inv-loop : tie.InvT-loop
-Inv-loop lines₀ row places strips strip pass order distance₀ lines distance =
-    (distance ≤ order) × (length lines ≡ length lines₀) × (lines ≡ stripLines (directionOf pass) order strip strips row places distance lines₀)
+Inv-loop lines₀ row places strips strip pass order gain distance₀ lines distance =
+    (distance ≤ order)
+    × (length lines ≡ length lines₀)
+    × (lines ≡ stripLines gain (directionOf pass) order strip strips row places distance lines₀)
 
 abbrev μ-loop : tie.MeasureT-loop
-μ-loop lines₀ row places strips strip pass order distance₀ lines distance = order - distance
+μ-loop lines₀ row places strips strip pass order gain distance₀ lines distance = order - distance
 
 loop-holds : tie.Need-loop-holds Inv-loop μ-loop
 unfolding stripLines rowsWritten
@@ -47,8 +49,8 @@ loop-again c =
     let a = l .before .before .before .args in (
       omega arith,
       omega (arith, f .strip-line .kept, l .loop .inv .1),
-      strip-lines-next (directionOf (a .pass)) (a .order) (a .strip) (a .strips .now) (a .row) (a .places) (l .loop .distance)
-          (a .lines .now) (l .loop .inv .2) (m .from-edge .ensures) (f .strip-line .ensures),
+      strip-lines-next (a .gain) (directionOf (a .pass)) (a .order) (a .strip) (a .strips .now) (a .row) (a .places)
+          (l .loop .distance) (a .lines .now) (l .loop .inv .2) (m .from-edge .ensures) (f .strip-line .ensures),
     )
 
 same-length : tie.Need-same-length Inv-loop μ-loop
