@@ -2,15 +2,27 @@
 use mathlib.Core.Path.{_≡_, refl, ap, ap₂}
 use mathlib.Core.Bool.{cond}
 use mathlib.Core.List.{List}
-use Prim.Native.Nat.{ℕ, suc, _<_}
+use Prim.Native.Nat.{ℕ, suc, _<_, _≤_}
+use native.Mathlib.Omega.{arith}
 use Rattle.word.specs.Word.{_⊕_}
 use Rattle.plan.specs.declared.Plan.{Plan}
+use Rattle.plan.specs.Sizes.{neededMarks}
 use Rattle.passes.proofs.Passes.{passesOver-reads}
 use Rattle.filter.specs.Filters.{filtersOf}
 use Rattle.blocks.specs.Geometry.{rowsOf, columnsOf, stripNeeded}
 use Rattle.blocks.specs.Strips.{orderOf, stripWord, pastEdges}
-use Rattle.blocks.specs.Depends.{SameStrip, SameNeeds, CollectDepends, LinkDepends, FinishDepends}
+use Rattle.blocks.specs.Depends.{
+  SameStrip,
+  SameNeeds,
+  SameNeeded,
+  CollectDepends,
+  LinkDepends,
+  FinishDepends,
+  LinkReadsNoBorder,
+  FinishReadsNoBorder,
+}
 use Rattle.blocks.specs.Writes.{blockPasses, aloneWord, linkWord, finishWord}
+use Rattle.blocks.proofs.Geometry.{neighbour-below, neighbour-needed}
 use Rattle.blocks.proofs.Reading.{edge-same, read-held, past-same}
 
 read-same : (plan : Plan) (k pass : ℕ) (s r : List ℕ) → SameStrip plan k pass s r → (line place : ℕ)
@@ -45,3 +57,18 @@ link-depends plan s r k pass own needs line place h =
 pub finish-depends : FinishDepends
 unfolding finishWord
 finish-depends plan X Y s r k same needs = passes-same plan k 4 s r _ _ needs same
+
+-- The needs of a task are strips that a neighbour needs, namely the task's own block.
+needs-needed : (plan : Plan) (k n : ℕ) (s r : List ℕ) → k < neededMarks plan → n ≤ 4 → SameNeeded plan s r
+    → SameNeeds plan k n s r
+needs-needed plan k n s r here few same pass j b e =
+    same j pass (neighbour-below plan k pass j here (omega arith) e) (omega arith)
+    (neighbour-needed plan k pass j here (omega arith) e)
+
+pub link-reads-no-border : LinkReadsNoBorder
+link-reads-no-border plan s r k pass here b needed same =
+    link-depends plan s r k pass (same k pass here b needed) (needs-needed plan k (suc pass) s r here (omega arith) same)
+
+pub finish-reads-no-border : FinishReadsNoBorder
+finish-reads-no-border plan X s r k here same =
+    finish-depends plan X X s r k (λ y x a b. refl) (needs-needed plan k 4 s r here (omega arith) same)

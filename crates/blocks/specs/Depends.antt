@@ -1,12 +1,14 @@
 -- What a task writes depends only on the plan, the block's own heights (collect and finish), its own strip (a link) and the
 -- strips in its needs: document 01, below the table of tasks.
 use mathlib.Core.Path.{_≡_}
+use mathlib.Core.Bool.{true}
 use mathlib.Core.List.{List}
 use mathlib.Core.Option.{some}
 use Prim.Native.Nat.{ℕ, suc, _<_}
 use Rattle.plan.specs.declared.Plan.{Plan}
+use Rattle.plan.specs.Sizes.{neededMarks}
 use Rattle.filter.specs.Buffer.{wordAt}
-use Rattle.blocks.specs.Geometry.{rowsOf, columnsOf, partOf, neighbour}
+use Rattle.blocks.specs.Geometry.{rowsOf, columnsOf, partOf, neighbour, stripNeeded}
 use Rattle.blocks.specs.Strips.{orderOf, stripPlace}
 use Rattle.blocks.specs.Writes.{aloneWord, linkWord, finishWord}
 
@@ -43,3 +45,21 @@ abbrev pub FinishDepends : Type 0
 FinishDepends =
     (plan : Plan) (X Y : ℕ → ℕ → ℕ) (s r : List ℕ) (k : ℕ) → SameBlock plan k X Y → SameNeeds plan k 4 s r
     → (y x : ℕ) → y < rowsOf plan k → x < columnsOf plan k → finishWord plan X s k y x ≡ finishWord plan Y r k y x
+
+-- Two lists have the same words in each strip that a neighbour needs: they may differ in the strips on the map's border.
+abbrev pub SameNeeded : Plan → (s r : List ℕ) → Type 0
+SameNeeded plan s r =
+    (k pass : ℕ) → k < neededMarks plan → pass < 4 → stripNeeded plan k pass ≡ true → SameStrip plan k pass s r
+
+-- Strips on the map's border are read by no task, whatever a lent buffer holds there: they change no word of a link
+abbrev pub LinkReadsNoBorder : Type 0
+LinkReadsNoBorder =
+    (plan : Plan) (s r : List ℕ) (k pass : ℕ) → k < neededMarks plan → pass < 4 → stripNeeded plan k pass ≡ true
+    → SameNeeded plan s r → (line place : ℕ) → place < orderOf plan pass
+    → linkWord plan s k pass line place ≡ linkWord plan r k pass line place
+
+-- and no word of a finish; collect reads no strip.
+abbrev pub FinishReadsNoBorder : Type 0
+FinishReadsNoBorder =
+    (plan : Plan) (X : ℕ → ℕ → ℕ) (s r : List ℕ) (k : ℕ) → k < neededMarks plan → SameNeeded plan s r
+    → (y x : ℕ) → y < rowsOf plan k → x < columnsOf plan k → finishWord plan X s k y x ≡ finishWord plan X r k y x
