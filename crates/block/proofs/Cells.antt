@@ -7,8 +7,8 @@ use native.Mathlib.Omega.{arith}
 use lib.ListN.{set, length-set, replicate, length-replicate, getD-replicate, List·getD-eq-default}
 use lib.Seq.{getD-set-other}
 use Rattle.plan.specs.Rules.{orderLimit}
+use Rattle.plan.specs.Lists.{wordAt}
 use Rattle.passes.specs.Passes.{columns}
-use Rattle.filter.specs.Buffer.{wordAt}
 use Rattle.strips.specs.declared.BlockShape.{BlockShape}
 use Rattle.block.specs.Copies.{gridPlace, gridWritten}
 use Rattle.block.specs.Work.{workStride, workWords, workCorner, pixelIn, ShapeFits, ClearOutside, BlockRead}

@@ -8,7 +8,7 @@ use native.Mathlib.Nat.{add-zero, add-suc, div-add-mod'}
 use native.Mathlib.Omega.{arith}
 use lib.ListN.{length, set}
 use Rattle.word.proofs.Ring.{one-mul, reduced-small}
-use Rattle.filter.specs.Buffer.{wordAt}
+use Rattle.plan.specs.Lists.{wordAt}
 use Rattle.filter.specs.Written.{written}
 use Rattle.filter.proofs.Written.{written-none, written-next, written-length, written-other, written-at}
 use Rattle.filter.proofs.RowMajor.{row-of, column-of, place-below, row-below, column-below}

@@ -13,12 +13,12 @@ use Rattle.word.proofs.Ring.{mul-zero}
 use Rattle.plan.specs.declared.Plan.{Plan}
 use Rattle.plan.specs.Rules.{orderLimit, keepsRules}
 use Rattle.plan.specs.Sizes.{neededMarks, neededStrips}
+use Rattle.plan.specs.Lists.{wordAt}
 use Rattle.plan.proofs.Record.{rules, order-limited-at}
 use Rattle.plan.proofs.Tests.{and-right}
 use Rattle.passes.specs.Gains.{gainsFrom}
 use Rattle.passes.specs.Passes.{Axis, columns, rows, Direction, forward, backward, axisOf, directionOf, along, across, lineOf, passesOver}
 use Rattle.passes.proofs.Gains.{gains-out}
-use Rattle.filter.specs.Buffer.{wordAt}
 use Rattle.filter.specs.Filters.{filtersOf}
 use Rattle.blocks.specs.Geometry.{rowsOf, columnsOf, partOf, stripNeeded}
 use Rattle.blocks.specs.Strips.{orderOf, stripWords, stripStart, lineInStrip, placeInLine, placeInside, indexOfPlace, insideBlock, edgeWord, stripWrittenTo, stripWritten, slotWritten}

@@ -11,12 +11,12 @@ use Rattle.word.proofs.Ring.{one-mul, reduced-small}
 use Rattle.plan.specs.declared.Plan.{Plan}
 use Rattle.plan.specs.Rules.{keepsRules}
 use Rattle.plan.specs.Sizes.{neededMarks}
+use Rattle.plan.specs.Lists.{wordAt}
 use Rattle.passes.specs.Filter.{Filter}
 use Rattle.passes.specs.Passes.{passesOver}
 use Rattle.passes.proofs.Passes.{passesOver-small}
 use Rattle.passes.proofs.Gains.{gains-first}
 use Rattle.passes.specs.Pixel.{pixel}
-use Rattle.filter.specs.Buffer.{wordAt}
 use Rattle.filter.specs.Filters.{filtersOf}
 use Rattle.blocks.specs.Geometry.{firstRow, firstColumn, rowsOf, columnsOf, blockPixelPlace, partOf}
 use Rattle.blocks.specs.Strips.{pastEdges}

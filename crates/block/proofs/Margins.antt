@@ -13,9 +13,9 @@ use Rattle.word.specs.Word.{_⊗_}
 use Rattle.word.proofs.Ring.{mul-zero}
 use Rattle.plan.specs.declared.Plan.{Plan}
 use Rattle.plan.specs.Rules.{orderLimit}
+use Rattle.plan.specs.Lists.{wordAt}
 use Rattle.plan.proofs.Tests.{and-left, and-right}
 use Rattle.passes.specs.Passes.{Axis, columns, rows, Direction, forward, backward, axisOf, directionOf, along, across}
-use Rattle.filter.specs.Buffer.{wordAt}
 use Rattle.filter.specs.Windows.{isBackward, beyond, wordsBesideWindow}
 use Rattle.filter.proofs.RowMajor.{same-row-column}
 use Rattle.blocks.specs.Strips.{orderOf, fromEdge}

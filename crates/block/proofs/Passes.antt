@@ -12,13 +12,13 @@ use Rattle.word.specs.Word.{_⊗_}
 use Rattle.plan.specs.declared.Plan.{Plan}
 use Rattle.plan.specs.Rules.{orderLimit, passAt, keepsRules}
 use Rattle.plan.specs.Sizes.{neededMarks}
+use Rattle.plan.specs.Lists.{wordAt}
 use Rattle.plan.proofs.Record.{order-limited-at}
 use Rattle.passes.specs.Filter.{Filter}
 use Rattle.passes.specs.Gains.{unitGain, gainsFrom, gainsFirst}
 use Rattle.passes.specs.Passes.{Direction, forward, backward, axisOf, directionOf, along, across, passesOver}
 use Rattle.passes.proofs.Passes.{filterLines-reads}
 use Rattle.filter.specs.declared.FilterWords.{FilterWords}
-use Rattle.filter.specs.Buffer.{wordAt}
 use Rattle.filter.specs.Filters.{filterOf, filtersOf, filterWith, filterWords, withGain, gainsFirstWords}
 use Rattle.filter.specs.Windows.{windowOf, beyond, wordsBesideWindow}
 use Rattle.filter.proofs.Filters.{filterWords-filter, gainsFirstWords-filter, gainsFirstWords-order}

@@ -4,8 +4,8 @@ use Prim.Native.Nat.{ℕ, _+_, _*_, _/_, _%_, _<_, _≤_}
 use lib.IntN.{ℤ, pos}
 use lib.ListN.{getD}
 use Rattle.word.specs.Word.{_⊗_}
+use Rattle.plan.specs.Lists.{wordAt}
 use Rattle.passes.specs.Pixel.{pixel}
-use Rattle.filter.specs.Buffer.{wordAt}
 use Rattle.filter.specs.Written.{written}
 
 -- ---- one row

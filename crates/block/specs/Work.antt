@@ -9,6 +9,7 @@ use lib.ListN.{length}
 use Rattle.word.specs.Word.{_⊗_}
 use Rattle.plan.specs.declared.Plan.{Plan}
 use Rattle.plan.specs.Rules.{orderLimit}
+use Rattle.plan.specs.Lists.{wordAt}
 use Rattle.passes.specs.Filter.{Filter}
 use Rattle.passes.specs.Passes.{
   Axis,
@@ -22,7 +23,6 @@ use Rattle.passes.specs.Passes.{
   lineOf,
 }
 use Rattle.filter.specs.declared.Window.{Window}
-use Rattle.filter.specs.Buffer.{wordAt}
 use Rattle.filter.specs.Windows.{pixelPlace, windowPass}
 use Rattle.blocks.specs.Geometry.{rowsOf, columnsOf, stripNeeded}
 use Rattle.blocks.specs.Strips.{orderOf}

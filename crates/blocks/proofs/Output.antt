@@ -9,7 +9,7 @@ use native.Mathlib.Omega.{arith}
 use lib.ListN.{length, set}
 use Rattle.plan.specs.declared.Plan.{Plan}
 use Rattle.plan.specs.Sizes.{neededPixels}
-use Rattle.filter.specs.Buffer.{wordAt}
+use Rattle.plan.specs.Lists.{wordAt}
 use Rattle.blocks.specs.Geometry.{rowsOf, columnsOf, blockArea, blockPixelPlace}
 use Rattle.blocks.specs.Writes.{blockWrittenTo}
 use Rattle.filter.proofs.Written.{written-none, written-next, written-length, written-other, written-at}

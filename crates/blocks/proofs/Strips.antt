@@ -10,9 +10,9 @@ use native.Mathlib.Omega.{arith}
 use lib.ListN.{length, set}
 use Rattle.plan.specs.declared.Plan.{Plan}
 use Rattle.plan.specs.Sizes.{orderSum, neededMarks, neededStrips}
+use Rattle.plan.specs.Lists.{wordAt}
 use Rattle.plan.proofs.Tests.{lt-or-ge}
 use Rattle.passes.specs.Passes.{Axis, columns, rows, axisOf}
-use Rattle.filter.specs.Buffer.{wordAt}
 use Rattle.blocks.specs.Strips.{
   orderOf,
   slotWords,

@@ -12,10 +12,10 @@ use Rattle.word.specs.Word.{_⊕_}
 use Rattle.word.proofs.Ring.{zero-add}
 use Rattle.plan.specs.declared.Plan.{Plan}
 use Rattle.plan.specs.Sizes.{neededMarks, neededStrips, neededPixels}
+use Rattle.plan.specs.Lists.{wordAt}
 use Rattle.passes.specs.Passes.{Axis, columns, rows, axisOf, along, across, lineOf}
 use Rattle.passes.proofs.Blocks.{passesOver-part}
 use Rattle.passes.proofs.Link.{link-true}
-use Rattle.filter.specs.Buffer.{wordAt}
 use Rattle.filter.specs.Filters.{filterOf, filtersOf}
 use Rattle.blocks.specs.Geometry.{rowsOf, columnsOf, blockPixelPlace, partOf, stripNeeded}
 use Rattle.blocks.specs.Strips.{orderOf, slotWords, slotStart, stripPlace, insideBlock, edgeWord, pastEdges}

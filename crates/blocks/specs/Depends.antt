@@ -7,7 +7,7 @@ use mathlib.Core.Option.{some}
 use Prim.Native.Nat.{ℕ, suc, _<_}
 use Rattle.plan.specs.declared.Plan.{Plan}
 use Rattle.plan.specs.Sizes.{neededMarks}
-use Rattle.filter.specs.Buffer.{wordAt}
+use Rattle.plan.specs.Lists.{wordAt}
 use Rattle.blocks.specs.Geometry.{rowsOf, columnsOf, partOf, neighbour, stripNeeded}
 use Rattle.blocks.specs.Strips.{orderOf, stripPlace}
 use Rattle.blocks.specs.Writes.{aloneWord, linkWord, finishWord}

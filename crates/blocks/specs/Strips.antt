@@ -7,6 +7,7 @@ use lib.Dec.{ltb, leb}
 use Rattle.plan.specs.declared.Plan.{Plan}
 use Rattle.plan.specs.Rules.{passAt}
 use Rattle.plan.specs.Sizes.{orderSum}
+use Rattle.plan.specs.Lists.{wordAt}
 use Rattle.passes.specs.Passes.{
   Axis,
   columns,
@@ -20,7 +21,6 @@ use Rattle.passes.specs.Passes.{
   across,
   lineOf,
 }
-use Rattle.filter.specs.Buffer.{wordAt}
 use Rattle.filter.specs.Written.{written}
 use Rattle.blocks.specs.Geometry.{rowsOf, columnsOf, neighbour, orZero}
 

@@ -5,6 +5,7 @@ use mathlib.Core.Bool.{Bool, true, false, cond}
 use mathlib.Core.List.{List, [], _∷_}
 use Prim.Native.Nat.{ℕ, _+_}
 use native.Mathlib.Omega.{arith}
+use Rattle.refusal.specs.Refusals.{ifAccepted}
 use Rattle.plan.specs.declared.Plan.{Plan}
 use Rattle.plan.specs.Sizes.{blockRows, blockColumns}
 use Rattle.tasks.specs.Tasks.{BlockTask, ready, nothingDone, alsoDone}
@@ -12,7 +13,7 @@ use Rattle.tasks.specs.Counts.{doneCount}
 use Rattle.tasks.specs.Verdict.{verdictOf}
 use Rattle.tasks.proofs.Counting.{count-nothing}
 use Rattle.tasks.proofs.Progress.{count-ready}
-use Rattle.calls.specs.Calls.{ifAccepted, acceptedCount}
+use Rattle.calls.specs.Calls.{acceptedCount}
 use Rattle.calls.specs.Demand.{doneBy, doneFrom, doneAfter, dueFrom, countAfter}
 use Rattle.calls.proofs.Answers.{by-ready}
 

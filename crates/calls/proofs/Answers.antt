@@ -5,9 +5,9 @@ use mathlib.Core.Bool.{Bool, true, false, not, _&&_, cond}
 use Prim.Native.Nat.{ℕ}
 use Rattle.refusal.specs.declared.Refusal.the-variants.{NoSuchTask, AlreadyMarked, NeedUnmarked}
 use Rattle.refusal.specs.declared.Outcome.the-variants.{Accepted, Refused}
+use Rattle.refusal.specs.Refusals.{ifAccepted}
 use Rattle.tasks.specs.Tasks.{exists, needsOf, allDone, ready}
 use Rattle.tasks.specs.Verdict.{verdictOf}
-use Rattle.calls.specs.Calls.{ifAccepted}
 
 pub by-ready : {A : Type 0} (M N : ℕ) (done : ℕ → ℕ → Bool) (t k : ℕ) (accepted refused : A)
     → ifAccepted (verdictOf M N done t k) accepted refused ≡ cond (ready M N done t k) accepted refused

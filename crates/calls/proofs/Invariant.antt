@@ -9,7 +9,7 @@ use lib.ListN.{length}
 use Rattle.plan.specs.declared.Plan.{Plan}
 use Rattle.plan.specs.Rules.{keepsRules}
 use Rattle.plan.specs.Sizes.{blockRows, blockColumns, neededMarks, neededStrips, neededPixels}
-use Rattle.filter.specs.Buffer.{wordAt}
+use Rattle.plan.specs.Lists.{wordAt}
 use Rattle.tasks.specs.Marks.{Shows}
 use Rattle.tasks.proofs.Progress.{Sound}
 use Rattle.blocks.specs.Geometry.{rowsOf, columnsOf, blockPixelPlace, partOf}

@@ -9,6 +9,7 @@ use lib.ListN.{length, getD}
 use Rattle.refusal.specs.declared.Refusal.the-variants.{RecordBreaksRule, BufferTooShort}
 use Rattle.refusal.specs.declared.Outcome.{Outcome}
 use Rattle.refusal.specs.declared.Outcome.the-variants.{Accepted, Refused}
+use Rattle.refusal.specs.Refusals.{ifAccepted}
 use Rattle.plan.specs.declared.Plan.{Plan}
 use Rattle.plan.specs.Rules.{keepsRules}
 use Rattle.plan.specs.Sizes.{blockRows, blockColumns, neededMarks, neededStrips, neededPixels}
@@ -27,11 +28,6 @@ pub record Buffers : Type 0 where
 -- Marks, strips and output as lent to a call.
 abbrev pub lists : List ℕ → List ℕ → List ℕ → Buffers
 lists marks strips output = record { marks = marks; strips = strips; output = output }
-
--- Of two values, that of an accepted call or that of a refused one.
-abbrev pub ifAccepted : {A : Type 0} → Outcome → A → A → A
-ifAccepted Accepted accepted refused = accepted
-ifAccepted (Refused refusal) accepted refused = refused
 
 -- ---- start
 

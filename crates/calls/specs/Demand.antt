@@ -12,7 +12,7 @@ use Rattle.refusal.specs.declared.Outcome.the-variants.{Accepted}
 use Rattle.plan.specs.declared.Plan.{Plan}
 use Rattle.plan.specs.Rules.{keepsRules}
 use Rattle.plan.specs.Sizes.{blockRows, blockColumns, neededMarks, neededStrips, neededPixels, taskCount}
-use Rattle.filter.specs.Buffer.{wordAt}
+use Rattle.plan.specs.Lists.{wordAt}
 use Rattle.tasks.specs.Tasks.{BlockTask, ready, nothingDone, alsoDone}
 use Rattle.tasks.specs.Counts.{doneCount}
 use Rattle.tasks.specs.Marks.{markOf}

@@ -11,8 +11,8 @@ use Rattle.word.specs.Word.{modulus, residue}
 use Rattle.plan.specs.declared.Pass.{Pass}
 use Rattle.plan.specs.declared.Plan.{Plan}
 use Rattle.plan.specs.Rules.{passAt}
+use Rattle.plan.specs.Lists.{wordAt}
 use Rattle.passes.specs.Gains.{gainsFrom, gainsFirst}
-use Rattle.filter.specs.Buffer.{wordAt}
 use Rattle.filter.specs.Filters.{filterOf, filtersOf, filterWith, filterWords, withGain, gainsFirstWords}
 use Rattle.filter.proofs.Buffers.{HoldsBelow}
 

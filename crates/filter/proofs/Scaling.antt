@@ -11,6 +11,7 @@ use native.Mathlib.Omega.{arith}
 use lib.ListN.{set, length}
 use lib.Seq.{ext-getD}
 use Rattle.word.specs.Word.{_⊗_}
+use Rattle.plan.specs.Lists.{wordAt}
 use Rattle.passes.specs.Line.{output, wordsBefore}
 use Rattle.passes.specs.Filter.{Filter, lessFeedback, filterStep}
 use Rattle.passes.specs.Passes.{
@@ -34,7 +35,6 @@ use Rattle.passes.specs.Gains.{unitGain}
 use Rattle.passes.proofs.Gains.{filterLines-gain}
 use Rattle.filter.specs.declared.Lines.{Lines}
 use Rattle.filter.specs.declared.Window.{Window}
-use Rattle.filter.specs.Buffer.{wordAt}
 use Rattle.filter.specs.Kernel.{outputAt, outputsAt, outputsAtTime, leadPlace, filterInPlace}
 use Rattle.filter.specs.Windows.{
   pixelPlace,

@@ -6,10 +6,10 @@ use native.Mathlib.Omega.{arith}
 use lib.ListN.{set}
 use lib.Seq.{set-getD}
 use Rattle.word.proofs.Ring.{reduced-small}
+use Rattle.plan.specs.Lists.{wordAt}
 use Rattle.passes.specs.Filter.{Filter}
 use Rattle.passes.proofs.Linear.{filterStep-unchanged}
 use Rattle.filter.specs.declared.Lines.{Lines}
-use Rattle.filter.specs.Buffer.{wordAt}
 use Rattle.filter.specs.Kernel.{outputAt, outputsAt, outputsAtTime, filterInPlace}
 
 -- Order 0 and gain 1.

@@ -9,6 +9,7 @@ use native.Mathlib.Nat.{mul-le-mul-left, mul-le-mul-right, add-mul}
 use native.Mathlib.Decide.{decLt}
 use native.Mathlib.Omega.{arith}
 use lib.ListN.{length}
+use Rattle.plan.specs.Lists.{wordAt}
 use Rattle.passes.specs.Line.{wordsBefore}
 use Rattle.passes.specs.Filter.{Filter, filterStep}
 use Rattle.passes.specs.Passes.{
@@ -32,7 +33,6 @@ use Rattle.passes.proofs.Linear.{filterStep-reads}
 use Rattle.passes.proofs.Passes.{reflect-lt, reflect-twice}
 use Rattle.filter.specs.declared.Lines.{Lines}
 use Rattle.filter.specs.declared.Window.{Window}
-use Rattle.filter.specs.Buffer.{wordAt}
 use Rattle.filter.specs.Kernel.{linePlace, LinesFit, Apart}
 use Rattle.filter.specs.Windows.{
   pixelPlace,

@@ -9,7 +9,7 @@ use native.Mathlib.Numerals.{add-one}
 use native.Mathlib.Omega.{arith}
 use lib.ListN.{length, set, length-set}
 use lib.Seq.{getD-set-same, getD-set-other}
-use Rattle.filter.specs.Buffer.{wordAt}
+use Rattle.plan.specs.Lists.{wordAt}
 use Rattle.filter.specs.Written.{written}
 
 -- Nothing written yet.

@@ -5,10 +5,10 @@ use Rattle.word.specs.Word.{residue}
 use Rattle.plan.specs.declared.Pass.{Pass}
 use Rattle.plan.specs.declared.Plan.{Plan}
 use Rattle.plan.specs.Rules.{coefficientAt, passAt}
+use Rattle.plan.specs.Lists.{wordAt}
 use Rattle.passes.specs.Filter.{Filter}
 use Rattle.passes.specs.Gains.{gainsFrom}
 use Rattle.filter.specs.declared.FilterWords.{FilterWords}
-use Rattle.filter.specs.Buffer.{wordAt}
 
 -- The filter of a pass: gain and coefficients enter as residues modulo 2^64.
 unfoldable pub filterOf : Pass → Filter

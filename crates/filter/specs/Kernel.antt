@@ -4,9 +4,9 @@ use mathlib.Core.List.{List}
 use mathlib.Core.Logic.{_≢_}
 use Prim.Native.Nat.{ℕ, zero, suc, _+_, _-_, _*_, _<_, _≤_, min}
 use lib.ListN.{set}
+use Rattle.plan.specs.Lists.{wordAt}
 use Rattle.passes.specs.Filter.{Filter, lessFeedback, filterStep}
 use Rattle.filter.specs.declared.Lines.{Lines}
-use Rattle.filter.specs.Buffer.{wordAt}
 
 -- ---- one output
 

@@ -1,4 +1,3 @@
-pub mod Buffer
 pub mod Written
 pub mod Filters
 pub mod Kernel

@@ -4,11 +4,11 @@ use mathlib.Core.List.{List}
 use Prim.Native.Nat.{ℕ, zero, suc, _+_, _-_, _*_, _<_, _≤_}
 use lib.ListN.{set}
 use Rattle.word.specs.Word.{_⊗_}
+use Rattle.plan.specs.Lists.{wordAt}
 use Rattle.passes.specs.Filter.{Filter}
 use Rattle.passes.specs.Passes.{Axis, Direction, forward, backward, axisOf, directionOf, along, across, lineOf}
 use Rattle.filter.specs.declared.Lines.{Lines}
 use Rattle.filter.specs.declared.Window.{Window}
-use Rattle.filter.specs.Buffer.{wordAt}
 use Rattle.filter.specs.Kernel.{filterInPlace}
 
 -- Where the pixel of a row and a column lies in a buffer of rows of `stride` words.

@@ -8,10 +8,10 @@ use lib.IntN.{ℤ}
 use lib.ListN.{getD}
 use Rattle.refusal.specs.declared.Outcome.{Outcome}
 use Rattle.refusal.specs.declared.Outcome.the-variants.{Accepted, Refused}
+use Rattle.refusal.specs.Refusals.{ifAccepted}
 use Rattle.plan.specs.declared.Plan.{Plan}
 use Rattle.calls.specs.Calls.{
   Buffers,
-  ifAccepted,
   taskOutcome,
   afterTask,
   afterCalls,

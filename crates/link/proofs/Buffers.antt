@@ -9,9 +9,9 @@ use native.Mathlib.Numerals.{add-one}
 use lib.ListN.{length, set}
 use Rattle.word.specs.Word.{_⊗_}
 use Rattle.plan.specs.Rules.{orderLimit}
+use Rattle.plan.specs.Lists.{wordAt}
 use Rattle.passes.specs.Passes.{Direction}
 use Rattle.filter.proofs.Written.{written-next, written-length, written-other, written-at}
-use Rattle.filter.specs.Buffer.{wordAt}
 use Rattle.filter.specs.Windows.{beyond}
 use Rattle.filter.specs.Written.{written}
 use Rattle.blocks.specs.Strips.{fromEdge}

@@ -10,12 +10,12 @@ use Rattle.word.proofs.Ring.{add-assoc, mul-assoc, mul-left-comm, mul-zero, zer
 use Rattle.word.specs.Word.{_⊕_, _⊗_}
 use Rattle.plan.specs.Rules.{orderLimit}
 use Rattle.plan.specs.declared.Plan.{Plan}
+use Rattle.plan.specs.Lists.{wordAt}
 use Rattle.passes.specs.Filter.{Filter}
 use Rattle.passes.specs.Passes.{directionOf}
 use Rattle.passes.specs.Square.{weightedSum}
 use Rattle.filter.proofs.RowMajor.{same-row-column}
 use Rattle.filter.proofs.Written.{written-length, written-other, written-at}
-use Rattle.filter.specs.Buffer.{wordAt}
 use Rattle.filter.specs.declared.FilterWords.{FilterWords}
 use Rattle.strips.specs.Reading.{stripBefore, stripRead}
 use Rattle.strips.specs.declared.Strip.{Strip}

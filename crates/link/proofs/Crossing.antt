@@ -14,6 +14,7 @@ use lib.ListN.{length}
 use Rattle.word.proofs.Ring.{mul-zero}
 use Rattle.word.specs.Word.{_⊗_}
 use Rattle.plan.specs.Rules.{orderLimit}
+use Rattle.plan.specs.Lists.{wordAt}
 use Rattle.passes.proofs.Passes.{filterLine-reads}
 use Rattle.passes.specs.Filter.{Filter}
 use Rattle.passes.specs.Passes.{columns, Direction, forward, backward, axisOf, directionOf, filterLine, filterLines}
@@ -21,7 +22,6 @@ use Rattle.passes.specs.Square.{unitHistory}
 use Rattle.filter.proofs.Numbers.{axis-columns}
 use Rattle.filter.proofs.RowMajor.{same-row-column}
 use Rattle.filter.proofs.Windows.{Passed, windowPass-passed}
-use Rattle.filter.specs.Buffer.{wordAt}
 use Rattle.filter.specs.Windows.{pixelPlace, windowOf, beyond, wordsBesideWindow, windowPass, WindowFits}
 use Rattle.filter.specs.declared.Window.{Window}
 use Rattle.blocks.specs.Strips.{fromEdge}

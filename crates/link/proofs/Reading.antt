@@ -9,8 +9,8 @@ use borrow.Author.Tests.{ltb-true, lt-ltb, le-ltb, le-leb, lt-leb}
 use lib.Dec.{ltb, leb}
 use Rattle.word.specs.Word.{_⊗_}
 use Rattle.plan.specs.Rules.{orderLimit}
+use Rattle.plan.specs.Lists.{wordAt}
 use Rattle.filter.proofs.Written.{written-none, written-same-words}
-use Rattle.filter.specs.Buffer.{wordAt}
 use Rattle.strips.specs.Reading.{addressIn, stripRead, StripFits}
 use Rattle.strips.specs.declared.Strip.{Strip}
 use Rattle.squares.specs.Lines.{rowWords}

@@ -18,11 +18,11 @@ use Rattle.plan.proofs.Tests.{and-left, and-right}
 use Rattle.plan.specs.Rules.{orderLimit, keepsRules}
 use Rattle.plan.specs.Sizes.{neededMarks, neededStrips}
 use Rattle.plan.specs.declared.Plan.{Plan}
+use Rattle.plan.specs.Lists.{wordAt}
 use Rattle.passes.specs.Filter.{Filter}
 use Rattle.passes.specs.Gains.{unitGain}
 use Rattle.passes.specs.Passes.{Axis, columns, rows, Direction, forward, backward, axisOf, directionOf, along, across, lineOf, filterLines, passesOver}
 use Rattle.filter.proofs.Written.{written-none, written-length, written-same-words, written-other, written-at}
-use Rattle.filter.specs.Buffer.{wordAt}
 use Rattle.filter.specs.Filters.{filterOf, filtersOf}
 use Rattle.filter.specs.Written.{written}
 use Rattle.filter.specs.declared.FilterWords.{FilterWords}

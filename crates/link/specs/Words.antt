@@ -8,10 +8,10 @@ use lib.ListN.{length, getD}
 use lib.Dec.{ltb, leb}
 use Rattle.word.specs.Word.{_⊕_, _⊗_}
 use Rattle.plan.specs.Rules.{orderLimit}
+use Rattle.plan.specs.Lists.{wordAt}
 use Rattle.passes.specs.Filter.{Filter}
 use Rattle.passes.specs.Passes.{Direction, axisOf, directionOf, filterLine}
 use Rattle.passes.specs.Square.{unitHistory, weightedSum}
-use Rattle.filter.specs.Buffer.{wordAt}
 use Rattle.filter.specs.Windows.{pixelPlace, beyond}
 use Rattle.filter.specs.Written.{written}
 use Rattle.blocks.specs.Strips.{fromEdge, lineInStrip, placeInLine}

@@ -30,11 +30,11 @@ use Rattle.plan.specs.declared.Plan.{Plan}
 use Rattle.plan.specs.declared.PlanSizes.the-variants as sizes
 use Rattle.plan.specs.Rules.{keepsRules, allBelow}
 use Rattle.plan.specs.Sizes.{wordCount, blockRows, blockColumns, neededMarks, neededStrips, neededPixels, planSizes}
+use Rattle.plan.specs.Lists.{wordAt}
 use Rattle.plan.proofs.Known.{refused-reason}
 use Rattle.plan.proofs.Needed.{bounds}
 use Rattle.plan_reader.specs.Layout.{kindOf, sizeAllowed, sideAllowed, passAllowed, endAllowed}
 use Rattle.plan_reader.specs.Reading.{
-  wordAt,
   payloadAt,
   orderAt,
   passPlace,

@@ -1,3 +1,4 @@
+pub mod Listed
 pub mod Tests
 pub mod Signed
 pub mod Record

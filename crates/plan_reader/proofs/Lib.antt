@@ -2,6 +2,5 @@ pub mod Conjunction
 pub mod Signed
 pub mod Places
 pub mod Outcomes
-pub mod Listed
 pub mod Record
 pub mod Answers

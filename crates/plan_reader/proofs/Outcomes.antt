@@ -18,10 +18,10 @@ use Rattle.refusal.specs.declared.Refusal.the-variants.{
 }
 use Rattle.refusal.specs.Refusals.{firstOf}
 use Rattle.plan.specs.Rules.{allBelow}
+use Rattle.plan.specs.Lists.{wordAt}
 use Rattle.plan.proofs.Tests.{all-fails}
 use Rattle.plan_reader.specs.Layout.{kindOf, endAllowed}
 use Rattle.plan_reader.specs.Reading.{
-  wordAt,
   payloadAt,
   orderAt,
   passPlace,

@@ -1,11 +1,11 @@
 -- Reading a plan: which word is due at which place, which refusal wins, and the record that the words hold.
 -- Places count from 0. Size stands at 0, block at 1, and then pass, gain and coefficients of four passes, and the end.
 use mathlib.Core.Bool.{Bool, true, cond}
-use mathlib.Core.List.{List, [], _∷_, _++_}
+use mathlib.Core.List.{List}
 use Prim.Native.Nat.{ℕ, zero, suc, _+_}
 use lib.IntN.{ℤ, pos}
 use lib.Dec.{ltb, leb, eqb}
-use lib.ListN.{length, getD, replicate}
+use lib.ListN.{length, replicate}
 use Rattle.refusal.specs.declared.Outcome.{Outcome}
 use Rattle.refusal.specs.declared.Outcome.the-variants.{Accepted, Refused}
 use Rattle.refusal.specs.declared.Refusal.the-variants.{
@@ -19,6 +19,7 @@ use Rattle.refusal.specs.Refusals.{firstOf}
 use Rattle.plan.specs.declared.Pass.{Pass}
 use Rattle.plan.specs.declared.Plan.{Plan}
 use Rattle.plan.specs.Rules.{orderLimit, allBelow}
+use Rattle.plan.specs.Lists.{wordAt, listOf}
 use Rattle.plan_reader.specs.declared.PlanRead.{PlanRead}
 use Rattle.plan_reader.specs.Layout.{
   kindOf,
@@ -33,11 +34,7 @@ use Rattle.plan_reader.specs.Layout.{
   signed28,
 }
 
--- The word at a place; 0 past the last.
-abbrev pub wordAt : List ℕ → ℕ → ℕ
-wordAt words place = getD words place 0
-
--- Its payload.
+-- The payload of the word at a place.
 abbrev pub payloadAt : List ℕ → ℕ → ℕ
 payloadAt words place = payloadOf (wordAt words place)
 
@@ -106,11 +103,6 @@ planOutcome words =
     (firstOf (passesOutcome words 4) (firstOf (endOutcome words (passPlace words 4)) (sideOutcome words)))
 
 -- ---- the record
-
--- The values of a function at 0 to count - 1, as a list.
-unfoldable pub listOf : {A : Type 0} → (ℕ → A) → ℕ → List A
-listOf f zero = []
-listOf f (suc count) = listOf f count ++ (f count ∷ [])
 
 -- Coefficient place j of the pass whose pass word stands at a place; 0 past the order.
 abbrev pub coefficientIn : List ℕ → ℕ → ℕ → ℤ

@@ -5,10 +5,10 @@ use refusal::Outcome;
 use refusal::Refusal;
 ghost use mathlib.Core.Path.{_≡_};
 ghost use Prim.Native.Nat.{_+_, _<_, _≤_, _%_};
-ghost use lib.ListN.{length};
 ghost use Rattle.plan.specs.Rules.{orderLimit};
-ghost use Rattle.plan_reader.specs.Layout.{payloadOf, sizeAllowed, passAllowed, signed28};
-ghost use Rattle.plan_reader.specs.Reading.{wordAt, payloadAt, orderAt, afterPass, passPlace, wordOutcome, headOutcome, coefficientsOutcome, passOutcome, passesOutcome, endOutcome, sideOutcome, planOutcome, listOf, coefficientIn, passFrom, planFrom, zeroPass, zeroPlan, readPlan};
+ghost use Rattle.plan.specs.Lists.{wordAt, listOf};
+ghost use Rattle.plan_reader.specs.Layout.{sizeAllowed, passAllowed, signed28};
+ghost use Rattle.plan_reader.specs.Reading.{payloadAt, orderAt, passPlace, wordOutcome, headOutcome, coefficientsOutcome, passOutcome, passesOutcome, endOutcome, sideOutcome, planOutcome, coefficientIn, passFrom, planFrom, zeroPass, zeroPlan, readPlan};
 
 // The plan that was read, or a plan of zeros beside a refusal.
 pub struct PlanRead {

@@ -12,7 +12,7 @@ use lib.Seq.{getD-append-add}
 use Rattle.plan.specs.declared.Plan.{Plan}
 use Rattle.plan.specs.Rules.{orderLimit, passAt, keepsRules}
 use Rattle.plan.proofs.Record.{rules}
-use Rattle.plan_reader.proofs.Listed.{listed-only}
+use Rattle.plan.proofs.Listed.{listed-only}
 use Rattle.plan_reader.proofs.Record.{same-pass, same-plan}
 use Rattle.plan_writer.specs.Shape.{WellShaped}
 use Rattle.plan_record.specs.Records.{

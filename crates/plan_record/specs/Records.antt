@@ -9,7 +9,7 @@ use lib.ListN.{getD}
 use Rattle.plan.specs.declared.Pass.{Pass}
 use Rattle.plan.specs.declared.Plan.{Plan}
 use Rattle.plan.specs.Rules.{orderLimit, passAt}
-use Rattle.plan_reader.specs.Reading.{listOf}
+use Rattle.plan.specs.Lists.{listOf}
 
 -- The words of a pass in the record: order, gain, and a place for each coefficient.
 abbrev pub passLength : ℕ

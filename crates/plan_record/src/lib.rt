@@ -6,7 +6,7 @@ ghost use mathlib.Core.List.{_++_};
 ghost use Prim.Native.Nat.{_≤_, _+_, _*_};
 ghost use lib.ListN.{length, take};
 ghost use Rattle.plan.specs.Rules.{orderLimit};
-ghost use Rattle.plan_reader.specs.Reading.{listOf};
+ghost use Rattle.plan.specs.Lists.{listOf};
 ghost use Rattle.plan_record.specs.Records.{recordLength, passLength, numberAt, sizeFrom, numberFrom, passOfRecord, planOfRecord, recordOfPass, recordOfPlan};
 
 // The words of a pass: order, gain and a place for each coefficient.

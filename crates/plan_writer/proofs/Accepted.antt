@@ -13,8 +13,9 @@ use Rattle.refusal.specs.declared.Refusal.{Refusal}
 use Rattle.refusal.specs.Refusals.{firstOf}
 use Rattle.plan.specs.declared.Plan.{Plan}
 use Rattle.plan.specs.Rules.{allBelow}
+use Rattle.plan.specs.Lists.{wordAt}
 use Rattle.plan_reader.specs.Layout.{kindOf}
-use Rattle.plan_reader.specs.Reading.{wordAt, payloadAt, wordOutcome, answerOf}
+use Rattle.plan_reader.specs.Reading.{payloadAt, wordOutcome, answerOf}
 use Rattle.plan_reader.proofs.Outcomes.{word-accepted}
 use Rattle.plan_writer.specs.Writing.{wordOf}
 

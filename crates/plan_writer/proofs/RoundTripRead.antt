@@ -28,6 +28,7 @@ use Rattle.plan.specs.Rules.{
   keepsRules,
 }
 use Rattle.plan.proofs.Tests.{and-left, and-right, all-at, lt-or-ge}
+use Rattle.plan.proofs.Listed.{listed-at, listed-length}
 use Rattle.plan_reader.specs.Layout.{rowsIn, columnsIn, passIn, passAllowed, sizeAllowed, sideAllowed, endAllowed, signed28}
 use Rattle.plan_reader.specs.Reading.{
   payloadAt,
@@ -47,7 +48,6 @@ use Rattle.plan_reader.specs.Reading.{
   planFrom,
   readPlan,
 }
-use Rattle.plan_reader.proofs.Listed.{listed-at, listed-length}
 use Rattle.plan_reader.proofs.Record.{coefficient-read, coefficient-zero}
 use Rattle.plan_reader.proofs.Outcomes.{sideReaches}
 use Rattle.plan_writer.specs.Shape.{WellShaped}

@@ -16,11 +16,12 @@ use Rattle.plan.specs.declared.Pass.{Pass}
 use Rattle.plan.specs.declared.Plan.{Plan}
 use Rattle.plan.specs.Rules.{orderLimit, within, inSigned28, isZero, coefficientAt, passAt, keepsRules}
 use Rattle.plan.specs.Sizes.{orderSum}
+use Rattle.plan.specs.Lists.{wordAt}
 use Rattle.plan.proofs.Tests.{lt-or-ge}
 use Rattle.plan.proofs.Record.{PassRules, rules}
+use Rattle.plan.proofs.Listed.{listed-only}
 use Rattle.plan_reader.specs.Layout.{signed28, passAllowed, sizeAllowed}
 use Rattle.plan_reader.specs.Reading.{
-  wordAt,
   payloadAt,
   orderAt,
   passPlace,
@@ -36,13 +37,19 @@ use Rattle.plan_reader.specs.Reading.{
   planFrom,
   readPlan,
 }
-use Rattle.plan_reader.proofs.Listed.{listed-only}
 use Rattle.plan_reader.proofs.Record.{coefficient-read, coefficient-zero, same-pass, same-plan}
 use Rattle.plan_reader.proofs.Outcomes.{side-accepted, sideReaches}
 use Rattle.plan_writer.specs.Shape.{WellShaped}
 use Rattle.plan_writer.specs.Writing.{wordOf, payload28, coefficientWords, passWords, passesWords, wordsOf}
 use Rattle.plan_writer.proofs.Payload.{payload-below, signed-payload}
-use Rattle.plan_writer.proofs.Words.{length-coefficients, length-pass, length-passes, length-words, more-orders, orders-grow}
+use Rattle.plan_writer.proofs.Words.{
+  length-coefficients,
+  length-pass,
+  length-passes,
+  length-words,
+  more-orders,
+  orders-grow,
+}
 use Rattle.plan_writer.proofs.Accepted.{and-both, all-of, both-accepted, payload-written, word-written}
 
 -- ---- where the words stand

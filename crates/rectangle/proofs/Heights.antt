@@ -12,6 +12,7 @@ use Rattle.plan.specs.declared.Pass.{Pass}
 use Rattle.plan.specs.declared.Plan.{Plan}
 use Rattle.plan.specs.Rules.{orderLimit, coefficientAt, passAt, keepsRules}
 use Rattle.plan.specs.Sizes.{neededPixels}
+use Rattle.plan.proofs.Listed.{listed-length, listed-at}
 use Rattle.passes.specs.Filter.{Filter}
 use Rattle.passes.specs.Passes.{passesOver, serialPasses}
 use Rattle.passes.specs.Pixel.{heightMap}
@@ -20,7 +21,6 @@ use Rattle.passes.proofs.Table.{rectangle-heights}
 use Rattle.filter.specs.Filters.{filterOf, filtersOf}
 use Rattle.filter.proofs.RowMajor.{row-of, column-of, place-below}
 use Rattle.serial.specs.Serial.{serialWords, serialOutput}
-use Rattle.serial.proofs.Lists.{length-listOf, listOf-at}
 use Rattle.serial.proofs.Answers.{long-enough, accepted}
 use Rattle.rectangle.specs.declared.RectangleSum.the-variants.{Sum}
 use Rattle.rectangle.specs.Rectangle.{tableOf, rectangleAnswer}
@@ -89,7 +89,7 @@ module _ (plan : Plan) (kept : keepsRules plan ≡ true) (heights : List ℤ) (o
 
   words-length : length (serialWords plan heights) ≡ neededPixels plan
   unfolding serialWords
-  words-length = length-listOf (neededPixels plan) _
+  words-length = listed-length _ (neededPixels plan)
 
   table-long : neededPixels plan ≤ length (serialOutput plan heights output)
   table-long = rw (← table-is) (simp length-append (omega (arith, words-length)))
@@ -102,7 +102,7 @@ module _ (plan : Plan) (kept : keepsRules plan ≡ true) (heights : List ℤ) (o
       let q : y * plan .columns + x < neededPixels plan = place-below (plan .rows) (plan .columns) y x a b in
       ap (λ (l : List ℕ). getD l (y * plan .columns + x) 0) (sym table-is)
       ∙ List·getD-append (serialWords plan heights) (drop (neededPixels plan) output) 0 (y * plan .columns + x) (rw words-length q)
-      ∙ listOf-at (neededPixels plan) _ (y * plan .columns + x) q
+      ∙ listed-at _ (neededPixels plan) (y * plan .columns + x) 0 q
       ∙ rw (row-of (plan .columns) y x b, column-of (plan .columns) y x b)
 
 pub sums-heights : SumsHeights

@@ -3,7 +3,6 @@ use plan::Plan;
 use plan::PlanSizes;
 use refusal::Refusal;
 ghost use mathlib.Core.Path.{_≡_};
-ghost use mathlib.Core.Bool.{false};
 ghost use Prim.Native.Nat.{_*_, _≤_};
 ghost use lib.ListN.{length};
 ghost use Rattle.passes.specs.Table.{cornerOf, rectangleSum};

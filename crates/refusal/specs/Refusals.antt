@@ -55,3 +55,8 @@ placeOf InputUnfit = 0
 abbrev pub firstOf : Outcome → Outcome → Outcome
 firstOf Accepted later = later
 firstOf (Refused refusal) later = Refused refusal
+
+-- Of two values, that of an accepted call or that of a refused one.
+abbrev pub ifAccepted : {A : Type 0} → Outcome → A → A → A
+ifAccepted Accepted accepted refused = accepted
+ifAccepted (Refused refusal) accepted refused = refused

@@ -12,6 +12,7 @@ use lib.ListN.{length}
 use Rattle.plan.specs.declared.Plan.{Plan}
 use Rattle.plan.specs.Rules.{keepsRules}
 use Rattle.plan.specs.Sizes.{neededPixels}
+use Rattle.plan.specs.Lists.{wordAt}
 use Rattle.passes.specs.Filter.{Filter}
 use Rattle.passes.specs.Pixel.{heightMap}
 use Rattle.passes.specs.Passes.{
@@ -32,7 +33,6 @@ use Rattle.passes.specs.Passes.{
 use Rattle.passes.proofs.Line.{wordsBefore-inside, wordsBefore-past}
 use Rattle.passes.proofs.Passes.{filterLine-reads}
 use Rattle.passes.proofs.Blocks.{placesBefore, wordsBeyond, filterLine-part}
-use Rattle.filter.specs.Buffer.{wordAt}
 use Rattle.filter.specs.Windows.{pixelPlace, windowOf, beyond}
 use Rattle.filter.proofs.RowMajor.{place-below, same-row-column}
 use Rattle.filter.proofs.Windows.{Passed, Histories, windowPass-passed, no-history}

@@ -13,10 +13,10 @@ use Rattle.plan.specs.Rules.{keepsRules}
 use Rattle.plan.specs.Sizes.{neededPixels, blockCount}
 use Rattle.plan.proofs.Record.{rules, order-limited-at}
 use Rattle.word.proofs.Ring.{mul-zero}
+use Rattle.plan.specs.Lists.{wordAt}
 use Rattle.passes.specs.Pixel.{heightMap}
 use Rattle.passes.specs.Passes.{passesOver, serialPasses}
 use Rattle.passes.proofs.Gains.{gains-first}
-use Rattle.filter.specs.Buffer.{wordAt}
 use Rattle.filter.specs.Filters.{filterOf, filtersOf}
 use Rattle.filter.proofs.RowMajor.{row-below, column-below}
 use Rattle.serial.specs.Serial.{serialWords}

@@ -1,16 +1,18 @@
 -- The serial passes over a whole map as a call: document 01, 'The four passes' and 'Refused calls'.
 use mathlib.Core.Bool.{_&&_, cond}
-use mathlib.Core.List.{List, [], _∷_, _++_}
-use Prim.Native.Nat.{ℕ, zero, suc, _/_, _%_}
+use mathlib.Core.List.{List, _++_}
+use Prim.Native.Nat.{ℕ, _/_, _%_}
 use lib.Dec.{leb}
 use lib.IntN.{ℤ}
 use lib.ListN.{length, drop}
 use Rattle.refusal.specs.declared.Outcome.{Outcome}
 use Rattle.refusal.specs.declared.Outcome.the-variants.{Accepted, Refused}
 use Rattle.refusal.specs.declared.Refusal.the-variants.{RecordBreaksRule, BufferTooShort}
+use Rattle.refusal.specs.Refusals.{ifAccepted}
 use Rattle.plan.specs.declared.Plan.{Plan}
 use Rattle.plan.specs.Rules.{keepsRules}
 use Rattle.plan.specs.Sizes.{neededPixels}
+use Rattle.plan.specs.Lists.{listOf}
 use Rattle.passes.specs.Pixel.{heightMap}
 use Rattle.passes.specs.Passes.{serialPasses}
 use Rattle.filter.specs.Filters.{filtersOf}
@@ -22,23 +24,14 @@ serialOutcome plan mapLength outputLength =
     (cond (leb (neededPixels plan) mapLength && leb (neededPixels plan) outputLength) Accepted (Refused BufferTooShort))
     (Refused RecordBreaksRule)
 
--- The list f 0, f 1, .. f (n-1).
-unfoldable pub listOf : ℕ → (ℕ → ℕ) → List ℕ
-listOf zero f = []
-listOf (suc n) f = f 0 ∷ listOf n (λ i. f (suc i))
-
 -- The h×w words of the result of left, row after row.
 unfoldable pub serialWords : Plan → List ℤ → List ℕ
 serialWords plan heights =
-    listOf (neededPixels plan)
+    listOf
     (λ i.
     serialPasses (filtersOf plan) (plan .rows) (plan .columns) (heightMap (plan .columns) heights) 4
     (i / plan .columns) (i % plan .columns))
-
--- Of two lists, that of an accepted call or that of a refused one.
-abbrev pub ifAccepted : Outcome → List ℕ → List ℕ → List ℕ
-ifAccepted Accepted accepted refused = accepted
-ifAccepted (Refused refusal) accepted refused = refused
+    (neededPixels plan)
 
 -- The output after a call: of an accepted call the words of the passes, and past these the words that were there; of a
 -- refused call all words that were there.

@@ -14,8 +14,9 @@ use Rattle.refusal.specs.declared.Outcome.the-variants.{Accepted, Refused}
 use Rattle.plan.specs.declared.Plan.{Plan}
 use Rattle.plan.specs.Sizes.{neededPixels}
 use Rattle.plan.specs.Rules.{keepsRules}
+use Rattle.plan.specs.Lists.{listOf}
 use Rattle.plan_reader.specs.declared.PlanRead.{PlanRead}
-use Rattle.plan_reader.specs.Reading.{listOf, readPlan}
+use Rattle.plan_reader.specs.Reading.{readPlan}
 use Rattle.plan_writer.proofs.RoundTripRead.{read-keeps-rules}
 use Rattle.report.specs.declared.Progress.{Progress}
 use Rattle.report.specs.declared.ReportAnswer.{ReportAnswer}

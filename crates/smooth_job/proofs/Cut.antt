@@ -14,10 +14,25 @@ use Rattle.refusal.specs.declared.Outcome.{Outcome}
 use Rattle.refusal.specs.declared.Outcome.the-variants.{Accepted, Refused}
 use Rattle.plan.specs.declared.Plan.{Plan}
 use Rattle.plan.specs.Sizes.{neededPixels}
-use Rattle.plan_reader.specs.Reading.{listOf, readPlan}
-use Rattle.plan_reader.proofs.Listed.{listed-length, listed-at, listed-only}
+use Rattle.plan.specs.Lists.{listOf}
+use Rattle.plan.proofs.Listed.{listed-length, listed-at, listed-only}
+use Rattle.plan_reader.specs.Reading.{readPlan}
 use Rattle.smooth_job.specs.Promises.{CutAsksTheSame}
-use Rattle.smooth_job.specs.Program.{planLimit, pixelLimit, wordIn, afterEnd, planLength, planWords, heightsIn, Asked, unfit, job, askedWith, asked, inputLimit}
+use Rattle.smooth_job.specs.Program.{
+  planLimit,
+  pixelLimit,
+  wordIn,
+  afterEnd,
+  planLength,
+  planWords,
+  heightsIn,
+  Asked,
+  unfit,
+  job,
+  askedWith,
+  asked,
+  inputLimit,
+}
 use Rattle.smooth_job.proofs.Input.{length-limited, cut-whole, cut-long}
 
 end-same : (f g : ℕ → ℕ) (i n : ℕ) → ((j : ℕ) → i ≤ j → j < i + n → f j ≡ g j) → afterEnd f i n ≡ afterEnd g i n

@@ -20,8 +20,8 @@ use Rattle.plan.specs.Sizes.{neededMarks, neededStrips, neededPixels}
 use Rattle.plan.proofs.Record.{rules}
 use Rattle.plan.proofs.Blocks.{count-bounded}
 use Rattle.plan.proofs.Needed.{bounds}
+use Rattle.plan.proofs.Listed.{listed-length}
 use Rattle.plan_reader.specs.Reading.{readPlan}
-use Rattle.plan_reader.proofs.Listed.{listed-length}
 use Rattle.plan_writer.proofs.RoundTripRead.{read-keeps-rules}
 use Rattle.report.specs.declared.ReportAnswer.{ReportAnswer}
 use Rattle.report.specs.declared.ReportAnswer.the-variants.{Refused as NoReport, Made}

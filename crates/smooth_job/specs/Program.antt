@@ -12,8 +12,9 @@ use Rattle.refusal.specs.declared.Outcome.the-variants.{Accepted, Refused}
 use Rattle.plan.specs.declared.Plan.{Plan}
 use Rattle.plan.specs.Rules.{orderLimit}
 use Rattle.plan.specs.Sizes.{neededPixels}
+use Rattle.plan.specs.Lists.{listOf}
 use Rattle.plan_reader.specs.Layout.{kindOf}
-use Rattle.plan_reader.specs.Reading.{listOf, readPlan}
+use Rattle.plan_reader.specs.Reading.{readPlan}
 use Rattle.report.specs.declared.ReportAnswer.{ReportAnswer}
 use Rattle.report.specs.declared.ReportAnswer.the-variants.{Refused as NoReport, Made}
 use Rattle.report.specs.Report.{report}

@@ -7,7 +7,7 @@ use lib.ListN.{length, take}
 use Rattle.refusal.specs.declared.Outcome.the-variants.{Accepted}
 use Rattle.plan.specs.declared.Plan.{Plan}
 use Rattle.plan.specs.Sizes.{neededPixels, taskCount}
-use Rattle.filter.specs.Buffer.{wordAt}
+use Rattle.plan.specs.Lists.{wordAt}
 use Rattle.blocks.specs.Writes.{mapOf}
 use Rattle.blocks.specs.Matching.{serialResult}
 use Rattle.smooth_job.specs.Program.{pixelLimit, asked, job, answerTo, outputOf, inputLimit, cutLength}

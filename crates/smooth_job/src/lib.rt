@@ -10,7 +10,8 @@ ghost use Prim.Native.Nat.{_+_, _*_, _/_, _<_, _≤_};
 ghost use lib.ListN.{length, getD, replicate};
 ghost use Rattle.plan.specs.Rules.{keepsRules};
 ghost use Rattle.refusal.specs.declared.Outcome.the-variants.{Accepted};
-ghost use Rattle.plan_reader.specs.Reading.{listOf, readPlan};
+ghost use Rattle.plan.specs.Lists.{listOf};
+ghost use Rattle.plan_reader.specs.Reading.{readPlan};
 ghost use Rattle.report.specs.Report.{report};
 ghost use Rattle.smooth_job.specs.Program.{planLimit, pixelLimit, stripLimit, wordIn, planLength, signed32, heightsIn, job, asked, askedWith, refusedWith, reportedWith, answerTo, outputOf, cutLimit, cutLength};
 

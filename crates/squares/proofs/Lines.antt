@@ -9,13 +9,13 @@ use native.Mathlib.Nat.{zero-add}
 use borrow.Author.Tests.{lt-ltb, le-ltb}
 use lib.ListN.{length, replicate}
 use Rattle.plan.specs.Rules.{orderLimit}
+use Rattle.plan.specs.Lists.{wordAt}
 use Rattle.passes.proofs.Passes.{filterLine-reads}
 use Rattle.passes.specs.Filter.{Filter}
 use Rattle.passes.specs.Passes.{Axis, rows, Direction, forward, backward, axisOf, directionOf, filterLines}
 use Rattle.filter.proofs.Numbers.{axis-rows}
 use Rattle.filter.proofs.RowMajor.{same-row-column}
 use Rattle.filter.proofs.Windows.{Passed, windowPass-passed}
-use Rattle.filter.specs.Buffer.{wordAt}
 use Rattle.filter.specs.Windows.{pixelPlace, beyond, wordsBesideWindow, windowPass, WindowFits}
 use Rattle.filter.specs.declared.Window.{Window}
 use Rattle.squares.specs.LinePasses.{linePasses}

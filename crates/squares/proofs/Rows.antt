@@ -5,8 +5,8 @@ use Prim.Native.Nat.{ℕ, zero, suc, _+_, _-_, _*_, _<_, _≤_}
 use native.Mathlib.Omega.{arith}
 use native.Mathlib.Numerals.{add-one}
 use Rattle.plan.specs.Rules.{orderLimit}
+use Rattle.plan.specs.Lists.{wordAt}
 use Rattle.passes.specs.Filter.{Filter}
-use Rattle.filter.specs.Buffer.{wordAt}
 use Rattle.filter.specs.Windows.{pixelPlace}
 use Rattle.squares.specs.LinePasses.{linePasses}
 use Rattle.squares.specs.Lines.{rowWords, lineRows, OrdersFit, rowsBefore}

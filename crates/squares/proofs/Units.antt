@@ -8,11 +8,11 @@ use native.Mathlib.Omega.{arith}
 use lib.ListN.{length, set, getD}
 use lib.Seq.{getD-set-same, getD-set-other}
 use Rattle.plan.specs.Rules.{orderLimit}
+use Rattle.plan.specs.Lists.{wordAt}
 use Rattle.passes.specs.Passes.{Direction, forward, backward, directionOf}
 use Rattle.passes.specs.Square.{unitHistory}
 use Rattle.filter.proofs.RowMajor.{same-row-column}
 use Rattle.filter.proofs.Written.{written-next, written-length, written-other, written-at}
-use Rattle.filter.specs.Buffer.{wordAt}
 use Rattle.filter.specs.Windows.{pixelPlace, beyond}
 use Rattle.squares.specs.LinePasses.{onlyAt}
 use Rattle.squares.specs.Lines.{rowWords, unitLines}

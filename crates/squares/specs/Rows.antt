@@ -4,9 +4,9 @@ use mathlib.Core.List.{List}
 use Prim.Native.Nat.{ℕ, _+_, _-_, _*_, _<_, _≤_}
 use lib.ListN.{length}
 use Rattle.plan.specs.Rules.{orderLimit}
+use Rattle.plan.specs.Lists.{wordAt}
 use Rattle.passes.specs.Filter.{Filter}
 use Rattle.passes.specs.Passes.{Direction, directionOf}
-use Rattle.filter.specs.Buffer.{wordAt}
 use Rattle.filter.specs.Windows.{pixelPlace, beyond}
 use Rattle.squares.specs.LinePasses.{linePasses}
 use Rattle.squares.specs.Lines.{rowWords, rowsBefore}

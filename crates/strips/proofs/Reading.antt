@@ -9,9 +9,9 @@ use lib.Dec.{ltb, leb}
 use borrow.Author.Tests.{ltb-true, leb-true, lt-ltb, le-ltb, le-leb}
 use Rattle.plan.specs.declared.Plan.{Plan}
 use Rattle.plan.specs.Sizes.{neededMarks, neededStrips}
+use Rattle.plan.specs.Lists.{wordAt}
 use Rattle.plan.proofs.Tests.{and-left, and-right}
 use Rattle.passes.specs.Passes.{Axis, columns, rows, Direction, forward, backward, axisOf, directionOf, along, across}
-use Rattle.filter.specs.Buffer.{wordAt}
 use Rattle.blocks.specs.Geometry.{rowsOf, columnsOf, neighbour, orZero}
 use Rattle.blocks.specs.Strips.{
   orderOf,

@@ -5,8 +5,8 @@ use mathlib.Core.Option.{Option, none, some}
 use Prim.Native.Nat.{ℕ, _+_, _-_, _*_, _<_, min}
 use lib.Dec.{ltb, leb}
 use Rattle.plan.specs.declared.Plan.{Plan}
+use Rattle.plan.specs.Lists.{wordAt}
 use Rattle.passes.specs.Passes.{Direction, forward, backward, axisOf, directionOf, along, across}
-use Rattle.filter.specs.Buffer.{wordAt}
 use Rattle.blocks.specs.Geometry.{rowsOf, columnsOf, neighbour}
 use Rattle.blocks.specs.Strips.{orderOf, stripStart}
 use Rattle.strips.specs.declared.Strip.{Strip}

@@ -8,10 +8,11 @@ use lib.ListN.{length}
 use Rattle.refusal.specs.declared.Refusal.the-variants.{RecordBreaksRule, BufferTooShort}
 use Rattle.refusal.specs.declared.Outcome.{Outcome}
 use Rattle.refusal.specs.declared.Outcome.the-variants.{Accepted, Refused}
+use Rattle.refusal.specs.Refusals.{ifAccepted}
 use Rattle.plan.specs.declared.Plan.{Plan}
 use Rattle.plan.specs.Rules.{keepsRules}
 use Rattle.plan.specs.Sizes.{neededPixels, taskCount}
-use Rattle.filter.specs.Buffer.{wordAt}
+use Rattle.plan.specs.Lists.{wordAt}
 use Rattle.report.specs.declared.Next.{Next}
 use Rattle.report.specs.declared.Next.the-variants.{Ready, Nothing}
 use Rattle.report.specs.declared.ReportAnswer.{ReportAnswer}
@@ -19,7 +20,7 @@ use Rattle.report.specs.declared.ReportAnswer.the-variants.{Refused as NoReport
 use Rattle.report.specs.Report.{report}
 use Rattle.blocks.specs.Writes.{mapOf}
 use Rattle.blocks.specs.Matching.{serialResult}
-use Rattle.calls.specs.Calls.{Buffers, ifAccepted, started, tooShort, afterTask}
+use Rattle.calls.specs.Calls.{Buffers, started, tooShort, afterTask}
 
 -- The lists after the task that is named; as they were where none is.
 abbrev pub afterNext : Plan → List ℤ → Next → Buffers → Buffers

@@ -4,7 +4,7 @@ use mathlib.Core.Path.{_≡_}
 use native.Mathlib.Omega.{arith}
 use borrow.Author.Needs.{needs}
 use Rattle.word.specs.Word.{_⊗_}
-use Rattle.filter.specs.Buffer.{wordAt}
+use Rattle.plan.specs.Lists.{wordAt}
 use Rattle.link.specs.Words.{weightsAt, MultiplesAdded}
 use Rattle.link.proofs.Carrying.{multiples-none, multiples-next}
 use Rattle.link.proofs.add_multiples.Statement.{statement}

@@ -4,9 +4,10 @@ use Prim.Native.Nat.{ℕ, _-_, _≤_}
 use native.Mathlib.Omega.{arith}
 use borrow.Author.Needs.{needs}
 use lib.ListN.{length, take, length-set}
-use Rattle.plan_reader.specs.Reading.{passPlace, passFrom, listOf}
+use Rattle.plan.specs.Lists.{listOf}
+use Rattle.plan.proofs.Listed.{listed-none, filled-more, filled-all}
+use Rattle.plan_reader.specs.Reading.{passPlace, passFrom}
 use Rattle.plan_reader.proofs.Places.{pass-place-bounded}
-use Rattle.plan_reader.proofs.Listed.{listed-none, filled-more, filled-all}
 use Rattle.plan_reader.proofs.passes_from.Statement.{statement}
 use Rattle.plan_reader.proofs.passes_from.Tie as tie
 

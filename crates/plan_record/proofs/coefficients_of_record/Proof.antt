@@ -6,8 +6,8 @@ use borrow.Author.Needs.{needs}
 use lib.ListN.{length, take, length-set}
 use Rattle.plan_reader.proofs.Signed.{read-back}
 use Rattle.plan.specs.Rules.{orderLimit}
-use Rattle.plan_reader.specs.Reading.{listOf}
-use Rattle.plan_reader.proofs.Listed.{listed-none, filled-more, filled-all}
+use Rattle.plan.specs.Lists.{listOf}
+use Rattle.plan.proofs.Listed.{listed-none, filled-more, filled-all}
 use Rattle.plan_record.specs.Records.{numberAt}
 use Rattle.plan_record.proofs.coefficients_of_record.Statement.{statement}
 use Rattle.plan_record.proofs.coefficients_of_record.Tie as tie

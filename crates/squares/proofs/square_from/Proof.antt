@@ -6,7 +6,7 @@ use native.Mathlib.Omega.{arith}
 use borrow.Author.Needs.{needs}
 use lib.ListN.{getD, length, length-set}
 use Rattle.plan.specs.Rules.{orderLimit}
-use Rattle.filter.specs.Buffer.{wordAt}
+use Rattle.plan.specs.Lists.{wordAt}
 use Rattle.squares.specs.Lines.{rowWords}
 use Rattle.squares.proofs.Units.{square-next}
 use Rattle.squares.proofs.square_from.Statement.{statement}

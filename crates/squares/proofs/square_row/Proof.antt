@@ -5,8 +5,8 @@ use native.Mathlib.Omega.{arith}
 use borrow.Author.Needs.{needs}
 use lib.ListN.{length, length-set}
 use Rattle.plan.specs.Rules.{orderLimit}
+use Rattle.plan.specs.Lists.{wordAt}
 use Rattle.filter.proofs.Buffers.{HoldsBelow, holds-more}
-use Rattle.filter.specs.Buffer.{wordAt}
 use Rattle.squares.specs.Lines.{rowWords}
 use Rattle.squares.proofs.square_row.Statement.{statement}
 use Rattle.squares.proofs.square_row.Tie as tie

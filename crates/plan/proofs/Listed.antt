@@ -9,7 +9,7 @@ use native.Mathlib.Nat.{eq-or-lt-of-le}
 use native.Mathlib.Numerals.{add-one}
 use lib.ListN.{length, getD, take, set, length-append, List·getD-append}
 use lib.Seq.{getD-at, ext-getD, take-suc-set, take-length}
-use Rattle.plan_reader.specs.Reading.{listOf}
+use Rattle.plan.specs.Lists.{listOf}
 
 module _ {A : Type 0} (f : ℕ → A) where
   pub listed-none : listOf f 0 ≡ []
