@@ -327,13 +327,13 @@ pub fn across(pass: usize, vertical: usize, horizontal: usize) -> usize
 }
 
 // and up and left run backward.
-fn is_backward(pass: usize) -> bool
+pub fn is_backward(pass: usize) -> bool
     ensures { λ r. ⌜ r ≡ isBackward (directionOf pass) ⌝ }
 {
     pass % 2 == 1
 }
 
-fn if_forward(backward: bool, number: usize) -> usize
+pub fn if_forward(backward: bool, number: usize) -> usize
     ensures { λ r. ⌜ r ≡ ifForward backward number ⌝ }
 {
     if backward { 0 } else { number }

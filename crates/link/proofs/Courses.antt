@@ -1,7 +1,7 @@
--- The course of a link by the code's tests of its number. Assumes nothing.
+-- The course of a link as the code chooses it by its number. Assumes nothing.
 use mathlib.Core.List.{List}
-use mathlib.Core.Path.{_≡_, refl, ap, ap₂, sym}
-use mathlib.Core.Bool.{true}
+use mathlib.Core.Path.{_≡_, refl, ap, _∙_}
+use mathlib.Core.Bool.{Bool, true}
 use Prim.Native.Nat.{ℕ, zero, suc, _+_, _-_, _%_, _<_, _≤_}
 use native.Mathlib.Omega.{arith}
 use Rattle.word.specs.Word.{_⊗_}
@@ -15,11 +15,11 @@ use Rattle.passes.specs.Gains.{unitGain}
 use Rattle.passes.specs.Passes.{Axis, columns, rows, Direction, forward, backward, axisOf, directionOf, along, across}
 use Rattle.filter.proofs.Filters.{filterWords-filter}
 use Rattle.filter.specs.Filters.{filterOf, filtersOf}
+use Rattle.filter.specs.Windows.{isBackward, ifForward}
 use Rattle.filter.specs.declared.FilterWords.{FilterWords}
 use Rattle.blocks.proofs.Geometry.{block-row-below, block-column-below}
 use Rattle.blocks.specs.Geometry.{blockRow, blockColumn, rowsOf, columnsOf}
 use Rattle.blocks.specs.Strips.{orderOf, fromEdge}
-use Rattle.strips.proofs.Passes.{even-forward, odd-backward}
 use Rattle.strips.proofs.Reading.{before-fits, past-edges-read}
 use Rattle.strips.specs.Reading.{stripBefore, stripRead, StripFits}
 use Rattle.strips.specs.Shapes.{shapeOf}
@@ -30,47 +30,47 @@ use Rattle.squares.specs.Lines.{filterAt, OrdersFit}
 use Rattle.link.specs.Courses.{unitGainFilters, gainsAfter, scaledEdges, endsFrom, courseAlong, courseOf, CourseFits, LinkFits}
 use Rattle.link.specs.declared.Course.{Course}
 
-one-pass : (pass : ℕ) → pass % 2 ≡ 0 → axisPasses pass ≡ 1
-one-pass zero e = refl
-one-pass (suc zero) e = absurd (omega arith)
-one-pass (suc (suc pass)) e = one-pass pass (omega arith)
+axis-start : (pass : ℕ) → along (axisOf pass) 0 2 ≡ axisStart pass
+axis-start zero = refl
+axis-start (suc zero) = refl
+axis-start (suc (suc pass)) = refl
 
-two-passes : (pass : ℕ) → (pass % 2 ≡ 0 → ⊥) → axisPasses pass ≡ 2
-two-passes zero e = absurd (e refl)
-two-passes (suc zero) e = refl
-two-passes (suc (suc pass)) e = two-passes pass (λ z. e (omega arith))
+axis-passes : (pass : ℕ) → 1 + pass % 2 ≡ axisPasses pass
+axis-passes zero = refl
+axis-passes (suc zero) = refl
+axis-passes (suc (suc pass)) = omega (arith, axis-passes pass)
 
-pub forward-course : (pass first n lines order : ℕ) → pass % 2 ≡ 0
-    → record { pass = pass; first = first; passes = 1; places = n; lines = lines; from = (orderLimit + n) - order; order = order }
+ends-from : (d : Direction) (n order : ℕ)
+    → (orderLimit + ifForward (isBackward d) n) - ifForward (isBackward d) order ≡ endsFrom d n order
+ends-from forward n order = refl
+ends-from backward n order = omega arith
+
+pub course-along-is : (pass first n lines order : ℕ) {turned : Bool} {forth back : ℕ} → turned ≡ isBackward (directionOf pass)
+    → forth ≡ ifForward turned n → back ≡ ifForward turned order
+    → record {
+      pass = pass;
+      first = first;
+      passes = 1 + pass % 2;
+      places = n;
+      lines = lines;
+      from = (orderLimit + forth) - back;
+      order = order;
+    }
     ≡ courseAlong pass first n lines order
-forward-course pass first n lines order e =
-    ap₂
-    (λ c f. record { pass = pass; first = first; passes = c; places = n; lines = lines; from = f; order = order })
-    (sym (one-pass pass e)) (ap (λ d. endsFrom d n order) (sym (even-forward pass e)))
-
-pub backward-course : (pass first n lines order : ℕ) → (pass % 2 ≡ 0 → ⊥)
-    → record { pass = pass; first = first; passes = 2; places = n; lines = lines; from = orderLimit; order = order }
-    ≡ courseAlong pass first n lines order
-backward-course pass first n lines order e =
-    ap₂
-    (λ c f. record { pass = pass; first = first; passes = c; places = n; lines = lines; from = f; order = order })
-    (sym (two-passes pass e)) (ap (λ d. endsFrom d n order) (sym (odd-backward pass e)))
+course-along-is pass first n lines order t f b = rw (f, b, t, axis-passes pass, ends-from (directionOf pass) n order)
 
 -- ---- the course of block k's link
 
-pub columns-course : (plan : Plan) (k pass : ℕ) (shape : BlockShape) → shape ≡ shapeOf plan k → pass < 2
-    → courseAlong pass 0 (shape .rows) (shape .columns) (orderOf plan pass) ≡ courseOf plan k pass
+pub course-is : (plan : Plan) (k pass : ℕ) {shape : BlockShape} {first n lines : ℕ} {course : Course} → shape ≡ shapeOf plan k
+    → first ≡ along (axisOf pass) 0 2 → n ≡ along (axisOf pass) (shape .rows) (shape .columns)
+    → lines ≡ across (axisOf pass) (shape .rows) (shape .columns)
+    → course ≡ courseAlong pass first n lines (orderOf plan pass) → course ≡ courseOf plan k pass
 unfolding courseOf shapeOf
-columns-course plan k zero shape e h = rw e
-columns-course plan k (suc zero) shape e h = rw e
-columns-course plan k (suc (suc pass)) shape e h = absurd (omega arith)
+course-is plan k pass shaped a b c e = e ∙ rw (a, b, c, shaped, axis-start pass)
 
-pub rows-course : (plan : Plan) (k pass : ℕ) (shape : BlockShape) → shape ≡ shapeOf plan k → 2 ≤ pass
-    → courseAlong pass 2 (shape .columns) (shape .rows) (orderOf plan pass) ≡ courseOf plan k pass
-unfolding courseOf shapeOf
-rows-course plan k zero shape e h = absurd (omega arith)
-rows-course plan k (suc zero) shape e h = absurd (omega arith)
-rows-course plan k (suc (suc pass)) shape e h = rw e
+of-axis : (a : Axis) (P : ℕ → Type 0) (h w : ℕ) → P h → P w → P (along a h w) × P (across a h w)
+of-axis columns P h w p q = (p, q)
+of-axis rows P h w p q = (q, p)
 
 module _ (plan : Plan) (kept : keepsRules plan ≡ true) where
   pub few-rows : (k : ℕ) → rowsOf plan k ≤ 32
@@ -79,9 +79,10 @@ module _ (plan : Plan) (kept : keepsRules plan ≡ true) where
   pub few-columns : (k : ℕ) → columnsOf plan k ≤ 32
   few-columns k = omega (arith, rules plan kept .side-high, extent-in-side (plan .columns) (plan .side) (blockColumn plan k))
 
-  pub shape-few : (k : ℕ) (shape : BlockShape) → shape ≡ shapeOf plan k → (shape .rows ≤ 32) × (shape .columns ≤ 32)
+  pub few-places : (k pass : ℕ) (shape : BlockShape) → shape ≡ shapeOf plan k
+      → along (axisOf pass) (shape .rows) (shape .columns) ≤ 32
   unfolding shapeOf
-  shape-few k shape e = rw e (few-rows k, few-columns k)
+  few-places k pass shape e = rw e (of-axis (axisOf pass) (λ z. z ≤ 32) _ _ (few-rows k) (few-columns k) .0)
 
 -- Passes of one axis, counted.
 record Counted (pass : ℕ) : Type 0 where
@@ -91,9 +92,7 @@ record Counted (pass : ℕ) : Type 0 where
   pub passes-counted : axisStart pass + axisPasses pass ≤ 4
 
 passes-in-axis : (pass : ℕ) → (0 < axisPasses pass) × (axisPasses pass ≤ 2)
-passes-in-axis zero = omega arith
-passes-in-axis (suc zero) = omega arith
-passes-in-axis (suc (suc pass)) = passes-in-axis pass
+passes-in-axis pass = omega (arith, axis-passes pass)
 
 counted : (pass : ℕ) → Counted pass
 counted pass =
@@ -121,10 +120,6 @@ last-of-axis (suc (suc (suc (suc pass)))) h = absurd (omega arith)
 ends-in-line : (d : Direction) (n order : ℕ) → endsFrom d n order ≤ orderLimit + n
 ends-in-line forward n order = omega arith
 ends-in-line backward n order = omega arith
-
-of-axis : (a : Axis) (P : ℕ → Type 0) (h w : ℕ) → P h → P w → P (along a h w) × P (across a h w)
-of-axis columns P h w p q = (p, q)
-of-axis rows P h w p q = (q, p)
 
 -- The course of a link whose order is not 0 fits the buffers.
 pub course-fits : (plan : Plan) (k pass : ℕ) → keepsRules plan ≡ true → k < neededMarks plan → pass < 4

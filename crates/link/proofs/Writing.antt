@@ -210,16 +210,15 @@ same-place : (a : Axis) (side order q : ℕ)
 same-place columns side order q = div-add-mod' q side
 same-place rows side order q = div-add-mod' q order
 
-module _ (course : Course) (side start : ℕ) (a : Axis) where
-  abbrev lineStep : ℕ
-  lineStep = along a 1 (course .order)
-
-  abbrev placeStep : ℕ
-  placeStep = along a side 1
+module _ (course : Course) (side start : ℕ) {lineStep placeStep : ℕ}
+    (line-steps : lineStep ≡ along (axisOf (course .pass)) 1 (course .order))
+    (place-steps : placeStep ≡ along (axisOf (course .pass)) side 1) where
+  abbrev a : Axis
+  a = axisOf (course .pass)
 
   laid-is : (line place : ℕ)
       → laidAt start lineStep placeStep line place ≡ start + placeInStrip a side (course .order) line place
-  laid-is line place = by a
+  laid-is line place = rw (line-steps, place-steps) (by a)
     where
       by : (a : Axis)
           → laidAt start (along a 1 (course .order)) (along a side 1) line place
@@ -231,7 +230,7 @@ module _ (course : Course) (side start : ℕ) (a : Axis) where
       → StripLaid n course start lineStep placeStep side
   strip-laid fits long =
       record {
-        some-step = by a;
+        some-step = rw line-steps (by a);
         side-high = long .side-high;
         lines-in-side = long .lines-in-side;
         inside = λ line place h b.
@@ -249,14 +248,13 @@ module _ (course : Course) (side start : ℕ) (a : Axis) where
       by rows = fits .some-order
 
   -- What `write_strip` does.
-  pub strip-whole : axisOf (course .pass) ≡ a → (responses before : List ℕ) {after : List ℕ}
+  pub strip-whole : (responses before : List ℕ) {after : List ℕ}
       → StripLong (length before) course side start
       → PlacesWritten start lineStep placeStep side (course .order) (linkedWord course responses) before after
       → after ≡ linkedTo course responses side start (side * course .order) before
   unfolding linkedTo
-  strip-whole axis responses before {after} long held =
-      rw axis
-      (ext-getD 0 after strip (held .length-kept ∙ sym (written-length to word count before))
+  strip-whole responses before {after} long held =
+      ext-getD 0 after strip (held .length-kept ∙ sym (written-length to word count before))
       (λ z h.
       elim (decLt z start) [
         | yes l ↦ outside z (λ q c e. omega arith)
@@ -267,7 +265,7 @@ module _ (course : Course) (side start : ℕ) (a : Axis) where
                   rw at at (inside (z - start) (omega arith))
               | no b ↦ outside z (λ q c e. omega arith)
             ]
-      ]))
+      ])
     where
       count : ℕ
       count = side * course .order

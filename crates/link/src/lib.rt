@@ -63,30 +63,21 @@ fn gains_after(plan: Plan, pass: usize, last: usize) -> u64
     filter::gains_from(plan, pass + 1, last - pass)
 }
 
+// The strip has the last places of a line where the pass runs forward, the first where it runs backward.
 fn course_along(pass: usize, first: usize, places: usize, lines: usize, order: usize) -> Course
     requires { ⌜ (places ≤ 32) × (order ≤ orderLimit) ⌝ }
     ensures { λ r. ⌜ r ≡ courseAlong pass first places lines order ⌝ }
 {
-    if pass % 2 == 0 {
-        Course {
-            pass: pass,
-            first: first,
-            passes: 1,
-            places: places,
-            lines: lines,
-            from: plan::ORDER_LIMIT + places - order,
-            order: order,
-        }
-    } else {
-        Course {
-            pass: pass,
-            first: first,
-            passes: 2,
-            places: places,
-            lines: lines,
-            from: plan::ORDER_LIMIT,
-            order: order,
-        }
+    let backward = filter::is_backward(pass);
+    Course {
+        pass: pass,
+        first: first,
+        passes: 1 + pass % 2,
+        places: places,
+        lines: lines,
+        from: plan::ORDER_LIMIT + filter::if_forward(backward, places)
+            - filter::if_forward(backward, order),
+        order: order,
     }
 }
 
@@ -97,11 +88,13 @@ fn course_of(plan: Plan, k: usize, pass: usize) -> Course
 {
     let shape = strips::block_shape(plan, k);
     let filter = plan.passes[pass];
-    if pass < 2 {
-        course_along(pass, 0, shape.rows, shape.columns, filter.order)
-    } else {
-        course_along(pass, 2, shape.columns, shape.rows, filter.order)
-    }
+    course_along(
+        pass,
+        filter::along(pass, 0, 2),
+        filter::along(pass, shape.rows, shape.columns),
+        filter::across(pass, shape.rows, shape.columns),
+        filter.order,
+    )
 }
 
 // The place of a line of a strip that lies at a distance from the edge by which a pass leaves the block.
@@ -607,11 +600,15 @@ fn write_strip(strips: &mut [u64], start: usize, side: usize, course: Course, re
     requires { ⌜ CourseFits course × (StripLong (length (now strips)) course side start × (length (now responses) ≡ responseWords)) ⌝ }
     ensures { λ _. ⌜ now (strips .exit) ≡ linkedTo course (now (responses .entry)) side start (side * course .order) (now (strips .entry)) ⌝ }
 {
-    if course.pass < 2 {
-        write_places(strips, start, 1, side, side, course, responses);
-    } else {
-        write_places(strips, start, course.order, 1, side, course, responses);
-    }
+    write_places(
+        strips,
+        start,
+        filter::along(course.pass, 1, course.order),
+        filter::along(course.pass, side, 1),
+        side,
+        course,
+        responses,
+    );
 }
 
 // The link of a pass of block k: its strip is that of the whole map where the strips of its needs are.

@@ -1,18 +1,15 @@
 -- The axis and the direction of a pass by the code's tests of its number. Assumes nothing.
 use mathlib.Core.Path.{_≡_, refl}
+use mathlib.Core.Bool.{Bool, true, false}
 use Prim.Native.Nat.{ℕ, zero, suc, _%_, _≤_, _<_}
 use native.Mathlib.Omega.{arith}
-use Rattle.passes.specs.Passes.{columns, rows, forward, backward, axisOf, directionOf}
+use Rattle.passes.specs.Passes.{columns, forward, backward, axisOf, directionOf}
+use Rattle.filter.specs.Windows.{ifForward}
 
 pub axis-columns : (pass : ℕ) → pass < 2 → axisOf pass ≡ columns
 axis-columns zero h = refl
 axis-columns (suc zero) h = refl
 axis-columns (suc (suc pass)) h = absurd (omega arith)
-
-pub axis-rows : (pass : ℕ) → 2 ≤ pass → axisOf pass ≡ rows
-axis-rows zero h = absurd (omega arith)
-axis-rows (suc zero) h = absurd (omega arith)
-axis-rows (suc (suc pass)) h = refl
 
 pub even-forward : (pass : ℕ) → pass % 2 ≡ 0 → directionOf pass ≡ forward
 even-forward zero e = refl
@@ -23,3 +20,7 @@ pub odd-backward : (pass : ℕ) → (pass % 2 ≡ 0 → ⊥) → directionOf pas
 odd-backward zero e = absurd (e refl)
 odd-backward (suc zero) e = refl
 odd-backward (suc (suc pass)) e = odd-backward pass (λ z. e (omega arith))
+
+pub forward-low : (turned : Bool) (n : ℕ) → ifForward turned n ≤ n
+forward-low true n = omega arith
+forward-low false n = omega arith

@@ -19,7 +19,7 @@ use Rattle.blocks.proofs.Geometry.{block-row-below, block-column-below, goesOn,
 use Rattle.strips.specs.declared.BlockLine.{BlockLine}
 use Rattle.strips.specs.declared.Neighbour.the-variants.{Block, Beyond}
 use Rattle.strips.specs.Shapes.{shapeOf, blockLine, foundNeighbour}
-use Rattle.strips.proofs.Passes.{axis-columns, axis-rows, even-forward, odd-backward}
+use Rattle.strips.proofs.Passes.{even-forward, odd-backward}
 
 -- Block k among the rows and columns of blocks.
 pub record Located (plan : Plan) (k : ℕ) : Type 0 where
@@ -55,16 +55,11 @@ located plan k kept here =
 
 -- ---- the code's values
 
-pub line-of-rows : (plan : Plan) (k pass m n : ℕ) → pass < 2 → m ≡ blockRows plan → n ≡ blockColumns plan
-    → record { at = k / n; count = m; step = n } ≡ blockLine plan k pass
-unfolding blockLine blockRow
-line-of-rows plan k pass m n h e f =
-    rw (axis-columns pass h, e, f)
-
-pub line-of-columns : (plan : Plan) (k pass n : ℕ) → 2 ≤ pass → n ≡ blockColumns plan
-    → record { at = k % n; count = n; step = 1 } ≡ blockLine plan k pass
-unfolding blockLine blockColumn
-line-of-columns plan k pass n h e = rw (axis-rows pass h, e)
+pub line-is : (plan : Plan) (k pass m n : ℕ) {place count apart : ℕ} → m ≡ blockRows plan → n ≡ blockColumns plan
+    → place ≡ along (axisOf pass) (k / n) (k % n) → count ≡ along (axisOf pass) m n → apart ≡ along (axisOf pass) n 1
+    → record { at = place; count = count; step = apart } ≡ blockLine plan k pass
+unfolding blockLine blockRow blockColumn
+line-is plan k pass m n e f a b c = rw (a, b, c, e, f)
 
 pub shape-is : (plan : Plan) (k n h w : ℕ) → n ≡ blockColumns plan → h ≡ blockHeight plan (k / n) → w ≡ blockWidth plan (k % n)
     → record { «first_row» = k / n * plan .side; «first_column» = k % n * plan .side; rows = h; columns = w }

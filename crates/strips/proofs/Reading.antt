@@ -3,7 +3,7 @@ use mathlib.Core.Path.{_≡_, refl, sym, ap, ap₂, _∙_}
 use mathlib.Core.Bool.{Bool, true, false, _&&_, cond}
 use mathlib.Core.List.{List}
 use mathlib.Core.Option.{Option, none, some}
-use Prim.Native.Nat.{ℕ, _+_, _-_, _*_, _%_, _≤_, _<_, min}
+use Prim.Native.Nat.{ℕ, _+_, _-_, _*_, _≤_, _<_, min}
 use native.Mathlib.Omega.{arith}
 use lib.Dec.{ltb, leb}
 use borrow.Author.Tests.{ltb-true, leb-true, lt-ltb, le-ltb, le-leb}
@@ -12,6 +12,7 @@ use Rattle.plan.specs.Sizes.{neededMarks, neededStrips}
 use Rattle.plan.specs.Lists.{wordAt}
 use Rattle.plan.proofs.Tests.{and-left, and-right}
 use Rattle.passes.specs.Passes.{Axis, columns, rows, Direction, forward, backward, axisOf, directionOf, along, across}
+use Rattle.filter.specs.Windows.{isBackward, ifForward}
 use Rattle.blocks.specs.Geometry.{rowsOf, columnsOf, neighbour, orZero}
 use Rattle.blocks.specs.Strips.{
   orderOf,
@@ -45,7 +46,6 @@ use Rattle.strips.specs.Reading.{
   stripRead,
   StripFits,
 }
-use Rattle.strips.proofs.Passes.{axis-columns, axis-rows, even-forward, odd-backward}
 
 same-test : (a b : Bool) → (a ≡ true → b ≡ true) → (b ≡ true → a ≡ true) → a ≡ b
 same-test true b f g = sym (f refl)
@@ -57,46 +57,31 @@ both a b e f = rw e f
 
 -- ---- the code's values
 
-module _ (pass order n start lineStep placeStep lines inside : ℕ) (is : inside ≡ min order n) where
-  pub with-forward : pass % 2 ≡ 0
-      → record {
-        start = start;
-        «line_step» = lineStep;
-        «place_step» = placeStep;
-        lines = lines;
-        first = order - inside;
-        past = order;
-      }
-      ≡ stripWith (directionOf pass) order n start lineStep placeStep lines
-  unfolding stripWith
-  with-forward even = rw (even-forward pass even, is)
+pub strip-with-is : (d : Direction) (order n start lineStep placeStep lines : ℕ) {inside first : ℕ} {turned : Bool}
+    → inside ≡ min order n → turned ≡ isBackward d → first ≡ ifForward turned (order - inside)
+    → record {
+      start = start;
+      «line_step» = lineStep;
+      «place_step» = placeStep;
+      lines = lines;
+      first = first;
+      past = first + inside;
+    }
+    ≡ stripWith d order n start lineStep placeStep lines
+unfolding stripWith
+strip-with-is forward order n start lineStep placeStep lines e t f =
+    let whole : order - min order n + min order n ≡ order = omega arith in rw (f, t, e, whole)
+strip-with-is backward order n start lineStep placeStep lines e t f =
+    let whole : 0 + min order n ≡ min order n = omega arith in rw (f, t, e, whole)
 
-  pub with-backward : (pass % 2 ≡ 0 → ⊥)
-      → record {
-        start = start;
-        «line_step» = lineStep;
-        «place_step» = placeStep;
-        lines = lines;
-        first = 0;
-        past = inside;
-      }
-      ≡ stripWith (directionOf pass) order n start lineStep placeStep lines
-  unfolding stripWith
-  with-backward odd = rw (odd-backward pass odd, is)
-
-module _ (plan : Plan) (k pass : ℕ) (shape : BlockShape) (start : ℕ) (strip : Strip) (shaped : shape ≡ shapeOf plan k)
-    (starts : start ≡ stripStart plan k pass) where
-  pub strip-of-columns : pass < 2
-      → strip ≡ stripWith (directionOf pass) (orderOf plan pass) (shape .rows) start 1 (plan .side) (shape .columns)
-      → strip ≡ stripOf plan k pass
-  unfolding stripOf shapeOf
-  strip-of-columns h e = e ∙ rw (axis-columns pass h, shaped, starts)
-
-  pub strip-of-rows : 2 ≤ pass
-      → strip ≡ stripWith (directionOf pass) (orderOf plan pass) (shape .columns) start (orderOf plan pass) 1 (shape .rows)
-      → strip ≡ stripOf plan k pass
-  unfolding stripOf shapeOf
-  strip-of-rows h e = e ∙ rw (axis-rows pass h, shaped, starts)
+pub strip-of-is : (plan : Plan) (k pass : ℕ) {shape : BlockShape} {start n lineStep placeStep lines : ℕ} {strip : Strip}
+    → shape ≡ shapeOf plan k → start ≡ stripStart plan k pass → n ≡ along (axisOf pass) (shape .rows) (shape .columns)
+    → lineStep ≡ along (axisOf pass) 1 (orderOf plan pass) → placeStep ≡ along (axisOf pass) (plan .side) 1
+    → lines ≡ across (axisOf pass) (shape .rows) (shape .columns)
+    → strip ≡ stripWith (directionOf pass) (orderOf plan pass) n start lineStep placeStep lines
+    → strip ≡ stripOf plan k pass
+unfolding stripOf shapeOf
+strip-of-is plan k pass shaped starts a b c d e = e ∙ rw (a, b, c, d, shaped, starts)
 
 found-block : (o : Option ℕ) (found : Neighbour) (j : ℕ) → found ≡ foundNeighbour o → found ≡ Block j → o ≡ some j
 found-block none found j e f = cc

@@ -65,18 +65,10 @@ fn block_line(plan: Plan, k: usize, pass: usize) -> BlockLine
     ensures { λ r. ⌜ r ≡ blockLine plan k pass ⌝ }
 {
     let block_columns = plan.block_columns();
-    if pass < 2 {
-        BlockLine {
-            at: k / block_columns,
-            count: plan.block_rows(),
-            step: block_columns,
-        }
-    } else {
-        BlockLine {
-            at: k % block_columns,
-            count: block_columns,
-            step: 1,
-        }
+    BlockLine {
+        at: filter::along(pass, k / block_columns, k % block_columns),
+        count: filter::along(pass, plan.block_rows(), block_columns),
+        step: filter::along(pass, block_columns, 1),
     }
 }
 
@@ -152,24 +144,14 @@ fn strip_with(
     ensures { λ r. ⌜ r ≡ stripWith (directionOf pass) order extent start «line_step» «place_step» lines ⌝ }
 {
     let inside = filter::lesser(order, extent);
-    if pass % 2 == 0 {
-        Strip {
-            start: start,
-            line_step: line_step,
-            place_step: place_step,
-            lines: lines,
-            first: order - inside,
-            past: order,
-        }
-    } else {
-        Strip {
-            start: start,
-            line_step: line_step,
-            place_step: place_step,
-            lines: lines,
-            first: 0,
-            past: inside,
-        }
+    let first = filter::if_forward(filter::is_backward(pass), order - inside);
+    Strip {
+        start: start,
+        line_step: line_step,
+        place_step: place_step,
+        lines: lines,
+        first: first,
+        past: first + inside,
     }
 }
 
@@ -182,11 +164,15 @@ pub fn strip_of(plan: Plan, k: usize, pass: usize) -> Strip
     let start = strip_start(plan, k, pass);
     let filter = plan.passes[pass];
     let order = filter.order;
-    if pass < 2 {
-        strip_with(pass, order, shape.rows, start, 1, plan.side, shape.columns)
-    } else {
-        strip_with(pass, order, shape.columns, start, order, 1, shape.rows)
-    }
+    strip_with(
+        pass,
+        order,
+        filter::along(pass, shape.rows, shape.columns),
+        start,
+        filter::along(pass, 1, order),
+        filter::along(pass, plan.side, 1),
+        filter::across(pass, shape.rows, shape.columns),
+    )
 }
 
 // The strip of the block that a pass comes from: one without lines where the map ends.

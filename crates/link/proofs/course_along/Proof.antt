@@ -1,20 +1,46 @@
 -- `course_along` is the course, by the parity of the pass.
+use native.Mathlib.Omega.{arith}
 use borrow.Author.Needs.{needs}
-use Rattle.link.proofs.Courses.{forward-course, backward-course}
+use Rattle.strips.proofs.Passes.{forward-low}
+use Rattle.link.proofs.Courses.{course-along-is}
 use Rattle.link.proofs.course_along.Statement.{statement}
 use Rattle.link.proofs.course_along.Tie as tie
 
-add-t9 : tie.Need-add-t9
-add-t9 c = search needs
+is-backward-requires : tie.Need-is-backward-requires
+is-backward-requires c κs = search needs
 
-sub-t10 : tie.Need-sub-t10
-sub-t10 c = search needs
+add-t8 : tie.Need-add-t8
+add-t8 c = search needs
+
+if-forward-requires : tie.Need-if-forward-requires
+if-forward-requires c κs = search needs
+
+add-t10 : tie.Need-add-t10
+add-t10 c =
+    let b = c .before in
+    omega (arith, c .if-forward .ensures, forward-low (b .is-backward .result) (b .before .args .places))
+
+if-forward-requires-2 : tie.Need-if-forward-requires-2
+if-forward-requires-2 c κs = search needs
+
+sub-t12 : tie.Need-sub-t12
+sub-t12 c =
+    let b = c .before .before in
+    omega (arith, c .if-forward2 .ensures, forward-low (b .is-backward .result) (b .before .args .order))
 
 returns : tie.Need-returns
-returns c = forward-course _ _ _ _ _ (c .if1 .taken)
-
-returns-2 : tie.Need-returns-2
-returns-2 c = backward-course _ _ _ _ _ (c .if1 .left)
+returns c =
+    let f = c .before in
+    course-along-is _ _ _ _ _ (f .before .is-backward .ensures) (f .if-forward .ensures) (c .if-forward2 .ensures)
 
 pub course-along-spec : {M : Type 1} → statement M
-course-along-spec = tie.close (tie.spec add-t9 sub-t10 returns returns-2)
+course-along-spec =
+    tie.close
+    (tie.spec
+    is-backward-requires
+    add-t8
+    if-forward-requires
+    add-t10
+    if-forward-requires-2
+    sub-t12
+    returns)

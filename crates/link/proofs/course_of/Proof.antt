@@ -1,9 +1,7 @@
 -- `course_of` is the course of the link: its lines are columns or rows.
-use mathlib.Core.Path.{_∙_}
-use native.Mathlib.Omega.{arith}
 use borrow.Author.Needs.{needs}
-use Rattle.plan.proofs.Record.{rules, order-limited-at}
-use Rattle.link.proofs.Courses.{columns-course, rows-course, shape-few}
+use Rattle.plan.proofs.Record.{order-limited-at}
+use Rattle.link.proofs.Courses.{course-is, few-places}
 use Rattle.link.proofs.course_of.Statement.{statement}
 use Rattle.link.proofs.course_of.Tie as tie
 
@@ -16,35 +14,29 @@ mul-filter c = search needs
 element-copy-out-filter : tie.Need-element-copy-out-filter
 element-copy-out-filter c = search needs
 
+along-requires : tie.Need-along-requires
+along-requires c κs = search needs
+
+along-requires-2 : tie.Need-along-requires-2
+along-requires-2 c κs = search needs
+
+across-requires : tie.Need-across-requires
+across-requires c κs = search needs
+
 course-along-requires : tie.Need-course-along-requires
 course-along-requires c κs =
-    let b = c .before .before in
-    let a = b .before in
-    let few = shape-few (a .args .t1) (a .pre .0) (a .args .k) _ (b .block-shape .ensures) in (
-      omega (arith, few .0, few .1, rules (a .args .t1) (a .pre .0) .side-high),
-      order-limited-at (a .args .t1) (a .pre .0) (a .args .pass) (a .pre .1 .1),
-    )
-
-course-along-requires-2 : tie.Need-course-along-requires-2
-course-along-requires-2 c κs =
-    let b = c .before .before in
-    let a = b .before in
-    let few = shape-few (a .args .t1) (a .pre .0) (a .args .k) _ (b .block-shape .ensures) in (
-      omega (arith, few .0, few .1, rules (a .args .t1) (a .pre .0) .side-high),
+    let b = c .before .before .before .before in
+    let a = b .before in (
+      rw (c .before .along2 .ensures) (few-places (a .args .t1) (a .pre .0) (a .args .k) (a .args .pass) _ (b .block-shape .ensures)),
       order-limited-at (a .args .t1) (a .pre .0) (a .args .pass) (a .pre .1 .1),
     )
 
 returns : tie.Need-returns
 returns c =
-    let b = c .before .before .before in
-    let a = b .before .args in
-    c .course-along .ensures ∙ columns-course (a .t1) (a .k) (a .pass) _ (b .block-shape .ensures) (omega arith)
-
-returns-2 : tie.Need-returns-2
-returns-2 c =
-    let b = c .before .before .before in
-    let a = b .before .args in
-    c .course-along2 .ensures ∙ rows-course (a .t1) (a .k) (a .pass) _ (b .block-shape .ensures) (omega arith)
+    let l = c .before in
+    let b = l .before .before .before .before in
+    course-is _ _ _ (b .block-shape .ensures) (l .before .before .along .ensures) (l .before .along2 .ensures) (l .across .ensures)
+    (c .course-along .ensures)
 
 pub course-of-spec : {M : Type 1} → statement M
 course-of-spec =
@@ -53,7 +45,8 @@ course-of-spec =
     block-shape-requires
     mul-filter
     element-copy-out-filter
+    along-requires
+    along-requires-2
+    across-requires
     course-along-requires
-    course-along-requires-2
-    returns
-    returns-2)
+    returns)

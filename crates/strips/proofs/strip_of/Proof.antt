@@ -1,6 +1,6 @@
 -- `strip_of` is block k's strip of the pass.
 use borrow.Author.Needs.{needs}
-use Rattle.strips.proofs.Reading.{strip-of-columns, strip-of-rows}
+use Rattle.strips.proofs.Reading.{strip-of-is}
 use Rattle.strips.proofs.strip_of.Statement.{statement}
 use Rattle.strips.proofs.strip_of.Tie as tie
 
@@ -16,23 +16,28 @@ mul-filter c = search needs
 element-copy-out-filter : tie.Need-element-copy-out-filter
 element-copy-out-filter c = search needs
 
+along-requires : tie.Need-along-requires
+along-requires c κs = search needs
+
+along-requires-2 : tie.Need-along-requires-2
+along-requires-2 c κs = search needs
+
+along-requires-3 : tie.Need-along-requires-3
+along-requires-3 c κs = search needs
+
+across-requires : tie.Need-across-requires
+across-requires c κs = search needs
+
 strip-with-requires : tie.Need-strip-with-requires
 strip-with-requires c κs = search needs
 
-strip-with-requires-2 : tie.Need-strip-with-requires-2
-strip-with-requires-2 c κs = search needs
-
 returns : tie.Need-returns
 returns c =
-    let f = c .before .before .before in
-    strip-of-columns _ _ _ _ _ _ (f .before .block-shape .ensures) (f .strip-start .ensures) (c .before .if1 .taken)
-    (c .strip-with .ensures)
-
-returns-2 : tie.Need-returns-2
-returns-2 c =
-    let f = c .before .before .before in
-    strip-of-rows _ _ _ _ _ _ (f .before .block-shape .ensures) (f .strip-start .ensures) (c .before .if1 .left)
-    (c .strip-with2 .ensures)
+    let l = c .before in
+    let e = l .before .before .before in
+    let s = e .before .before in
+    strip-of-is _ _ _ (s .before .block-shape .ensures) (s .strip-start .ensures) (e .along .ensures)
+    (l .before .before .along2 .ensures) (l .before .along3 .ensures) (l .across .ensures) (c .strip-with .ensures)
 
 pub strip-of-spec : {M : Type 1} → statement M
 strip-of-spec =
@@ -42,7 +47,9 @@ strip-of-spec =
     strip-start-requires
     mul-filter
     element-copy-out-filter
+    along-requires
+    along-requires-2
+    along-requires-3
+    across-requires
     strip-with-requires
-    strip-with-requires-2
-    returns
-    returns-2)
+    returns)
