@@ -2,20 +2,22 @@
 -- Assumes nothing.
 use mathlib.Core.Path.{_≡_, refl, ap, ap₂, sym, _∙_}
 use mathlib.Core.Bool.{Bool, true, false, _||_, cond, false≢true}
-use mathlib.Core.List.{List, [], _∷_}
+use mathlib.Core.List.{List, [], _∷_, map}
+use mathlib.Core.Logic.{_⊎_, ⊎-elim}
 use Prim.Native.Nat.{ℕ, _/_, _%_, _≤_, _<_}
 use native.Mathlib.Omega.{arith}
 use lib.IntN.{ℤ}
 use lib.Dec.{ltb}
 use lib.ListN.{length}
-use borrow.Author.Tests.{ltb-false, le-ltb}
+use borrow.Author.Tests.{ltb-false, lt-ltb, le-ltb}
 use Rattle.refusal.specs.declared.Refusal.the-variants.{RecordBreaksRule, BufferTooShort}
 use Rattle.refusal.specs.declared.Outcome.the-variants.{Accepted, Refused}
+use Rattle.refusal.specs.Refusals.{outcomeNumber, outcomePlace}
 use Rattle.plan.specs.declared.Plan.{Plan}
 use Rattle.plan.specs.Rules.{keepsRules}
 use Rattle.plan.specs.Sizes.{blockRows, blockColumns, neededMarks, neededStrips, neededPixels, taskCount}
-use Rattle.plan.proofs.Needed.{bounds}
 use Rattle.plan.specs.Lists.{wordAt}
+use Rattle.plan.proofs.Needed.{bounds}
 use Rattle.tasks.specs.Tasks.{BlockTask, hasTask, ready, nothingDone, alsoDone}
 use Rattle.tasks.specs.Counts.{doneCount}
 use Rattle.tasks.specs.Marks.{markOf}
@@ -24,7 +26,9 @@ use Rattle.tasks.proofs.Places.{has-exists, exists-block}
 use Rattle.tasks.proofs.Counting.{Only, task-count, all-of-count}
 use Rattle.tasks.proofs.Verdicts.{verdict-shown, ready-accepted}
 use Rattle.tasks.proofs.Progress.{Sound, sound-nothing}
-use Rattle.report.specs.Report.{progressOf}
+use Rattle.report.specs.declared.ReportAnswer.the-variants.{Made}
+use Rattle.report.specs.Report.{progressOf, report}
+use Rattle.report.specs.Values.{valuesOf}
 use Rattle.report.proofs.Claims.{told, reported}
 use Rattle.blocks.specs.Writes.{mapOf}
 use Rattle.blocks.specs.Matching.{serialResult}
@@ -32,8 +36,8 @@ use Rattle.filter.proofs.Written.{written-length, written-other, written-at}
 use Rattle.blocks.proofs.Geometry.{side-fits}
 use Rattle.blocks.proofs.Strips.{strip-place-below}
 use Rattle.calls.specs.Calls.{Buffers, startOutcome, unmarked, cleared, marksAfterStart, stripsAfterStart, started, tooShort, taskOutcome, performed, afterTask, afterCalls, outcomesOf}
-use Rattle.calls.specs.Demand.{doneBy, doneFrom, doneAfter, dueFrom, Finished, Demand3}
-use Rattle.calls.proofs.Answers.{by-ready}
+use Rattle.calls.specs.Demand.{doneBy, doneFrom, doneAfter, dueFrom, progressAfter, Finished, Demand3, ShortRefused}
+use Rattle.calls.proofs.Answers.{by-ready, numbers-due, places-due}
 use Rattle.calls.proofs.Cover.{pixel-of}
 use Rattle.calls.proofs.Invariant.{OutputKept, Kept, LongEnough}
 use Rattle.calls.proofs.Step.{step}
@@ -107,12 +111,12 @@ module _ (plan : Plan) (heights : List ℤ) (before : Buffers) (enough : LongEno
 
 -- ---- the start
 
-record Accepts (plan : Plan) (marks strips : List ℕ) : Type 0 where
-  rules : keepsRules plan ≡ true
-  marks-long : neededMarks plan ≤ length marks
-  strips-long : neededStrips plan ≤ length strips
+pub record Accepts (plan : Plan) (marks strips : List ℕ) : Type 0 where
+  pub rules : keepsRules plan ≡ true
+  pub marks-long : neededMarks plan ≤ length marks
+  pub strips-long : neededStrips plan ≤ length strips
 
-start-accepts : (plan : Plan) (marks strips : List ℕ) → startOutcome plan marks strips ≡ Accepted
+pub start-accepts : (plan : Plan) (marks strips : List ℕ) → startOutcome plan marks strips ≡ Accepted
     → Accepts plan marks strips
 unfolding startOutcome
 start-accepts plan marks strips =
@@ -219,6 +223,11 @@ demand3 plan heights lent accepted map-long output-long calls =
     let start = start-kept plan heights lent accepted accepts in
     let kept = calls-kept plan heights before enough nothingDone (started plan lent) start calls in
     let strips = kept .strips-kept in
+    let answers = calls-answered plan heights before enough nothingDone (started plan lent) start calls in
+    let now = afterCalls plan heights calls (started plan lent) in
+    let made : report plan (now .marks) ≡ Made (progressAfter plan calls) =
+    reported plan (accepts .rules) done (only plan heights before enough done (kept .sound)) (now .marks)
+    (rw (kept .marks-kept .long) (accepts .marks-long)) (kept .marks-kept .shows) in
     let says = told plan (accepts .rules) done (only plan heights before enough done (kept .sound)) in
     record {
       finished-blocks = kept .output-kept .finished;
@@ -237,10 +246,11 @@ demand3 plan heights lent accepted map-long output-long calls =
       marks-length = kept .marks-kept .long;
       strips-length = strips .long ∙ started-length plan heights lent accepted accepts;
       output-length = kept .output-kept .long;
-      answers-are = calls-answered plan heights before enough nothingDone (started plan lent) start calls;
-      report-made =
-          reported plan (accepts .rules) done (only plan heights before enough done (kept .sound)) _
-          (rw (kept .marks-kept .long) (accepts .marks-long)) (kept .marks-kept .shows);
+      answers-are = answers;
+      numbers-are = ap (map outcomeNumber) answers ∙ numbers-due plan nothingDone calls;
+      places-are = ap (map outcomePlace) answers ∙ places-due plan nothingDone calls;
+      report-made = made;
+      report-values = ap valuesOf made;
       never-more = says .most;
       names-next = λ l.
           let (t, k, e, first) = says .names l in (
@@ -256,3 +266,53 @@ demand3 plan heights lent accepted map-long output-long calls =
           whole-output plan (side-fits plan (accepts .rules) .side-low) (mapOf plan heights) (lent .output) done _ (kept .output-kept)
           (all-finished plan (accepts .rules) done (kept .sound) all);
     }
+
+-- ---- a map or an output that is too short
+
+module _ (plan : Plan) (heights : List ℤ) (now : Buffers) (rules : keepsRules plan ≡ true)
+    (short : tooShort plan heights now ≡ true) where
+  refused : (t k : ℕ) → taskOutcome plan heights now t k ≡ Refused BufferTooShort
+  unfolding taskOutcome
+  refused t k = rw (rules, short)
+
+  unchanged : (t k : ℕ) → afterTask plan heights t k now ≡ now
+  unfolding afterTask
+  unchanged t k = rw (refused t k)
+
+  all-unchanged : (calls : List BlockTask) → afterCalls plan heights calls now ≡ now
+  unfolding afterCalls
+  all-unchanged [] = refl
+  all-unchanged (call ∷ calls) =
+      ap (afterCalls plan heights calls) (unchanged (call .task) (call .block)) ∙ all-unchanged calls
+
+  all-refused : (calls : List BlockTask) → map outcomeNumber (outcomesOf plan heights calls now) ≡ map (λ call. 7) calls
+  unfolding outcomesOf
+  all-refused [] = refl
+  all-refused (call ∷ calls) =
+      ap₂ _∷_ (ap outcomeNumber (refused (call .task) (call .block)))
+      (ap (λ b. map outcomeNumber (outcomesOf plan heights calls b)) (unchanged (call .task) (call .block)) ∙ all-refused calls)
+
+short-lists : (plan : Plan) (heights : List ℤ) (lent : Buffers)
+    → (length heights < neededPixels plan) ⊎ (length (lent .output) < neededPixels plan)
+    → tooShort plan heights (started plan lent) ≡ true
+unfolding tooShort started
+short-lists plan heights lent =
+    ⊎-elim (λ (h : length heights < neededPixels plan). rw (lt-ltb (length heights) (neededPixels plan) h))
+    (λ (h : length (lent .output) < neededPixels plan). rw (lt-ltb (length (lent .output)) (neededPixels plan) h) (last-true
+    (ltb (length heights) (neededPixels plan))
+    (ltb (length (started plan lent .marks)) (neededMarks plan))
+    (ltb (length (started plan lent .strips)) (neededStrips plan))))
+  where
+    last-true : (a b c : Bool) → (a || (b || (c || true))) ≡ true
+    last-true true b c = refl
+    last-true false true c = refl
+    last-true false false true = refl
+    last-true false false false = refl
+
+pub short-refused : ShortRefused
+short-refused plan heights lent accepted few calls =
+    let rules = start-accepts plan (lent .marks) (lent .strips) accepted .rules in
+    let short = short-lists plan heights lent few in (
+      all-unchanged plan heights (started plan lent) rules short calls,
+      all-refused plan heights (started plan lent) rules short calls,
+    )

@@ -2,18 +2,19 @@
 -- Document 01, the paragraph on the words of demand 3.
 use mathlib.Core.Path.{_≡_}
 use mathlib.Core.Bool.{Bool, true, false, cond}
-use mathlib.Core.Logic.{_≢_}
-use mathlib.Core.List.{List, [], _∷_}
+use mathlib.Core.Logic.{_≢_, _⊎_}
+use mathlib.Core.List.{List, [], _∷_, map}
 use Prim.Native.Nat.{ℕ, suc, _+_, _*_, _/_, _%_, _≤_, _<_}
 use lib.IntN.{ℤ}
 use lib.ListN.{length}
 use Rattle.refusal.specs.declared.Outcome.{Outcome}
 use Rattle.refusal.specs.declared.Outcome.the-variants.{Accepted}
+use Rattle.refusal.specs.Refusals.{outcomeNumber, outcomePlace}
 use Rattle.plan.specs.declared.Plan.{Plan}
 use Rattle.plan.specs.Rules.{keepsRules}
 use Rattle.plan.specs.Sizes.{blockRows, blockColumns, neededMarks, neededStrips, neededPixels, taskCount}
 use Rattle.plan.specs.Lists.{wordAt}
-use Rattle.tasks.specs.Tasks.{BlockTask, ready, nothingDone, alsoDone}
+use Rattle.tasks.specs.Tasks.{BlockTask, exists, needsOf, allDone, ready, nothingDone, alsoDone}
 use Rattle.tasks.specs.Counts.{doneCount}
 use Rattle.tasks.specs.Marks.{markOf}
 use Rattle.tasks.specs.Verdict.{verdictOf}
@@ -22,6 +23,7 @@ use Rattle.report.specs.declared.Progress.{Progress}
 use Rattle.report.specs.declared.ReportAnswer.the-variants.{Made}
 use Rattle.report.specs.Tally.{tally}
 use Rattle.report.specs.Report.{firstReady, report}
+use Rattle.report.specs.Values.{madeValues, valuesOf}
 use Rattle.blocks.specs.Geometry.{firstRow, firstColumn, rowsOf, columnsOf, blockPixelPlace}
 use Rattle.blocks.specs.Strips.{orderOf, stripPlace}
 use Rattle.blocks.specs.Writes.{mapOf, aloneWord}
@@ -51,6 +53,21 @@ dueFrom plan done [] = []
 dueFrom plan done (call ∷ calls) =
     verdictOf (blockRows plan) (blockColumns plan) done (call .task) (call .block)
     ∷ dueFrom plan (doneBy plan done call) calls
+
+-- Document 01's number for a call, by what was done before it: 8 where the task does not exist at the block, 10 where it is
+-- done, 11 where a need of it is not, else 0.
+unfoldable pub dueNumber : Plan → (ℕ → ℕ → Bool) → BlockTask → ℕ
+dueNumber plan done call =
+    cond (exists (blockRows plan) (blockColumns plan) (call .task) (call .block))
+    (cond (done (call .task) (call .block)) 10
+    (cond (allDone done (needsOf (blockRows plan) (blockColumns plan) (call .task) (call .block))) 0
+    11))
+    8
+
+-- These numbers for calls one after another.
+unfoldable pub dueNumbers : Plan → (ℕ → ℕ → Bool) → List BlockTask → List ℕ
+dueNumbers plan done [] = []
+dueNumbers plan done (call ∷ calls) = dueNumber plan done call ∷ dueNumbers plan (doneBy plan done call) calls
 
 -- How many tasks are done after a list of calls.
 abbrev pub countAfter : Plan → List BlockTask → ℕ
@@ -104,7 +121,8 @@ pub record Claim (plan : Plan) (heights : List ℤ) (lent : Buffers) (calls : Li
       → line < plan .side → place < orderOf plan pass
       → wordAt (after .strips) (stripPlace plan k pass line place)
       ≡ matchingWord plan (mapOf plan heights) k pass line place
-  -- Each other strip of a collected block is what collect writes: that of the block filtered alone.
+  -- Each other strip of a collected block is what collect writes: that of the block filtered alone, or 0 where no neighbour
+  -- needs it.
   pub collected-strips : (k pass line place : ℕ) → pass < 4 → Collected (doneAfter plan calls) k
       → doneAfter plan calls (suc pass) k ≡ false → line < plan .side → place < orderOf plan pass
       → wordAt (after .strips) (stripPlace plan k pass line place) ≡ aloneWord plan (mapOf plan heights) k pass line place
@@ -123,9 +141,15 @@ pub record Claim (plan : Plan) (heights : List ℤ) (lent : Buffers) (calls : Li
   -- Each call is answered by what was done before it: accepted exactly if it makes its task done, else refused as the table
   -- of refused calls says.
   pub answers-are : said ≡ dueFrom plan nothingDone calls
+  -- In document 01's numbers: 0, 8, 10 or 11, and the place beside it is 0.
+  pub numbers-are : map outcomeNumber said ≡ dueNumbers plan nothingDone calls
+  pub places-are : map outcomePlace said ≡ map (λ call. 0) calls
   -- The report on the marks is made: it counts the tasks that are done, its tally is the area of each collected block plus that
   -- of each finished one, and it names the first task that is ready, by number and then by block, or none.
   pub report-made : report plan (after .marks) ≡ Made (progressAfter plan calls)
+  -- In document 01's values: number and place 0, count, tally, and whether a task is ready, and which.
+  pub report-values : valuesOf (report plan (after .marks))
+      ≡ madeValues (countAfter plan calls) (progressAfter plan calls .tally) (progressAfter plan calls .next)
   -- No more tasks are done than there are, 6MN - 2M - 2N.
   pub never-more : countAfter plan calls ≤ taskCount plan
   -- Until that many are done the report names a task that is accepted if called next.
@@ -154,3 +178,11 @@ abbrev pub StartAccepts : Type 0
 StartAccepts =
     (plan : Plan) (marks strips : List ℕ) → keepsRules plan ≡ true → neededMarks plan ≤ length marks
     → neededStrips plan ≤ length strips → startOutcome plan marks strips ≡ Accepted
+
+-- With a map or an output of fewer than h×w words every call of a list is refused by 7, and nothing changes.
+abbrev pub ShortRefused : Type 0
+ShortRefused =
+    (plan : Plan) (heights : List ℤ) (lent : Buffers) → startOutcome plan (lent .marks) (lent .strips) ≡ Accepted
+    → (length heights < neededPixels plan) ⊎ (length (lent .output) < neededPixels plan) → (calls : List BlockTask)
+    → (afterCalls plan heights calls (started plan lent) ≡ started plan lent)
+    × (map outcomeNumber (outcomesOf plan heights calls (started plan lent)) ≡ map (λ call. 7) calls)

@@ -25,7 +25,7 @@ use Rattle.refusal.specs.declared.Refusal.the-variants.{
 }
 use Rattle.refusal.specs.declared.Outcome.{Outcome}
 use Rattle.refusal.specs.declared.Outcome.the-variants.{Accepted, Refused}
-use Rattle.refusal.specs.Refusals.{placeOf, firstOf}
+use Rattle.refusal.specs.Refusals.{placeOf, firstOf, outcomePlace}
 use Rattle.plan.specs.declared.Plan.{Plan}
 use Rattle.plan.specs.declared.PlanSizes.the-variants as sizes
 use Rattle.plan.specs.Rules.{keepsRules, allBelow}
@@ -66,7 +66,6 @@ use Rattle.report.specs.declared.Progress.{Progress}
 use Rattle.report.specs.declared.ReportAnswer.{ReportAnswer}
 use Rattle.report.specs.declared.ReportAnswer.the-variants as reported
 use Rattle.report.specs.Report.{firstBroken, progressOf, reportOn, report}
-use Rattle.mulzhegat.specs.Codes.{outcomePlace}
 
 -- ---- reading a plan
 

@@ -24,11 +24,6 @@ abbrev pub outcomeCode : Outcome → ℕ
 outcomeCode Accepted = 0
 outcomeCode (Refused refusal) = refusalCode refusal
 
--- The place of an outcome; 0 where the call is accepted.
-abbrev pub outcomePlace : Outcome → ℕ
-outcomePlace Accepted = 0
-outcomePlace (Refused refusal) = placeOf refusal
-
 -- ---- the plan writer
 
 -- 0 where the plan is written.

@@ -12,7 +12,7 @@ use report::ReportAnswer;
 ghost use mathlib.Core.Path.{_≡_};
 ghost use Prim.Native.Nat.{_<_};
 ghost use lib.ListN.{length};
-ghost use Rattle.refusal.specs.Refusals.{placeOf};
+ghost use Rattle.refusal.specs.Refusals.{placeOf, outcomePlace};
 ghost use Rattle.plan.specs.declared.PlanSizes.the-variants.{Known};
 ghost use Rattle.plan.specs.Sizes.{planSizes};
 ghost use Rattle.plan_reader.specs.Reading.{readPlan};
@@ -23,7 +23,7 @@ ghost use Rattle.rectangle.specs.Rectangle.{rectangleAnswer};
 ghost use Rattle.calls.specs.Calls.{lists, startOutcome, marksAfterStart, stripsAfterStart, taskOutcome, afterTask};
 ghost use Rattle.report.specs.declared.ReportAnswer.the-variants.{Made};
 ghost use Rattle.report.specs.Report.{report};
-ghost use Rattle.mulzhegat.specs.Codes.{refusalCode, outcomeCode, outcomePlace, writtenCode, sizesCode, sizesRecord, rectangleCode, rectangleWord};
+ghost use Rattle.mulzhegat.specs.Codes.{refusalCode, outcomeCode, writtenCode, sizesCode, sizesRecord, rectangleCode, rectangleWord};
 ghost use Rattle.mulzhegat.specs.Codes.{reportCode, progressRecord};
 
 // ---- plans

@@ -51,6 +51,16 @@ placeOf NeedUnmarked = 0
 placeOf RectangleOutside = 0
 placeOf InputUnfit = 0
 
+-- The number that a call answers: 0 where it is accepted, else that of its refusal;
+abbrev pub outcomeNumber : Outcome → ℕ
+outcomeNumber Accepted = 0
+outcomeNumber (Refused refusal) = numberOf refusal
+
+-- and the place beside it, 0 where it is accepted.
+abbrev pub outcomePlace : Outcome → ℕ
+outcomePlace Accepted = 0
+outcomePlace (Refused refusal) = placeOf refusal
+
 -- Of two tests, one after the other, the first that refuses decides.
 abbrev pub firstOf : Outcome → Outcome → Outcome
 firstOf Accepted later = later

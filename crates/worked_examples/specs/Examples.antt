@@ -7,8 +7,7 @@ use lib.IntN.{ℤ, pos, negsuc}
 use Rattle.word.specs.Word.{residue}
 use Rattle.refusal.specs.declared.Refusal.{Refusal}
 use Rattle.refusal.specs.declared.Outcome.{Outcome}
-use Rattle.refusal.specs.declared.Outcome.the-variants.{Accepted, Refused}
-use Rattle.refusal.specs.Refusals.{numberOf, placeOf}
+use Rattle.refusal.specs.Refusals.{numberOf, placeOf, outcomeNumber, outcomePlace}
 use Rattle.plan.specs.declared.Pass.{Pass}
 use Rattle.plan.specs.declared.Plan.{Plan}
 use Rattle.plan_reader.specs.Reading.{readPlan}
@@ -25,10 +24,9 @@ use Rattle.calls.specs.Calls.{Buffers, started, afterCalls}
 abbrev pub refusalNumbers : Refusal → List ℕ
 refusalNumbers refusal = numberOf refusal ∷ placeOf refusal ∷ []
 
--- An answer as a number and a place, zeros where the call is accepted.
+-- An answer as a number and a place.
 abbrev pub numberAndPlace : Outcome → List ℕ
-numberAndPlace Accepted = 0 ∷ 0 ∷ []
-numberAndPlace (Refused refusal) = refusalNumbers refusal
+numberAndPlace outcome = outcomeNumber outcome ∷ outcomePlace outcome ∷ []
 
 -- What the plan's reader answers to a list of words.
 abbrev pub readingExample : List ℕ → List ℕ → Example
