@@ -50,7 +50,7 @@ unfoldable pub filterLine : Direction → Filter → ℕ → (ℕ → ℕ) → (
 filterLine d f n p x i = output (filterStep f) p (λ j. x (reflect d n j)) (reflect d n i)
 
 -- A pass over each line of a map X by itself, the lines having n places; H l stands for the outputs past the end of
--- line l.
+-- line l. `lineOf` is its own inverse: it gives line l of X, and it gives back rows and columns from lines and places.
 unfoldable pub filterLines : Axis → Direction → Filter → ℕ → (ℕ → ℕ → ℕ) → (ℕ → ℕ → ℕ) → ℕ → ℕ → ℕ
 filterLines a d f n H X = lineOf a (λ l. filterLine d f n (H l) (lineOf a X l))
 

@@ -11,7 +11,8 @@ unitHistory zero (suc k) = 0
 unitHistory (suc j) zero = 0
 unitHistory (suc j) (suc k) = unitHistory j k
 
--- The output at place i of n places of zero input, from the unit history j: what place j of a history counts there.
+-- The output at place i of n places of zero input, from the unit history j: what place j of a history counts there. This is
+-- the square of one pass; squares/LinePasses: `passSquare` is what links use, with the later passes of the axis behind it.
 unfoldable pub linkSquare : Direction → Filter → ℕ → ℕ → ℕ → ℕ
 linkSquare d f n i j = filterLine d f n (unitHistory j) (λ k. 0) i
 

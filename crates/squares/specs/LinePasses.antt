@@ -43,17 +43,20 @@ withHistories filters n P t (suc s) m i word =
 
 -- ---- what a link adds to a strip
 
--- A line x of n places at place i after the passes along the axis of pass u, up to that pass, with zero histories.
+-- The end of a line: a line x of n places, at place i, after the passes along the axis of pass u, up to that pass, with
+-- nothing past its ends.
 unfoldable pub rowEnd : (ℕ → Filter) → (n u i : ℕ) → (ℕ → ℕ) → ℕ
 rowEnd filters n u i x = linePasses filters n (λ v k. 0) x (axisStart u) (axisPasses u) i
 
--- The same of line l of a block of zeros with H past its edges, after the passes of the other axis that come before: these
--- passes, over all lines, of the ends that the lines past the block's edges have.
+-- What the strips of the other axis, which the earlier passes come from, bring to place i of line l of a block of zeros. Each
+-- line of such a strip counts by its end at place i; with these ends past it, the earlier passes run over one line that
+-- has a place for each of the block's lines.
 unfoldable pub crossed : (ℕ → Filter) → (lines n : ℕ) → (H : ℕ → ℕ → ℕ → ℕ) → (u i l : ℕ) → ℕ
 crossed filters lines n H u i l =
     linePasses filters lines (λ v k. rowEnd filters n u i (λ j. H v j k)) (λ y. 0) 0 (axisStart u) l
 
--- What stands at place i of line l after pass u over a block of zeros with H past its edges.
+-- What stands at place i of line l after pass u over a block of zeros with H past its edges: what the strips of the other
+-- axis bring, and the histories of the line itself, each moved by its square.
 unfoldable pub response : (ℕ → Filter) → (lines n : ℕ) → (H : ℕ → ℕ → ℕ → ℕ) → (u l i : ℕ) → ℕ
 response filters lines n H u l i =
     withHistories filters n (λ v. H v l) (axisStart u) (axisPasses u) 0 i (crossed filters lines n H u i l)

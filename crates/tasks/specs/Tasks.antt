@@ -17,8 +17,8 @@ rowOf N k = k / N
 abbrev pub columnOf : ℕ → ℕ → ℕ
 columnOf N k = k % N
 
--- The column "exists" of the table of tasks, for the block (m, n): 0 collect and 5 finish always, the down link but in the
--- last row, the up link but in the first, the right link but in the last column, the left link but in the first.
+-- The column "exists" of the table of tasks, for the block (m, n): 0 collect and 5 finish always, the down link where
+-- m < M-1, the up link where m > 0, the right link where n < N-1, the left link where n > 0.
 unfoldable pub hasTask : ℕ → ℕ → ℕ → ℕ → ℕ → Bool
 hasTask M N t m n =
     cond (eqb t 0) true
