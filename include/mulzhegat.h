@@ -80,7 +80,7 @@ typedef struct {
 typedef struct {
     uint64_t marked;         /* tasks done */
     uint64_t tally;          /* pixels collected plus pixels finished */
-    uint64_t ready;          /* 1 if task and block name a ready task, 0 if none is ready */
+    uint64_t ready;          /* 1 if task and block name a ready task, 0 if none is: then all tasks are done */
     uint64_t task, block;    /* the ready task with the least number, then the least block; 0 and 0 if none */
 } mzg_progress;
 
@@ -101,8 +101,9 @@ uint64_t mzg_plan_write(const mzg_plan *plan, uint32_t *words, size_t words_len)
 /* Gives the lengths that the plan needs. Refused: 6; the sizes are then all zeros. */
 uint64_t mzg_plan_sizes(const mzg_plan *plan, mzg_sizes *sizes);
 
-/* Starts a job: the needed marks become 0x70000000 (kind 7, nothing done) and the needed strip words 0.
- * Needs sizes.marks marks and sizes.strips strip words. Refused: 6, 7. */
+/* Starts a job: the needed marks become 0x70000000 (kind 7, nothing done) and the needed strip words 0. A mark has its kind, 7,
+ * in the top four bits and bit t set once task t is done; bits 6 to 27, and the bits of tasks that the block does not have,
+ * are spare and 0. Needs sizes.marks marks and sizes.strips strip words. Refused: 6, 7. */
 uint64_t mzg_start(const mzg_plan *plan, uint32_t *marks, size_t marks_len, uint64_t *strips, size_t strips_len);
 
 /* Performs one task on one block. Blocks are numbered row by row: block = m * N + n, with m < M and n < N. The tasks:
@@ -117,7 +118,9 @@ uint64_t mzg_start(const mzg_plan *plan, uint32_t *marks, size_t marks_len, uint
  *
  * A need on a neighbour beyond the map falls away. Collect and the links write in the block's slot of the strips, finish
  * writes the block's output words; an accepted task also sets bit `task` of the block's mark, and nothing else changes.
- * When all tasks are done, the output is that of mzg_serial.
+ * When all tasks are done, the output is that of mzg_serial; its needed words take any values before. Lend the same map to
+ * every call of a job. Any order will do. One that no need refuses: the tasks 0 to 5 one after another, each over the blocks
+ * by their number, 2 and 4 from the last block to the first (calls of links that a block does not have are refused by 8).
  * Needs, for every task: sizes.pixels map and output words, sizes.marks marks, sizes.strips strip words.
  * Refused: 6, 7, 8, 9 (the marks of the block and of the neighbours in its needs are looked at), 10, 11. After 11 the same
  * call is accepted later, once the needs are done. */
@@ -126,7 +129,8 @@ uint64_t mzg_task(const mzg_plan *plan, size_t task, size_t block, const int32_t
                   uint64_t *output, size_t output_len);
 
 /* Reports how far a job is and names a ready task: one that exists, is not marked and has all its needs marked.
- * Needs sizes.marks marks and looks at all of them. Refused: 6, 7, 9; the progress is then all zeros. */
+ * Needs sizes.marks marks and looks at all of them, so that a large job asks for it now and then, not for every task.
+ * Refused: 6, 7, 9; the progress is then all zeros. */
 uint64_t mzg_report(const mzg_plan *plan, const uint32_t *marks, size_t marks_len, mzg_progress *progress);
 
 /* Runs the four passes over the whole map. Needs sizes.pixels map and output words. Refused: 6, 7. */

@@ -28,6 +28,9 @@ pub fn start(plan: &Plan, marks: &mut [u32], strips: &mut [u64]) -> Result<(), R
 
 /// Performs one task on one block.
 ///
+/// A small job can perform what the report names, as here. The report looks at all marks, so a large one goes through the
+/// tasks in an order of its own (`mulzhegat.h` names one that is never refused for a need).
+///
 /// ```
 /// use mulzhegat::{job, plan, Plan};
 /// let plan = Plan::summed(2, 3, 2);
