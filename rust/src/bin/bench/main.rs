@@ -181,7 +181,7 @@ fn measure_plan(
 fn main() {
     let options = options();
     println!("Processor: {}.", processor());
-    let sizes: &[(usize, usize)] = if options.quick { &[(1024, 3)] } else { &[(1024, 15), (4096, 5)] };
+    let sizes: &[(usize, usize)] = if options.quick { &[(1024, 3)] } else { &[(1024, 25), (4096, 11)] };
     println!("\n| map | way | best ms | ns a pixel | times plain | times strong |\n|---|---|--:|--:|--:|--:|");
     let (mut kinds, mut groups) = (Vec::new(), Vec::new());
     for &(size, usual_repetitions) in sizes {
