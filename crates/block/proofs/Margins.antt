@@ -18,11 +18,11 @@ use Rattle.plan.proofs.Tests.{and-left, and-right}
 use Rattle.passes.specs.Passes.{Axis, columns, rows, Direction, forward, backward, axisOf, directionOf, along, across}
 use Rattle.filter.specs.Windows.{isBackward, beyond, wordsBesideWindow}
 use Rattle.filter.proofs.RowMajor.{same-row-column}
+use Rattle.filter.proofs.Numbers.{axis-columns}
 use Rattle.blocks.specs.Strips.{orderOf, fromEdge}
 use Rattle.strips.specs.declared.BlockShape.{BlockShape}
 use Rattle.strips.specs.declared.Strip.{Strip}
 use Rattle.strips.specs.Reading.{addressIn, stripRead}
-use Rattle.strips.proofs.Passes.{axis-columns}
 use Rattle.block.specs.Copies.{gridPlace, gridScaled, gridWritten}
 use Rattle.block.specs.Work.{
   workStride,

@@ -133,34 +133,21 @@ pub gains-out : (filters : ℕ → Filter) (h w : ℕ) (X : ℕ → ℕ → ℕ)
 gains-out filters h w X t y x =
     sym (reduced-small _ (passesOver-small filters h w _ X t y x)) ∙ gains-last filters h w X (suc t) y x
 
--- ---- all gains in the first pass
+-- ---- the gains of later passes
 
--- The first pass may take the gain that passes of gain 1 find in their input.
-first-takes : (filters : ℕ → Filter) (t h w : ℕ) (H : ℕ → ℕ → ℕ → ℕ) (X : ℕ → ℕ → ℕ) (n y x : ℕ)
-    → passesOver (λ u. unitGain (filters u)) h w H (λ y x. gainsFrom filters 0 t ⊗ X y x) (suc n) y x
-    ≡ passesOver (gainsFirst filters t) h w H X (suc n) y x
-unfolding passesOver
-first-takes filters t h w H X zero y x = sym (filterLines-gain (axisOf 0) (directionOf 0) (gainsFirst filters t 0) _ _ _ y x)
-first-takes filters t h w H X (suc n) y x =
-    ap
-    (λ Z.
-    filterLines (axisOf (suc n)) (directionOf (suc n)) (unitGain (filters (suc n))) (along (axisOf (suc n)) h w) (H (suc n)) Z
-    y x)
-    (fun-ext λ y. fun-ext λ x. first-takes filters t h w H X n y x)
-
--- Passes with gains are the passes with all gains in the first, the outputs past the edge of each times the gains of the
--- passes after it.
-pub gains-first : (filters : ℕ → Filter) (h w : ℕ) (H : ℕ → ℕ → ℕ → ℕ) (X : ℕ → ℕ → ℕ) (s y x : ℕ)
+-- Passes with gains are passes of gain 1 over the block times all gains, the outputs past the edge of each times the gains
+-- of the passes after it.
+pub gains-after : (filters : ℕ → Filter) (h w : ℕ) (H : ℕ → ℕ → ℕ → ℕ) (X : ℕ → ℕ → ℕ) (s y x : ℕ)
     → passesOver filters h w H X (suc s) y x
-    ≡ passesOver (gainsFirst filters (suc s)) h w (λ u l k. gainsFrom filters (suc u) (s - u) ⊗ H u l k) X (suc s) y x
+    ≡ passesOver (λ u. unitGain (filters u)) h w (λ u l k. gainsFrom filters (suc u) (s - u) ⊗ H u l k)
+    (λ y x. gainsFrom filters 0 (suc s) ⊗ X y x) (suc s) y x
 unfolding gainsFrom
-gains-first filters h w H X s y x =
+gains-after filters h w H X s y x =
     sym (one-mul _ ∙ reduced-small _ (passesOver-small filters h w H X s y x))
     ∙ ap (_⊗ passesOver filters h w H X (suc s) y x) (sym last)
     ∙ gains-before filters (λ u. gainsFrom filters u (suc s - u)) h w H X (suc s) each y x
     ∙ ap₂ (λ K n. passesOver (λ u. unitGain (filters u)) h w K (λ y x. gainsFrom filters 0 n ⊗ X y x) (suc s) y x)
     (fun-ext λ u. fun-ext λ l. fun-ext λ k. ap (λ n. gainsFrom filters (suc u) n ⊗ H u l k) (less u)) all
-    ∙ first-takes filters (suc s) h w _ X s y x
   where
     all : suc s - 0 ≡ suc s
     all = omega arith
@@ -180,3 +167,24 @@ gains-first filters h w H X s y x =
 
     each : (u : ℕ) → u < suc s → gainsFrom filters u (suc s - u) ≡ filters u .gain ⊗ gainsFrom filters (suc u) (suc s - suc u)
     each u b = one-more u (suc s - u) (suc s - suc u) (omega arith)
+
+-- ---- all gains in the first pass
+
+-- The first pass may take the gain that passes of gain 1 find in their input.
+first-takes : (filters : ℕ → Filter) (t h w : ℕ) (H : ℕ → ℕ → ℕ → ℕ) (X : ℕ → ℕ → ℕ) (n y x : ℕ)
+    → passesOver (λ u. unitGain (filters u)) h w H (λ y x. gainsFrom filters 0 t ⊗ X y x) (suc n) y x
+    ≡ passesOver (gainsFirst filters t) h w H X (suc n) y x
+unfolding passesOver
+first-takes filters t h w H X zero y x = sym (filterLines-gain (axisOf 0) (directionOf 0) (gainsFirst filters t 0) _ _ _ y x)
+first-takes filters t h w H X (suc n) y x =
+    ap
+    (λ Z.
+    filterLines (axisOf (suc n)) (directionOf (suc n)) (unitGain (filters (suc n))) (along (axisOf (suc n)) h w) (H (suc n)) Z
+    y x)
+    (fun-ext λ y. fun-ext λ x. first-takes filters t h w H X n y x)
+
+-- Passes with gains are the passes with all gains in the first, the outputs past the edge of each as above.
+pub gains-first : (filters : ℕ → Filter) (h w : ℕ) (H : ℕ → ℕ → ℕ → ℕ) (X : ℕ → ℕ → ℕ) (s y x : ℕ)
+    → passesOver filters h w H X (suc s) y x
+    ≡ passesOver (gainsFirst filters (suc s)) h w (λ u l k. gainsFrom filters (suc u) (s - u) ⊗ H u l k) X (suc s) y x
+gains-first filters h w H X s y x = gains-after filters h w H X s y x ∙ first-takes filters (suc s) h w _ X s y x

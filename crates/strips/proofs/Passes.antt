@@ -1,15 +1,10 @@
--- The axis and the direction of a pass by the code's tests of its number. Assumes nothing.
+-- The direction of a pass by the code's tests of its number. Assumes nothing.
 use mathlib.Core.Path.{_≡_, refl}
 use mathlib.Core.Bool.{Bool, true, false}
-use Prim.Native.Nat.{ℕ, zero, suc, _%_, _≤_, _<_}
+use Prim.Native.Nat.{ℕ, zero, suc, _%_, _≤_}
 use native.Mathlib.Omega.{arith}
-use Rattle.passes.specs.Passes.{columns, forward, backward, axisOf, directionOf}
+use Rattle.passes.specs.Passes.{forward, backward, directionOf}
 use Rattle.filter.specs.Windows.{ifForward}
-
-pub axis-columns : (pass : ℕ) → pass < 2 → axisOf pass ≡ columns
-axis-columns zero h = refl
-axis-columns (suc zero) h = refl
-axis-columns (suc (suc pass)) h = absurd (omega arith)
 
 pub even-forward : (pass : ℕ) → pass % 2 ≡ 0 → directionOf pass ≡ forward
 even-forward zero e = refl
