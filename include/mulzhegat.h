@@ -34,8 +34,11 @@
  *
  * Buffers. A buffer is lent as a pointer and its length in words; words past the needed length are never altered. A refused
  * call leaves every lent buffer as it was. What a call answers beside its number (plan, sizes, progress, sum) is written
- * whole on every call: all zeros beside a refusal. Pointers must not be null and buffers must not overlap; where no strip
- * word is needed (all orders 0), lend the address of any word with length 0.
+ * whole on every call: all zeros beside a refusal.
+ *
+ * Pointers are not tested. None may be null, each must be aligned for its type, and no two of a call may overlap, the plan
+ * record and what is answered (plan, sizes, progress, sum) among them. Where no strip word is needed (all orders 0), lend
+ * the address of any 64-bit word with length 0.
  *
  * The functions keep no state between calls. Calls that share no buffer that one of them writes may run at the same time; two
  * mzg_task calls of one job must not. A job may be broken off between any two calls: keep plan, map, marks, strips and output.
@@ -76,15 +79,15 @@ typedef struct {
     uint64_t tasks;          /* all tasks of a job: 6 * M * N - 2 * M - 2 * N */
 } mzg_sizes;
 
-/* How far a job is. */
+/* How far a job is. All 0 beside a refusal: look at the answer first. */
 typedef struct {
     uint64_t marked;         /* tasks done */
     uint64_t tally;          /* pixels collected plus pixels finished */
-    uint64_t ready;          /* 1 if task and block name a ready task, 0 if none is: then all tasks are done */
+    uint64_t ready;          /* 1 if task and block name a ready task; 0 if none is: of an accepted call, all tasks are done */
     uint64_t task, block;    /* the ready task with the least number, then the least block; 0 and 0 if none */
 } mzg_progress;
 
-/* Reads a plan from 11 to 27 words. The top four bits of a word are its kind, the low 28 its payload:
+/* Reads a plan from words, of which it has 11 to 27; any number may be lent. The top four bits of a word are its kind, the low 28 its payload:
  *   1 size          rows in bits 13 to 25, columns in bits 0 to 12
  *   2 block         the block side
  *   3 pass          order in bits 0 to 3, pass in bits 4 and 5 (0 down, 1 up, 2 right, 3 left)
@@ -106,7 +109,8 @@ uint64_t mzg_plan_sizes(const mzg_plan *plan, mzg_sizes *sizes);
  * are spare and 0. Needs sizes.marks marks and sizes.strips strip words. Refused: 6, 7. */
 uint64_t mzg_start(const mzg_plan *plan, uint32_t *marks, size_t marks_len, uint64_t *strips, size_t strips_len);
 
-/* Performs one task on one block. Blocks are numbered row by row: block = m * N + n, with m < M and n < N. The tasks:
+/* Performs one task on one block. Block (m, n), with m < M and n < N, starts at row m * side and column n * side; the last row
+ * and the last column of blocks may be narrower. Blocks are numbered row by row: block = m * N + n. The tasks:
  *
  *     task           exists       needs done before
  *     0 collect      always       nothing
@@ -116,14 +120,14 @@ uint64_t mzg_start(const mzg_plan *plan, uint32_t *marks, size_t marks_len, uint
  *     4 left link    n > 0        own 0; 1 of above, 2 of below, 3 of left, 4 of right
  *     5 finish       always       own 0; 1 of above, 2 of below, 3 of left, 4 of right
  *
- * A need on a neighbour beyond the map falls away. Collect and the links write in the block's slot of the strips, finish
- * writes the block's output words; an accepted task also sets bit `task` of the block's mark, and nothing else changes.
- * When all tasks are done, the output is that of mzg_serial; its needed words take any values before. Lend the same map to
- * every call of a job. Any order will do. One that no need refuses: the tasks 0 to 5 one after another, each over the blocks
- * by their number, 2 and 4 from the last block to the first (calls of links that a block does not have are refused by 8).
+ * A need on a neighbour beyond the map falls away. Collect and the links write in the block's slot of the strips (its part of
+ * side * (sum of the four orders) words; no caller needs its layout), finish writes the block's output words; an accepted task
+ * also sets bit `task` of the block's mark, and nothing else changes. When all tasks are done, the output is that of
+ * mzg_serial; it need not be set before. Lend the same map to every call of a job. Calls may come in any order: one that comes
+ * too early is refused by 11 and may be repeated. An order without any 11: the tasks 0 to 5 one after another, each over the
+ * blocks by their number, 2 and 4 from the last block to the first (links that a block does not have are refused by 8).
  * Needs, for every task: sizes.pixels map and output words, sizes.marks marks, sizes.strips strip words.
- * Refused: 6, 7, 8, 9 (the marks of the block and of the neighbours in its needs are looked at), 10, 11. After 11 the same
- * call is accepted later, once the needs are done. */
+ * Refused: 6, 7, 8, 9 (the marks of the block and of the neighbours in its needs are looked at), 10, 11. */
 uint64_t mzg_task(const mzg_plan *plan, size_t task, size_t block, const int32_t *map, size_t map_len,
                   uint32_t *marks, size_t marks_len, uint64_t *strips, size_t strips_len,
                   uint64_t *output, size_t output_len);

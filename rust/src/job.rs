@@ -22,7 +22,8 @@ extern "C" {
 
 /// Starts a job: no task is marked, and the strips are 0.
 pub fn start(plan: &Plan, marks: &mut [u32], strips: &mut [u64]) -> Result<(), Refusal> {
-    // SAFETY: the record is readable and both slices are writable for their lengths.
+    // SAFETY: the record is readable and both slices are writable for their lengths; borrowed mutably, they overlap
+    // nothing.
     Refusal::check(unsafe { mzg_start(plan, marks.as_mut_ptr(), marks.len(), strips.as_mut_ptr(), strips.len()) })
 }
 
@@ -53,8 +54,8 @@ pub fn perform(
     strips: &mut [u64],
     output: &mut [u64],
 ) -> Result<(), Refusal> {
-    // SAFETY: the record and the map are readable and the other slices are writable, each for its length; they do not
-    // overlap, since three of them are borrowed mutably.
+    // SAFETY: the record and the map are readable and the other slices are writable, each for its length; these three are
+    // borrowed mutably and overlap nothing.
     Refusal::check(unsafe {
         mzg_task(
             plan,
@@ -81,6 +82,7 @@ pub fn report(plan: &Plan, marks: &[u32]) -> Result<Progress, Refusal> {
 
 /// Reports in a record, which is all zeros beside a refusal.
 pub fn report_into(plan: &Plan, marks: &[u32], progress: &mut Progress) -> Result<(), Refusal> {
-    // SAFETY: the record and the marks are readable, the marks for their length, and the progress is writable.
+    // SAFETY: the record and the marks are readable, the marks for their length, and the progress is writable; borrowed
+    // mutably, it overlaps nothing.
     Refusal::check(unsafe { mzg_report(plan, marks.as_ptr(), marks.len(), progress) })
 }

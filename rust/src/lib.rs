@@ -5,7 +5,8 @@
 //! - [`job`] (feature `job`): start a job, perform its tasks in any order that respects their needs, report progress.
 //!
 //! Slices go in and `Result<_, Refusal>` comes out. A refused call leaves every lent slice as it was; words past the needed
-//! length are never altered. `include/mulzhegat.h` has the same calls for C.
+//! length are never altered. `include/mulzhegat.h` has the same calls for C. What it asks of pointers (not null, aligned for
+//! their type, no two overlapping) holds here by borrowing: what a call writes is borrowed mutably.
 //!
 //! Two modules do not call the library and serve its tests: [`reference`](mod@reference) is a second serial program, and
 //! [`model`] a slow model of all calls. Both are written from the paper that defines the calls, not from the library.

@@ -27,13 +27,13 @@ pub fn read(words: &[u32]) -> Result<Plan, Refusal> {
 
 /// Reads a plan from its words into a record, which is all zeros beside a refusal.
 pub fn read_into(words: &[u32], plan: &mut Plan) -> Result<(), Refusal> {
-    // SAFETY: the slice is readable for its length and the record is writable; both live through the call.
+    // SAFETY: the slice is readable for its length and the record is writable; borrowed mutably, it overlaps nothing.
     Refusal::check(unsafe { mzg_plan_read(words.as_ptr(), words.len(), plan) })
 }
 
 /// Writes the words of a plan at the start of `words`, which needs [`Sizes::words`] words.
 pub fn write(plan: &Plan, words: &mut [u32]) -> Result<(), Refusal> {
-    // SAFETY: the record is readable and the slice is writable for its length.
+    // SAFETY: the record is readable and the slice is writable for its length; borrowed mutably, it overlaps nothing.
     Refusal::check(unsafe { mzg_plan_write(plan, words.as_mut_ptr(), words.len()) })
 }
 
@@ -46,6 +46,6 @@ pub fn sizes(plan: &Plan) -> Result<Sizes, Refusal> {
 
 /// Gives the lengths that a plan needs in a record, which is all zeros beside a refusal.
 pub fn sizes_into(plan: &Plan, sizes: &mut Sizes) -> Result<(), Refusal> {
-    // SAFETY: the plan is readable and the sizes are writable.
+    // SAFETY: the plan is readable and the sizes are writable; borrowed mutably, they overlap nothing.
     Refusal::check(unsafe { mzg_plan_sizes(plan, sizes) })
 }

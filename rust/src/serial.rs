@@ -25,7 +25,8 @@ extern "C" {
 /// assert_eq!(output, [1, 3, 6, 5, 12, 21]);
 /// ```
 pub fn run(plan: &Plan, map: &[i32], output: &mut [u64]) -> Result<(), Refusal> {
-    // SAFETY: the record and the map are readable, the output is writable, each for its length.
+    // SAFETY: the record and the map are readable, the output is writable, each for its length; borrowed mutably, it
+    // overlaps nothing.
     Refusal::check(unsafe { mzg_serial(plan, map.as_ptr(), map.len(), output.as_mut_ptr(), output.len()) })
 }
 
@@ -59,6 +60,7 @@ pub fn rectangle(plan: &Plan, rectangle: Rectangle, table: &[u64]) -> Result<u64
 /// Gives the sum over a rectangle in a word, which is 0 beside a refusal.
 pub fn rectangle_into(plan: &Plan, rectangle: Rectangle, table: &[u64], sum: &mut u64) -> Result<(), Refusal> {
     let Rectangle { top, left, bottom, right } = rectangle;
-    // SAFETY: the record and the table are readable, the table for its length, and the sum is writable.
+    // SAFETY: the record and the table are readable, the table for its length, and the sum is writable; borrowed mutably,
+    // it overlaps nothing.
     Refusal::check(unsafe { mzg_rectangle(plan, top, left, bottom, right, table.as_ptr(), table.len(), sum) })
 }
