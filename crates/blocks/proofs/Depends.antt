@@ -10,7 +10,7 @@ use Rattle.plan.specs.Sizes.{neededMarks}
 use Rattle.passes.proofs.Passes.{passesOver-reads}
 use Rattle.filter.specs.Filters.{filtersOf}
 use Rattle.blocks.specs.Geometry.{rowsOf, columnsOf, stripNeeded}
-use Rattle.blocks.specs.Strips.{orderOf, stripWord, pastEdges}
+use Rattle.blocks.specs.Strips.{orderOf, insideBlock, stripWord, pastEdges}
 use Rattle.blocks.specs.Depends.{
   SameStrip,
   SameNeeds,
@@ -23,12 +23,12 @@ use Rattle.blocks.specs.Depends.{
 }
 use Rattle.blocks.specs.Writes.{blockPasses, aloneWord, linkWord, finishWord}
 use Rattle.blocks.proofs.Geometry.{neighbour-below, neighbour-needed}
-use Rattle.blocks.proofs.Reading.{edge-same, read-held, past-same}
+use Rattle.blocks.proofs.Reading.{cond-same, edge-same, past-same}
 
 read-same : (plan : Plan) (k pass : ℕ) (s r : List ℕ) → SameStrip plan k pass s r → (line place : ℕ)
     → place < orderOf plan pass → stripWord plan s k pass line place ≡ stripWord plan r k pass line place
 unfolding stripWord
-read-same plan k pass s r same line place h = read-held plan s k pass _ same line place h
+read-same plan k pass s r same line place h = cond-same (insideBlock plan k pass line place) _ _ (same line place h)
 
 -- The passes read the block and the strips past its edges.
 passes-same : (plan : Plan) (k n : ℕ) (s r : List ℕ) (Y Z : ℕ → ℕ → ℕ) → SameNeeds plan k n s r

@@ -5,3 +5,4 @@ pub mod Output
 pub mod Reading
 pub mod Tasks
 pub mod Depends
+pub mod Examples

@@ -70,7 +70,7 @@ pub from-edge-below : (d : Direction) (n i : ℕ) → i < n → fromEdge d n i <
 from-edge-below forward n i h = omega arith
 from-edge-below backward n i h = h
 
-cond-same : (test : Bool) (v w : ℕ) → (test ≡ true → v ≡ w) → cond test v 0 ≡ cond test w 0
+pub cond-same : (test : Bool) (v w : ℕ) → (test ≡ true → v ≡ w) → cond test v 0 ≡ cond test w 0
 cond-same true v w e = e refl
 cond-same false v w e = refl
 

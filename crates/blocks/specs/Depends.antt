@@ -9,17 +9,18 @@ use Rattle.plan.specs.declared.Plan.{Plan}
 use Rattle.plan.specs.Sizes.{neededMarks}
 use Rattle.plan.specs.Lists.{wordAt}
 use Rattle.blocks.specs.Geometry.{rowsOf, columnsOf, partOf, neighbour, stripNeeded}
-use Rattle.blocks.specs.Strips.{orderOf, stripPlace}
+use Rattle.blocks.specs.Strips.{orderOf, stripPlace, insideBlock}
 use Rattle.blocks.specs.Writes.{aloneWord, linkWord, finishWord}
 
 -- Two maps have the same heights in block k.
 abbrev pub SameBlock : Plan → ℕ → (X Y : ℕ → ℕ → ℕ) → Type 0
 SameBlock plan k X Y = (y x : ℕ) → y < rowsOf plan k → x < columnsOf plan k → partOf plan k X y x ≡ partOf plan k Y y x
 
--- Two lists have the same words in block k's strip of a pass.
+-- Two lists have the same words in block k's strip of a pass, at the places that lie in the block: those outside are read as
+-- 0, whatever a lent buffer holds there.
 abbrev pub SameStrip : Plan → ℕ → ℕ → (s r : List ℕ) → Type 0
 SameStrip plan k pass s r =
-    (line place : ℕ) → line < plan .side → place < orderOf plan pass
+    (line place : ℕ) → place < orderOf plan pass → insideBlock plan k pass line place ≡ true
     → wordAt s (stripPlace plan k pass line place) ≡ wordAt r (stripPlace plan k pass line place)
 
 -- Two lists have the same strips past block k's edges for the first n passes: the needs of a link of pass n-1, and of finish
@@ -46,7 +47,7 @@ FinishDepends =
     (plan : Plan) (X Y : ℕ → ℕ → ℕ) (s r : List ℕ) (k : ℕ) → SameBlock plan k X Y → SameNeeds plan k 4 s r
     → (y x : ℕ) → y < rowsOf plan k → x < columnsOf plan k → finishWord plan X s k y x ≡ finishWord plan Y r k y x
 
--- Two lists have the same words in each strip that a neighbour needs: they may differ in the strips on the map's border.
+-- Two lists have the same strips wherever a neighbour needs one: they may differ in the strips on the map's border.
 abbrev pub SameNeeded : Plan → (s r : List ℕ) → Type 0
 SameNeeded plan s r =
     (k pass : ℕ) → k < neededMarks plan → pass < 4 → stripNeeded plan k pass ≡ true → SameStrip plan k pass s r

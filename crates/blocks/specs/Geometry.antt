@@ -34,7 +34,7 @@ rowsOf plan k = blockHeight plan (blockRow plan k)
 abbrev pub columnsOf : Plan → ℕ → ℕ
 columnsOf plan k = blockWidth plan (blockColumn plan k)
 
--- The area of block k: its rows times its columns.
+-- The area of block k: its rows times its columns, as many words as finish writes.
 abbrev pub blockArea : Plan → ℕ → ℕ
 blockArea plan k = rowsOf plan k * columnsOf plan k
 

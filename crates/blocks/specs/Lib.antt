@@ -3,3 +3,4 @@ pub mod Strips
 pub mod Writes
 pub mod Matching
 pub mod Depends
+pub mod Examples

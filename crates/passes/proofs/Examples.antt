@@ -1,4 +1,4 @@
--- The definitions compute the words that document 01 gives in its examples about the passes and the rectangle sum.
+-- The definitions compute the words of the examples.
 -- Assumes nothing.
 use mathlib.Core.Path.{_≡_, refl}
 use mathlib.Core.List.{map}

@@ -1,5 +1,5 @@
--- The examples of document 01 about the passes and the rectangle sum, as one list of what the definitions compute and
--- what the document gives. Other crates join theirs to it.
+-- A few examples that hold the definitions of this crate, as one list of what they compute and what document 01's words give,
+-- worked by hand. The starred examples of document 01 stand in worked_examples.
 use mathlib.Core.List.{List, [], _∷_, map}
 use Prim.Native.Nat.{ℕ, zero, suc, _*_, _/_, _%_}
 use lib.ListN.{length, getD}
@@ -8,9 +8,9 @@ use Rattle.word.specs.Word.{residue}
 use Rattle.passes.specs.Filter.{Filter}
 use Rattle.passes.specs.Passes.{serialPasses}
 use Rattle.passes.specs.Pixel.{heightMap}
-use Rattle.passes.specs.Table.{unchanged, summedAreaTable, rectangleSum}
+use Rattle.passes.specs.Table.{runningSum, unchanged, summedAreaTable, rectangleSum}
 
--- The words that the definitions compute, and those that the document gives.
+-- The words that the definitions compute, and those that they should.
 pub record Example : Type 0 where
   pub computed : List ℕ
   pub expected : List ℕ
@@ -39,11 +39,11 @@ firstWords w n X = collect n 0
     collect zero q = []
     collect (suc n) q = X (q / w) (q % w) ∷ collect n (suc q)
 
--- A map of h rows and w columns through the four passes.
-unfoldable pub passesExample : (ℕ → Filter) → (h w : ℕ) → List ℤ → List ℤ → Example
-passesExample filters h w heights words =
+-- A map of h rows and w columns after the first t passes.
+unfoldable pub passesExample : (ℕ → Filter) → (h w : ℕ) → List ℤ → (t : ℕ) → List ℤ → Example
+passesExample filters h w heights t words =
     record {
-      computed = firstWords w (h * w) (serialPasses filters h w (heightMap w heights) 4);
+      computed = firstWords w (h * w) (serialPasses filters h w (heightMap w heights) t);
       expected = map residue words;
     }
 
@@ -56,34 +56,41 @@ rectangleExample h w heights top left bottom right sum =
     }
 
 -- -n.
-abbrev minus : ℕ → ℤ
+abbrev pub minus : ℕ → ℤ
 minus n = negℤ (pos n)
+
+-- Gain 1, d1 = 1, d2 = 2.
+abbrev forth : Filter
+forth = filterOf (pos 1) (pos 1 ∷ pos 2 ∷ [])
+
+-- Gain 2, d1 = -1, d2 = 3.
+abbrev back : Filter
+back = filterOf (pos 2) (minus 1 ∷ pos 3 ∷ [])
+
+-- 1, 0, 2, 1
+abbrev column : List ℤ
+column = pos 1 ∷ pos 0 ∷ pos 2 ∷ pos 1 ∷ []
+
+-- 1 0 2 1 / 0 1 1 3
+abbrev twoRows : List ℤ
+twoRows = pos 1 ∷ pos 0 ∷ pos 2 ∷ pos 1 ∷ pos 0 ∷ pos 1 ∷ pos 1 ∷ pos 3 ∷ []
 
 -- 1 2 3 / 4 5 6
 abbrev oneToSix : List ℤ
 oneToSix = pos 1 ∷ pos 2 ∷ pos 3 ∷ pos 4 ∷ pos 5 ∷ pos 6 ∷ []
 
--- 1, 0, 0
-abbrev oneThenZeros : List ℤ
-oneThenZeros = pos 1 ∷ pos 0 ∷ pos 0 ∷ []
-
--- The list.
+-- The column after down and after up; the rows after right and after left; document 01's row 1, 0, 0; its rectangle
+-- (0,1,2,3), and (1,1,2,3), whose corners all count.
 unfoldable pub passesExamples : List Example
 passesExamples =
-    passesExample summedAreaTable 2 3 oneToSix (pos 1 ∷ pos 3 ∷ pos 6 ∷ pos 5 ∷ pos 12 ∷ pos 21 ∷ [])
-    ∷ rectangleExample 2 3 oneToSix 0 1 2 3 16
-    ∷ rectangleExample 2 3 oneToSix 1 0 2 1 4
-    ∷ passesExample (passesOf (filterOf (pos 6) (pos 2 ∷ [])) unchanged unchanged unchanged) 3 1 oneThenZeros
-    (pos 6 ∷ minus 12 ∷ pos 24 ∷ [])
-    ∷ passesExample
-    (passesOf (filterOf (pos 6) (pos 2 ∷ [])) (filterOf (minus 1) (pos 2 ∷ [])) unchanged unchanged) 3 1 oneThenZeros
-    (minus 126 ∷ pos 60 ∷ minus 24 ∷ [])
-    ∷ passesExample
-    (passesOf unchanged unchanged (filterOf (pos 1) (minus 1 ∷ [])) (filterOf (pos 1) (minus 1 ∷ []))) 1 3 oneThenZeros
+    passesExample (passesOf forth back unchanged unchanged) 4 1 column 1 (pos 1 ∷ minus 1 ∷ pos 1 ∷ pos 2 ∷ [])
+    ∷ passesExample (passesOf forth back unchanged unchanged) 4 1 column 2 (minus 24 ∷ minus 8 ∷ pos 6 ∷ pos 4 ∷ [])
+    ∷ passesExample (passesOf unchanged unchanged forth back) 2 4 twoRows 3
+    (pos 1 ∷ minus 1 ∷ pos 1 ∷ pos 2 ∷ pos 0 ∷ pos 1 ∷ pos 0 ∷ pos 1 ∷ [])
+    ∷ passesExample (passesOf unchanged unchanged forth back) 2 4 twoRows 4
+    (minus 24 ∷ minus 8 ∷ pos 6 ∷ pos 4 ∷ minus 8 ∷ minus 2 ∷ pos 2 ∷ pos 2 ∷ [])
+    ∷ passesExample (passesOf unchanged unchanged runningSum runningSum) 1 3 (pos 1 ∷ pos 0 ∷ pos 0 ∷ []) 4
     (pos 3 ∷ pos 2 ∷ pos 1 ∷ [])
-    ∷ passesExample (passesOf unchanged unchanged unchanged unchanged) 1 1 (minus 1 ∷ [])
-    (pos 18446744073709551615 ∷ [])
-    ∷ passesExample (λ u. filterOf (pos 65536) []) 1 1 (pos 1 ∷ []) (pos 0 ∷ [])
-    ∷ passesExample (passesOf (filterOf (minus 134217728) []) unchanged unchanged unchanged) 1 1
-    (minus 2147483648 ∷ []) (pos 288230376151711744 ∷ [])
+    ∷ rectangleExample 2 3 oneToSix 0 1 2 3 16
+    ∷ rectangleExample 2 3 oneToSix 1 1 2 3 11
     ∷ []
