@@ -2,10 +2,10 @@
 use lib.ListN.{length}
 use borrow.Author.Tests.{le-ltb}
 use Rattle.plan.specs.Sizes.{neededMarks, neededStrips}
-use Rattle.calls.specs.Calls.{startOutcome}
+use Rattle.calls.specs.Calls.{startAnswer}
 use Rattle.calls.specs.Demand.{StartAccepts}
 
 pub start-accepted : StartAccepts
-unfolding startOutcome
+unfolding startAnswer
 start-accepted plan marks strips kept marks-long strips-long =
     rw (kept, le-ltb (length marks) (neededMarks plan) marks-long, le-ltb (length strips) (neededStrips plan) strips-long)

@@ -1,57 +1,35 @@
--- A call is accepted exactly where its task is ready by what is done, and document 01's number for it.
--- Assumes nothing.
-use mathlib.Core.Path.{_≡_, refl, ap₂}
+-- A call is accepted exactly where its task is ready by what is done. Assumes nothing.
+use mathlib.Core.Path.{_≡_, refl}
 use mathlib.Core.Bool.{Bool, true, false, not, _&&_, cond}
-use mathlib.Core.List.{List, [], _∷_, map}
+use mathlib.Core.List.{[], _∷_}
 use Prim.Native.Nat.{ℕ}
-use Rattle.refusal.specs.declared.Refusal.the-variants.{NoSuchTask, AlreadyMarked, NeedUnmarked}
-use Rattle.refusal.specs.declared.Outcome.the-variants.{Accepted, Refused}
-use Rattle.refusal.specs.Refusals.{outcomeNumber, outcomePlace, ifAccepted}
+use Rattle.refusal.specs.Table.{_at_when_, firstDue, ifAccepted}
 use Rattle.plan.specs.declared.Plan.{Plan}
 use Rattle.plan.specs.Sizes.{blockRows, blockColumns}
 use Rattle.tasks.specs.Tasks.{BlockTask, exists, needsOf, allDone, ready}
-use Rattle.tasks.specs.Verdict.{verdictOf}
-use Rattle.calls.specs.Demand.{doneBy, dueFrom, dueNumber, dueNumbers}
+use Rattle.tasks.specs.Verdict.{doneRows}
+use Rattle.tasks.proofs.Verdicts.{accepted-ready, ready-accepted}
+use Rattle.calls.specs.Demand.{dueAnswer, AcceptedIfReady}
 
-pub by-ready : {A : Type 0} (M N : ℕ) (done : ℕ → ℕ → Bool) (t k : ℕ) (accepted refused : A)
-    → ifAccepted (verdictOf M N done t k) accepted refused ≡ cond (ready M N done t k) accepted refused
-unfolding verdictOf ready
-by-ready M N done t k a b = by (exists M N t k) (done t k) (allDone done (needsOf M N t k))
+pub by-ready : {A : Type 0} (plan : Plan) (done : ℕ → ℕ → Bool) (call : BlockTask) (accepted refused : A)
+    → ifAccepted (dueAnswer plan done call) accepted refused
+    ≡ cond (ready (blockRows plan) (blockColumns plan) done (call .task) (call .block)) accepted refused
+unfolding dueAnswer doneRows ready
+by-ready plan done call a b =
+    by (exists (blockRows plan) (blockColumns plan) (call .task) (call .block)) (done (call .task) (call .block))
+    (allDone done (needsOf (blockRows plan) (blockColumns plan) (call .task) (call .block)))
   where
     by : (x d y : Bool)
-        → ifAccepted (cond x (cond d (Refused AlreadyMarked) (cond y Accepted (Refused NeedUnmarked)))
-        (Refused NoSuchTask)) a b
+        → ifAccepted (firstDue (8 at 0 when not x ∷ 10 at 0 when d ∷ 11 at 0 when not y ∷ [])) a b
         ≡ cond (x && (not d && y)) a b
     by true true y = refl
     by true false true = refl
     by true false false = refl
     by false d y = refl
 
-module _ (plan : Plan) where
-  number-due : (done : ℕ → ℕ → Bool) (call : BlockTask)
-      → let verdict = verdictOf (blockRows plan) (blockColumns plan) done (call .task) (call .block) in
-      (outcomeNumber verdict ≡ dueNumber plan done call) × (outcomePlace verdict ≡ 0)
-  unfolding verdictOf dueNumber
-  number-due done call =
-      by (exists (blockRows plan) (blockColumns plan) (call .task) (call .block)) (done (call .task) (call .block))
-      (allDone done (needsOf (blockRows plan) (blockColumns plan) (call .task) (call .block)))
-    where
-      by : (x d y : Bool)
-          → let verdict = cond x (cond d (Refused AlreadyMarked) (cond y Accepted (Refused NeedUnmarked))) (Refused NoSuchTask) in
-          (outcomeNumber verdict ≡ cond x (cond d 10 (cond y 0 11)) 8) × (outcomePlace verdict ≡ 0)
-      by true true y = (refl, refl)
-      by true false true = (refl, refl)
-      by true false false = (refl, refl)
-      by false d y = (refl, refl)
-
-  pub numbers-due : (done : ℕ → ℕ → Bool) (calls : List BlockTask)
-      → map outcomeNumber (dueFrom plan done calls) ≡ dueNumbers plan done calls
-  unfolding dueFrom dueNumbers
-  numbers-due done [] = refl
-  numbers-due done (call ∷ calls) = ap₂ _∷_ (number-due done call .0) (numbers-due (doneBy plan done call) calls)
-
-  pub places-due : (done : ℕ → ℕ → Bool) (calls : List BlockTask)
-      → map outcomePlace (dueFrom plan done calls) ≡ map (λ call. 0) calls
-  unfolding dueFrom
-  places-due done [] = refl
-  places-due done (call ∷ calls) = ap₂ _∷_ (number-due done call .1) (places-due (doneBy plan done call) calls)
+pub accepted-if-ready : AcceptedIfReady
+unfolding dueAnswer
+accepted-if-ready plan done call = (
+  accepted-ready (blockRows plan) (blockColumns plan) done (call .task) (call .block),
+  ready-accepted (blockRows plan) (blockColumns plan) done (call .task) (call .block),
+)

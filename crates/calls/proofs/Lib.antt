@@ -3,6 +3,6 @@ pub mod Cover
 pub mod Tables
 pub mod Invariant
 pub mod Step
-pub mod Demand
 pub mod Accepted
+pub mod Demand
 pub mod Accepts

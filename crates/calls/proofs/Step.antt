@@ -3,7 +3,7 @@
 use mathlib.Core.Path.{_≡_, refl, sym, _∙_}
 use mathlib.Core.Bool.{Bool, true, false, _||_, cond, true≢false}
 use mathlib.Core.List.{List}
-use mathlib.Core.Logic.{_⊎_, ⊎-elim}
+use mathlib.Core.Logic.{⊎-elim}
 use Prim.Native.Nat.{ℕ, zero, suc, _≤_, _<_}
 use native.Mathlib.Omega.{arith}
 use native.Mathlib.Decide.{ℕ-discrete}
@@ -52,7 +52,7 @@ use Rattle.calls.proofs.Cover.{outside-slot}
 use Rattle.calls.proofs.Tables.{link-exists, neighbour-is}
 use Rattle.calls.proofs.Invariant.{MarksKept, StripsKept, OutputKept, Kept}
 
-clash : {A : Type 0} {a : Bool} → a ≡ true → a ≡ false → A
+pub clash : {A : Type 0} {a : Bool} → a ≡ true → a ≡ false → A
 clash p q = absurd (true≢false (sym p ∙ q))
 
 -- What is not done afterwards was not done before.

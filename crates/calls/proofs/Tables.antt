@@ -11,7 +11,9 @@ use Rattle.plan.specs.declared.Plan.{Plan}
 use Rattle.plan.specs.Sizes.{blockRows, blockColumns}
 use Rattle.tasks.specs.Tasks.{rowOf, columnOf, hasTask}
 use Rattle.tasks.specs.Neighbours.{hasNeighbour, neighbour as neighbourNumber}
+use Rattle.report.specs.Tally.{blockArea as tallyArea}
 use Rattle.blocks.specs.Geometry.{blockRow, blockColumn, neighbour, stripNeeded}
+use Rattle.calls.specs.Demand.{AreasAgree}
 
 module _ (plan : Plan) (k : ℕ) where
   -- The link of a pass exists at block k exactly where a neighbour needs its strip.
@@ -43,3 +45,8 @@ module _ (plan : Plan) (k : ℕ) where
   pub neighbour-is : (pass j : ℕ) → pass < 4 → neighbour plan k pass ≡ some j
       → (hasNeighbour (blockRows plan) (blockColumns plan) pass k ≡ true) × (neighbourNumber (blockColumns plan) pass k ≡ j)
   neighbour-is pass j h e = chosen _ _ j (sym (table-neighbour pass h) ∙ e)
+
+-- The tally and the finish speak of one area.
+pub areas-agree : AreasAgree
+unfolding tallyArea blockRow blockColumn
+areas-agree plan k = refl

@@ -1,21 +1,18 @@
 -- Start, the task call and a list of task calls: the exact answer, and the marks, strips and output after it.
 -- Document 01, 'Blocks, marks and strips' and 'Refused calls'.
-use mathlib.Core.Bool.{Bool, _||_, cond}
-use mathlib.Core.List.{List, [], _∷_}
+use mathlib.Core.Bool.{not, cond}
+use mathlib.Core.List.{List, [], _∷_, _++_}
 use Prim.Native.Nat.{ℕ, zero, suc, _+_, min}
 use lib.IntN.{ℤ}
 use lib.Dec.{ltb, eqb}
 use lib.ListN.{length, getD}
-use Rattle.refusal.specs.declared.Refusal.the-variants.{RecordBreaksRule, BufferTooShort}
-use Rattle.refusal.specs.declared.Outcome.{Outcome}
-use Rattle.refusal.specs.declared.Outcome.the-variants.{Accepted, Refused}
-use Rattle.refusal.specs.Refusals.{ifAccepted}
+use Rattle.refusal.specs.Table.{Answer, Row, _at_when_, firstDue, ifAccepted}
 use Rattle.plan.specs.declared.Plan.{Plan}
 use Rattle.plan.specs.Rules.{keepsRules}
-use Rattle.plan.specs.Sizes.{blockRows, blockColumns, neededMarks, neededStrips, neededPixels}
+use Rattle.plan.specs.Sizes.{blockRows, blockColumns, neededMarks, neededStrips, sizesOf, lengthRows}
 use Rattle.tasks.specs.Tasks.{BlockTask, nothingDone}
 use Rattle.tasks.specs.Marks.{markOf, withBit}
-use Rattle.tasks.specs.Verdict.{verdict}
+use Rattle.tasks.specs.Verdict.{verdictRows}
 use Rattle.filter.specs.Written.{written}
 use Rattle.blocks.specs.Writes.{mapOf, collected, linked, finished}
 
@@ -31,13 +28,14 @@ lists marks strips output = record { marks = marks; strips = strips; output = ou
 
 -- ---- start
 
--- Start is lent marks and strips: 6 if the record breaks a rule, 7 if one of the two is too short.
-unfoldable pub startOutcome : Plan → List ℕ → List ℕ → Outcome
-startOutcome plan marks strips =
-    cond (keepsRules plan)
-    (cond (ltb (length marks) (neededMarks plan) || ltb (length strips) (neededStrips plan)) (Refused BufferTooShort)
-    Accepted)
-    (Refused RecordBreaksRule)
+-- Start is lent marks and strips, and tests just those.
+unfoldable pub startAnswer : Plan → List ℕ → List ℕ → Answer
+startAnswer plan marks strips =
+    firstDue
+    (6 at 0 when not (keepsRules plan)
+    ∷ 7 at 0 when ltb (length marks) (neededMarks plan)
+    ∷ 7 at 0 when ltb (length strips) (neededStrips plan)
+    ∷ [])
 
 -- Marks of which the first n are of kind 7 with no bit.
 unfoldable pub unmarked : ℕ → List ℕ → List ℕ
@@ -49,12 +47,12 @@ cleared n words = written (λ q. q) (λ q. 0) n words
 
 -- The marks after a call of start: all needed marks are unmarked, or a refused call leaves them.
 unfoldable pub marksAfterStart : Plan → List ℕ → List ℕ → List ℕ
-marksAfterStart plan marks strips = ifAccepted (startOutcome plan marks strips) (unmarked (neededMarks plan) marks) marks
+marksAfterStart plan marks strips = ifAccepted (startAnswer plan marks strips) (unmarked (neededMarks plan) marks) marks
 
 -- The strips after a call of start: all needed strip words are 0, or a refused call leaves them.
 unfoldable pub stripsAfterStart : Plan → List ℕ → List ℕ → List ℕ
 stripsAfterStart plan marks strips =
-    ifAccepted (startOutcome plan marks strips) (cleared (neededStrips plan) strips) strips
+    ifAccepted (startAnswer plan marks strips) (cleared (neededStrips plan) strips) strips
 
 -- The lists of a job after its start: marks and strips as start leaves them, and the output untouched.
 unfoldable pub started : Plan → Buffers → Buffers
@@ -67,20 +65,17 @@ started plan lent =
 
 -- ---- the task call
 
--- A lent list is too short: all four are tested, also where the task doesn't read them.
-unfoldable pub tooShort : Plan → List ℤ → Buffers → Bool
-tooShort plan heights buffers =
-    ltb (length heights) (neededPixels plan)
-    || (ltb (length (buffers .marks)) (neededMarks plan)
-    || (ltb (length (buffers .strips)) (neededStrips plan) || ltb (length (buffers .output)) (neededPixels plan)))
+-- The record, and the lengths of the four lists that a task is lent: all are tested, also where the task doesn't read them.
+unfoldable pub lentRows : Plan → List ℤ → Buffers → List Row
+lentRows plan heights buffers =
+    6 at 0 when not (keepsRules plan)
+    ∷ lengthRows (sizesOf plan) (length (buffers .marks)) (length (buffers .strips)) (length heights) (length (buffers .output))
 
--- What a call of task t at block k answers: 6, 7, and then what the marks say.
-unfoldable pub taskOutcome : Plan → List ℤ → Buffers → ℕ → ℕ → Outcome
-taskOutcome plan heights buffers t k =
-    cond (keepsRules plan)
-    (cond (tooShort plan heights buffers) (Refused BufferTooShort)
-    (verdict (blockRows plan) (blockColumns plan) (buffers .marks) t k))
-    (Refused RecordBreaksRule)
+-- What a call of task t at block k answers: 6, 7, and then what the marks say, 8 to 11.
+unfoldable pub taskAnswer : Plan → List ℤ → Buffers → ℕ → ℕ → Answer
+taskAnswer plan heights buffers t k =
+    firstDue
+    (lentRows plan heights buffers ++ verdictRows (blockRows plan) (blockColumns plan) (buffers .marks) t k)
 
 -- The strips after an accepted task: collect writes the block's slot, a link the strip of its pass, finish none.
 unfoldable pub stripsAfter : Plan → List ℤ → ℕ → ℕ → List ℕ → List ℕ
@@ -104,7 +99,7 @@ performed plan heights t k buffers =
 -- The lists after a call of task t at block k: a refused call leaves all as it was.
 unfoldable pub afterTask : Plan → List ℤ → ℕ → ℕ → Buffers → Buffers
 afterTask plan heights t k buffers =
-    ifAccepted (taskOutcome plan heights buffers t k) (performed plan heights t k buffers) buffers
+    ifAccepted (taskAnswer plan heights buffers t k) (performed plan heights t k buffers) buffers
 
 -- ---- a list of task calls, one after another
 
@@ -115,16 +110,16 @@ afterCalls plan heights (call ∷ calls) buffers =
     afterCalls plan heights calls (afterTask plan heights (call .task) (call .block) buffers)
 
 -- The answer of each call.
-unfoldable pub outcomesOf : Plan → List ℤ → List BlockTask → Buffers → List Outcome
-outcomesOf plan heights [] buffers = []
-outcomesOf plan heights (call ∷ calls) buffers =
-    taskOutcome plan heights buffers (call .task) (call .block)
-    ∷ outcomesOf plan heights calls (afterTask plan heights (call .task) (call .block) buffers)
+unfoldable pub answersOf : Plan → List ℤ → List BlockTask → Buffers → List Answer
+answersOf plan heights [] buffers = []
+answersOf plan heights (call ∷ calls) buffers =
+    taskAnswer plan heights buffers (call .task) (call .block)
+    ∷ answersOf plan heights calls (afterTask plan heights (call .task) (call .block) buffers)
 
 -- The number of accepted calls among the answers.
-unfoldable pub acceptedCount : List Outcome → ℕ
+unfoldable pub acceptedCount : List Answer → ℕ
 acceptedCount [] = 0
-acceptedCount (outcome ∷ outcomes) = ifAccepted outcome 1 0 + acceptedCount outcomes
+acceptedCount (answer ∷ answers) = ifAccepted answer 1 0 + acceptedCount answers
 
 -- The n calls from number i on, where call i is of the task number i of one list at the block number i of another.
 unfoldable pub callsFrom : List ℕ → List ℕ → ℕ → ℕ → List BlockTask

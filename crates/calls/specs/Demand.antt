@@ -6,29 +6,34 @@ use mathlib.Core.Logic.{_≢_, _⊎_}
 use mathlib.Core.List.{List, [], _∷_, map}
 use Prim.Native.Nat.{ℕ, suc, _+_, _*_, _/_, _%_, _≤_, _<_}
 use lib.IntN.{ℤ}
-use lib.ListN.{length}
-use Rattle.refusal.specs.declared.Outcome.{Outcome}
-use Rattle.refusal.specs.declared.Outcome.the-variants.{Accepted}
-use Rattle.refusal.specs.Refusals.{outcomeNumber, outcomePlace}
+use lib.ListN.{length, getD}
+use Rattle.refusal.specs.Table.{Answer, accepted, refused, firstDue}
 use Rattle.plan.specs.declared.Plan.{Plan}
 use Rattle.plan.specs.Rules.{keepsRules}
 use Rattle.plan.specs.Sizes.{blockRows, blockColumns, neededMarks, neededStrips, neededPixels, taskCount}
 use Rattle.plan.specs.Lists.{wordAt}
-use Rattle.tasks.specs.Tasks.{BlockTask, exists, needsOf, allDone, ready, nothingDone, alsoDone}
+use Rattle.tasks.specs.Tasks.{BlockTask, ready, nothingDone, alsoDone}
 use Rattle.tasks.specs.Counts.{doneCount}
 use Rattle.tasks.specs.Marks.{markOf}
-use Rattle.tasks.specs.Verdict.{verdictOf}
-use Rattle.report.specs.declared.Next.the-variants.{Ready, Nothing}
+use Rattle.tasks.specs.Verdict.{doneRows}
 use Rattle.report.specs.declared.Progress.{Progress}
-use Rattle.report.specs.declared.ReportAnswer.the-variants.{Made}
-use Rattle.report.specs.Tally.{tally}
+use Rattle.report.specs.Tally.{blockArea as tallyArea, tally}
 use Rattle.report.specs.Report.{firstReady, report}
-use Rattle.report.specs.Values.{madeValues, valuesOf}
-use Rattle.blocks.specs.Geometry.{firstRow, firstColumn, rowsOf, columnsOf, blockPixelPlace}
+use Rattle.report.specs.Values.{valuesOf}
+use Rattle.blocks.specs.Geometry.{firstRow, firstColumn, rowsOf, columnsOf, blockArea, blockPixelPlace}
 use Rattle.blocks.specs.Strips.{orderOf, stripPlace}
 use Rattle.blocks.specs.Writes.{mapOf, aloneWord}
 use Rattle.blocks.specs.Matching.{serialResult, matchingWord}
-use Rattle.calls.specs.Calls.{Buffers, startOutcome, started, taskOutcome, afterCalls, outcomesOf}
+use Rattle.calls.specs.Calls.{
+  Buffers,
+  startAnswer,
+  started,
+  lentRows,
+  taskAnswer,
+  afterCalls,
+  answersOf,
+  acceptedCount,
+}
 
 -- ---- what is done
 
@@ -47,27 +52,16 @@ doneFrom plan done (call ∷ calls) = doneFrom plan (doneBy plan done call) call
 unfoldable pub doneAfter : Plan → List BlockTask → ℕ → ℕ → Bool
 doneAfter plan calls = doneFrom plan nothingDone calls
 
--- What each call is to be answered: by what was done before it, with no look at marks.
-unfoldable pub dueFrom : Plan → (ℕ → ℕ → Bool) → List BlockTask → List Outcome
+-- What a call is to be answered, by what was done before it, with no look at marks: 8 where the task does not exist at the
+-- block, 10 where it is done, 11 where a need of it is not, each with place 0; else accepted. 9 cannot be due: marks that begin
+-- with an accepted start never break.
+unfoldable pub dueAnswer : Plan → (ℕ → ℕ → Bool) → BlockTask → Answer
+dueAnswer plan done call = firstDue (doneRows (blockRows plan) (blockColumns plan) done (call .task) (call .block))
+
+-- These answers for calls one after another.
+unfoldable pub dueFrom : Plan → (ℕ → ℕ → Bool) → List BlockTask → List Answer
 dueFrom plan done [] = []
-dueFrom plan done (call ∷ calls) =
-    verdictOf (blockRows plan) (blockColumns plan) done (call .task) (call .block)
-    ∷ dueFrom plan (doneBy plan done call) calls
-
--- Document 01's number for a call, by what was done before it: 8 where the task does not exist at the block, 10 where it is
--- done, 11 where a need of it is not, else 0.
-unfoldable pub dueNumber : Plan → (ℕ → ℕ → Bool) → BlockTask → ℕ
-dueNumber plan done call =
-    cond (exists (blockRows plan) (blockColumns plan) (call .task) (call .block))
-    (cond (done (call .task) (call .block)) 10
-    (cond (allDone done (needsOf (blockRows plan) (blockColumns plan) (call .task) (call .block))) 0
-    11))
-    8
-
--- These numbers for calls one after another.
-unfoldable pub dueNumbers : Plan → (ℕ → ℕ → Bool) → List BlockTask → List ℕ
-dueNumbers plan done [] = []
-dueNumbers plan done (call ∷ calls) = dueNumber plan done call ∷ dueNumbers plan (doneBy plan done call) calls
+dueFrom plan done (call ∷ calls) = dueAnswer plan done call ∷ dueFrom plan (doneBy plan done call) calls
 
 -- How many tasks are done after a list of calls.
 abbrev pub countAfter : Plan → List BlockTask → ℕ
@@ -103,12 +97,22 @@ OutsideCollected plan done q =
     (k pass line place : ℕ) → Collected done k → pass < 4 → line < plan .side → place < orderOf plan pass
     → q ≢ stripPlace plan k pass line place
 
+-- ---- the answers of a list of calls
+
+-- Call number i is accepted; past the end of the list none is.
+abbrev pub AcceptedAt : List Answer → ℕ → Type 0
+AcceptedAt said i = getD said i (refused 0 0) ≡ accepted
+
+-- Call number i of the list.
+abbrev pub callAt : List BlockTask → ℕ → BlockTask
+callAt calls i = getD calls i (record { task = 0; block = 0 })
+
 -- ---- the claim
 
 -- The claim about a list of calls on a map. `lent` has the marks and strips lent to start and an output of any words, `after`
 -- the lists after the calls, and `said` has their answers.
 pub record Claim (plan : Plan) (heights : List ℤ) (lent : Buffers) (calls : List BlockTask) (after : Buffers)
-    (said : List Outcome) : Type 0 where
+    (said : List Answer) : Type 0 where
   -- Each word of a finished block is the result of left over the whole map.
   pub finished-blocks : (k y x : ℕ) → Finished (doneAfter plan calls) k → y < rowsOf plan k → x < columnsOf plan k
       → wordAt (after .output) (blockPixelPlace plan k y x)
@@ -138,26 +142,25 @@ pub record Claim (plan : Plan) (heights : List ℤ) (lent : Buffers) (calls : Li
   pub marks-length : length (after .marks) ≡ length (lent .marks)
   pub strips-length : length (after .strips) ≡ length (lent .strips)
   pub output-length : length (after .output) ≡ length (lent .output)
-  -- Each call is answered by what was done before it: accepted exactly if it makes its task done, else refused as the table
-  -- of refused calls says.
+  -- Each call is answered by what was done before it: accepted exactly if it makes its task done, else refused by 8, 10 or 11.
   pub answers-are : said ≡ dueFrom plan nothingDone calls
-  -- In document 01's numbers: 0, 8, 10 or 11, and the place beside it is 0.
-  pub numbers-are : map outcomeNumber said ≡ dueNumbers plan nothingDone calls
-  pub places-are : map outcomePlace said ≡ map (λ call. 0) calls
+  -- So no task is accepted twice: of two accepted calls the second is of another task or at another block,
+  pub accepted-once : (i j : ℕ) → i < j → AcceptedAt said i → AcceptedAt said j → callAt calls i ≢ callAt calls j
+  -- and as many calls are accepted as tasks are done.
+  pub accepted-are-done : acceptedCount said ≡ countAfter plan calls
   -- The report on the marks is made: it counts the tasks that are done, its tally is the area of each collected block plus that
   -- of each finished one, and it names the first task that is ready, by number and then by block, or none.
-  pub report-made : report plan (after .marks) ≡ Made (progressAfter plan calls)
-  -- In document 01's values: number and place 0, count, tally, and whether a task is ready, and which.
-  pub report-values : valuesOf (report plan (after .marks))
-      ≡ madeValues (countAfter plan calls) (progressAfter plan calls .tally) (progressAfter plan calls .next)
+  pub report-is : report plan (after .marks) ≡ record { answer = accepted; value = valuesOf (progressAfter plan calls) }
   -- No more tasks are done than there are, 6MN - 2M - 2N.
   pub never-more : countAfter plan calls ≤ taskCount plan
   -- Until that many are done the report names a task that is accepted if called next.
   pub names-next : countAfter plan calls < taskCount plan
-      → (t : ℕ) × (k : ℕ) × (progressAfter plan calls .next ≡ Ready t k) × (taskOutcome plan heights after t k ≡ Accepted)
+      → let values = report plan (after .marks) .value in
+      (values .ready ≡ 1) × (taskAnswer plan heights after (values .task) (values .block) ≡ accepted)
   -- With that many done it names none, and the tally is two for each pixel.
-  pub names-none : countAfter plan calls ≡ taskCount plan → progressAfter plan calls .next ≡ Nothing
-  pub whole-tally : countAfter plan calls ≡ taskCount plan → progressAfter plan calls .tally ≡ 2 * neededPixels plan
+  pub names-none : countAfter plan calls ≡ taskCount plan
+      → report plan (after .marks) .value
+      ≡ record { count = taskCount plan; tally = 2 * neededPixels plan; ready = 0; task = 0; block = 0 }
   -- With that many done, each output word below h×w is the word that the serial passes give there.
   pub whole-job : countAfter plan calls ≡ taskCount plan → (q : ℕ) → q < neededPixels plan
       → wordAt (after .output) q
@@ -167,22 +170,45 @@ pub record Claim (plan : Plan) (heights : List ℤ) (lent : Buffers) (calls : Li
 -- the claim holds of every list of calls, whatever their task and block numbers.
 abbrev pub Demand3 : Type 0
 Demand3 =
-    (plan : Plan) (heights : List ℤ) (lent : Buffers) → startOutcome plan (lent .marks) (lent .strips) ≡ Accepted
+    (plan : Plan) (heights : List ℤ) (lent : Buffers) → startAnswer plan (lent .marks) (lent .strips) ≡ accepted
     → neededPixels plan ≤ length heights → neededPixels plan ≤ length (lent .output) → (calls : List BlockTask)
     → Claim plan heights lent calls (afterCalls plan heights calls (started plan lent))
-    (outcomesOf plan heights calls (started plan lent))
+    (answersOf plan heights calls (started plan lent))
+
+-- A call is accepted exactly if it makes its task done, that is, if its task is ready.
+abbrev pub AcceptedIfReady : Type 0
+AcceptedIfReady =
+    (plan : Plan) (done : ℕ → ℕ → Bool) (call : BlockTask)
+    → (dueAnswer plan done call ≡ accepted
+    → ready (blockRows plan) (blockColumns plan) done (call .task) (call .block) ≡ true)
+    × (ready (blockRows plan) (blockColumns plan) done (call .task) (call .block) ≡ true
+    → dueAnswer plan done call ≡ accepted)
+
+-- The area that the tally counts for a block is the number of words that its finish writes.
+abbrev pub AreasAgree : Type 0
+AreasAgree =
+    (plan : Plan) (k : ℕ)
+    → tallyArea (plan .rows) (plan .columns) (plan .side) (blockColumns plan) k ≡ blockArea plan k
 
 -- Start accepts every record that keeps the rules, with marks and strips that are long enough: demand 3 speaks of all of
 -- these.
 abbrev pub StartAccepts : Type 0
 StartAccepts =
     (plan : Plan) (marks strips : List ℕ) → keepsRules plan ≡ true → neededMarks plan ≤ length marks
-    → neededStrips plan ≤ length strips → startOutcome plan marks strips ≡ Accepted
+    → neededStrips plan ≤ length strips → startAnswer plan marks strips ≡ accepted
 
--- With a map or an output of fewer than h×w words every call of a list is refused by 7, and nothing changes.
+-- Where the record or a length refuses a call, it refuses every call of a list by the same number and place, and nothing changes.
+abbrev pub RefusedThroughout : Type 0
+RefusedThroughout =
+    (plan : Plan) (heights : List ℤ) (now : Buffers) (number place : ℕ)
+    → firstDue (lentRows plan heights now) ≡ refused number place → (calls : List BlockTask)
+    → (afterCalls plan heights calls now ≡ now)
+    × (answersOf plan heights calls now ≡ map (λ call. refused number place) calls)
+
+-- So after an accepted start, with a map or an output of fewer than h×w words, every call of a list is refused by 7 at place 0.
 abbrev pub ShortRefused : Type 0
 ShortRefused =
-    (plan : Plan) (heights : List ℤ) (lent : Buffers) → startOutcome plan (lent .marks) (lent .strips) ≡ Accepted
+    (plan : Plan) (heights : List ℤ) (lent : Buffers) → startAnswer plan (lent .marks) (lent .strips) ≡ accepted
     → (length heights < neededPixels plan) ⊎ (length (lent .output) < neededPixels plan) → (calls : List BlockTask)
     → (afterCalls plan heights calls (started plan lent) ≡ started plan lent)
-    × (map outcomeNumber (outcomesOf plan heights calls (started plan lent)) ≡ map (λ call. 7) calls)
+    × (answersOf plan heights calls (started plan lent) ≡ map (λ call. refused 7 0) calls)

@@ -1,4 +1,3 @@
 pub mod Starting
 pub mod Tasking
 pub mod Running
-pub mod Demand

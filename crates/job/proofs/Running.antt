@@ -8,22 +8,37 @@ use lib.IntN.{ℤ}
 use lib.ListN.{getD}
 use Rattle.refusal.specs.declared.Outcome.{Outcome}
 use Rattle.refusal.specs.declared.Outcome.the-variants.{Accepted, Refused}
-use Rattle.refusal.specs.Refusals.{ifAccepted}
+use Rattle.refusal.specs.Table.{answerOf, ifAccepted}
 use Rattle.plan.specs.declared.Plan.{Plan}
+use Rattle.tasks.specs.Tasks.{BlockTask}
 use Rattle.calls.specs.Calls.{
   Buffers,
-  taskOutcome,
+  taskAnswer,
   afterTask,
   afterCalls,
-  outcomesOf,
+  answersOf,
   acceptedCount,
   callsFrom,
 }
+use Rattle.calls.proofs.Demand.{demand3}
+use Rattle.job.specs.Demand.{Ran}
 
 -- A call adds at most one accepted call.
-pub one-most : (outcome : Outcome) → ifAccepted outcome 1 0 ≤ 1
+pub one-most : (outcome : Outcome) → ifAccepted (answerOf outcome) 1 0 ≤ 1
 one-most Accepted = omega arith
 one-most (Refused refusal) = omega arith
+
+-- The lists that calls leave keep demand 3.
+ran-claimed : (plan : Plan) (heights : List ℤ) (calls : List BlockTask) (before after : Buffers) (accepted : ℕ)
+    → accepted ≡ acceptedCount (answersOf plan heights calls before) → after ≡ afterCalls plan heights calls before
+    → Ran plan heights calls before after accepted
+ran-claimed plan heights calls before after accepted counted left =
+    record {
+      counted = counted;
+      lists-after = left;
+      claimed = λ lent start-accepted begun map-long output-long.
+          rw (left, begun) (demand3 plan heights lent start-accepted map-long output-long calls);
+    }
 
 module _ (plan : Plan) (heights : List ℤ) (tasks blocks : List ℕ) (count : ℕ) (start : Buffers) where
   -- After i calls, of which `accepted` were accepted, the lists are `now`.
@@ -32,35 +47,35 @@ module _ (plan : Plan) (heights : List ℤ) (tasks blocks : List ℕ) (count : �
     pub few : accepted ≤ i
     pub left : afterCalls plan heights (callsFrom tasks blocks i (count - i)) now
         ≡ afterCalls plan heights (callsFrom tasks blocks 0 count) start
-    pub counted : accepted + acceptedCount (outcomesOf plan heights (callsFrom tasks blocks i (count - i)) now)
-        ≡ acceptedCount (outcomesOf plan heights (callsFrom tasks blocks 0 count) start)
+    pub counted : accepted + acceptedCount (answersOf plan heights (callsFrom tasks blocks i (count - i)) now)
+        ≡ acceptedCount (answersOf plan heights (callsFrom tasks blocks 0 count) start)
 
   pub running-start : Running 0 0 start
   running-start =
       let all : count - 0 ≡ count = omega arith in
       record { inside = omega arith; few = omega arith; left = rw all; counted = rw all (omega arith) }
 
-  pub running-next : (i accepted : ℕ) (now : Buffers) → Running i accepted now → i < count → (answer : Outcome)
-      → answer ≡ taskOutcome plan heights now (getD tasks i 0) (getD blocks i 0) → (one : ℕ)
-      → one ≡ ifAccepted answer 1 0 → (after : Buffers)
+  pub running-next : (i accepted : ℕ) (now : Buffers) → Running i accepted now → i < count → (outcome : Outcome)
+      → answerOf outcome ≡ taskAnswer plan heights now (getD tasks i 0) (getD blocks i 0) → (one : ℕ)
+      → one ≡ ifAccepted (answerOf outcome) 1 0 → (after : Buffers)
       → after ≡ afterTask plan heights (getD tasks i 0) (getD blocks i 0) now → Running (i + 1) (accepted + one) after
-  unfolding afterCalls outcomesOf acceptedCount callsFrom
-  running-next i accepted now run h answer p one q after r =
+  unfolding afterCalls answersOf acceptedCount callsFrom
+  running-next i accepted now run h outcome p one q after r =
       let more : count - i ≡ suc (count - (i + 1)) = omega arith in
       let next : suc i ≡ i + 1 = omega arith in
       record {
         inside = omega arith;
-        few = omega (arith, run .few, one-most answer);
+        few = omega (arith, run .few, one-most outcome);
         left = rw r (rw (more, next) at (run .left));
         counted = let whole = rw (more, next) at (run .counted) in rw (r, q, p) (omega (arith, whole));
       }
 
-  -- After all of them.
+  -- After all of them: demand 3 is a law of the lists that they leave.
   pub running-end : (i accepted : ℕ) (now : Buffers) → Running i accepted now → count ≤ i
-      → (accepted ≡ acceptedCount (outcomesOf plan heights (callsFrom tasks blocks 0 count) start))
-      × (now ≡ afterCalls plan heights (callsFrom tasks blocks 0 count) start)
-  unfolding afterCalls outcomesOf acceptedCount callsFrom
+      → Ran plan heights (callsFrom tasks blocks 0 count) start now accepted
+  unfolding afterCalls answersOf acceptedCount callsFrom
   running-end i accepted now run h =
       let none : count - i ≡ 0 = omega arith in
       let whole = rw none at (run .counted) in
-      (omega (arith, whole), rw none at (run .left))
+      ran-claimed plan heights (callsFrom tasks blocks 0 count) start now accepted (omega (arith, whole))
+      (rw none at (run .left))

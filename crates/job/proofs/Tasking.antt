@@ -1,102 +1,71 @@
 -- The ways out of the task call, and what an accepted call may rely on.
 -- Assumes nothing.
 use mathlib.Core.Path.{_≡_, refl, sym, _∙_}
-use mathlib.Core.Bool.{Bool, true, false, _||_, cond, true≢false}
 use mathlib.Core.List.{List}
-use Prim.Native.Nat.{ℕ, zero, suc, _+_, _-_, _^_, _≤_, _<_}
+use Prim.Native.Nat.{ℕ, zero, suc, _+_, _-_, _^_, _<_}
 use native.Mathlib.Omega.{arith}
 use lib.IntN.{ℤ}
-use lib.Dec.{ltb}
 use lib.ListN.{length, getD}
-use borrow.Author.Tests.{lt-ltb, ltb-false, ne-eqb}
+use borrow.Author.Tests.{lt-ltb, ne-eqb, not-false}
 use Rattle.refusal.specs.declared.Refusal.{Refusal}
-use Rattle.refusal.specs.declared.Refusal.the-variants.{RecordBreaksRule, BufferTooShort}
 use Rattle.refusal.specs.declared.Outcome.{Outcome}
 use Rattle.refusal.specs.declared.Outcome.the-variants.{Accepted, Refused}
+use Rattle.refusal.specs.Table.{accepted, firstDue, answerOf, firstOf}
+use Rattle.refusal.proofs.Table.{first-append, refused-before, accepted-before, not-due, first-accepted, second-accepted}
 use Rattle.plan.specs.declared.Plan.{Plan}
 use Rattle.plan.specs.declared.Sizes.{Sizes}
 use Rattle.plan.specs.declared.PlanSizes.{PlanSizes}
 use Rattle.plan.specs.declared.PlanSizes.the-variants.{Known, Refused as NoSizes}
 use Rattle.plan.specs.Rules.{keepsRules}
-use Rattle.plan.specs.Sizes.{blockRows, blockColumns, neededMarks, neededStrips, neededPixels, sizesOf, planSizes}
+use Rattle.plan.specs.Sizes.{blockRows, blockColumns, sizesOf, planSizes, sizesGiven, lengthRows}
+use Rattle.plan.proofs.Known.{sizes-known, sizes-refused}
+use Rattle.plan.proofs.Lengths.{long-enough}
 use Rattle.plan.proofs.Needed.{bounds}
 use Rattle.tasks.specs.Grid.{Lent}
 use Rattle.tasks.specs.Marks.{withBit}
-use Rattle.tasks.specs.Verdict.{verdict}
+use Rattle.tasks.specs.Verdict.{verdictRows}
 use Rattle.tasks.proofs.Verdicts.{accepted-settable}
 use Rattle.blocks.specs.Writes.{mapOf, collected, linked, finished}
-use Rattle.calls.specs.Calls.{Buffers, lists, tooShort, taskOutcome, stripsAfter, outputAfter, performed, afterTask}
+use Rattle.calls.specs.Calls.{Buffers, lists, lentRows, taskAnswer, stripsAfter, outputAfter, performed, afterTask}
 use Rattle.job.specs.Fits.{Fits}
-use Rattle.job.proofs.Starting.{sizes-known, sizes-refused}
-
--- ---- the test of the four lengths
-
--- A length is below the needed one.
-abbrev Below : (pixels marks strips mapLength marksLength stripsLength outputLength : ℕ) → Bool
-Below pixels marks strips mapLength marksLength stripsLength outputLength =
-    ltb mapLength pixels || (ltb marksLength marks || (ltb stripsLength strips || ltb outputLength pixels))
-
--- Where no length is below, all four are enough.
-pub record Enough (pixels marks strips mapLength marksLength stripsLength outputLength : ℕ) : Type 0 where
-  pub map-long : pixels ≤ mapLength
-  pub marks-long : marks ≤ marksLength
-  pub strips-long : strips ≤ stripsLength
-  pub output-long : pixels ≤ outputLength
-
-enough : (p m s map marks strips output : ℕ)
-    → Below p m s map marks strips output ≡ false → Enough p m s map marks strips output
-enough p m s map marks strips output =
-    by (ltb map p) (ltb marks m) (ltb strips s) (ltb output p) refl refl refl refl
-  where
-    by : (a b c d : Bool) → ltb map p ≡ a → ltb marks m ≡ b → ltb strips s ≡ c → ltb output p ≡ d
-        → (a || (b || (c || d))) ≡ false → Enough p m s map marks strips output
-    by false false false false e f g h z =
-        record {
-          map-long = ltb-false map p e;
-          marks-long = ltb-false marks m f;
-          strips-long = ltb-false strips s g;
-          output-long = ltb-false output p h;
-        }
-    by false false false true e f g h z = absurd (true≢false z)
-    by false false true d e f g h z = absurd (true≢false z)
-    by false true c d e f g h z = absurd (true≢false z)
-    by true b c d e f g h z = absurd (true≢false z)
 
 -- ---- the answer
 
 module _ (plan : Plan) (heights : List ℤ) (marks strips output : List ℕ) (t k : ℕ) where
-  module _ (known : PlanSizes) (is : known ≡ planSizes plan) where
+  module _ (known : PlanSizes) (is : sizesGiven known ≡ planSizes plan) where
     pub answer-broken : (refusal : Refusal) → known ≡ NoSizes refusal
-        → Refused refusal ≡ taskOutcome plan heights (lists marks strips output) t k
-    unfolding taskOutcome
-    answer-broken refusal e = let (broken, why) = sizes-refused plan known is refusal e in rw (broken, why)
+        → answerOf (Refused refusal) ≡ taskAnswer plan heights (lists marks strips output) t k
+    unfolding taskAnswer lentRows
+    answer-broken refusal e = let (broken, same) = sizes-refused plan known is refusal e in rw (same, broken)
 
-    module _ (sizes : Sizes) (e : known ≡ Known sizes) (short : Bool)
-        (test : short ≡ Below (sizes .pixels) (sizes .marks) (sizes .strips) (length heights) (length marks) (length strips)
-        (length output)) where
-      pub answer-short : short ≡ true → Refused BufferTooShort ≡ taskOutcome plan heights (lists marks strips output) t k
-      unfolding taskOutcome tooShort sizesOf
-      answer-short s =
-          let (rules, sizes-are) = sizes-known plan known is sizes e in
-          rw (rules, rw sizes-are at (sym test ∙ s))
+    module _ (sizes : Sizes) (e : known ≡ Known sizes) (tested : Outcome)
+        (lengths : answerOf tested
+        ≡ firstDue (lengthRows sizes (length marks) (length strips) (length heights) (length output))) where
+      -- Of a record that keeps the rules the lengths decide.
+      lengths-lent : answerOf tested ≡ firstDue (lentRows plan heights (lists marks strips output))
+      unfolding lentRows
+      lengths-lent = let (rules, are) = sizes-known plan known is sizes e in rw rules (rw are at lengths)
 
-      pub answer-marks : short ≡ false → (answer : Outcome)
-          → answer ≡ verdict (sizes .«block_rows») (sizes .«block_columns») marks t k
-          → answer ≡ taskOutcome plan heights (lists marks strips output) t k
-      unfolding taskOutcome tooShort sizesOf
-      answer-marks s answer v =
-          let (rules, sizes-are) = sizes-known plan known is sizes e in
-          rw (rules, rw sizes-are at (sym test ∙ s)) (rw sizes-are at v)
+      pub answer-short : (refusal : Refusal) → tested ≡ Refused refusal
+          → answerOf (Refused refusal) ≡ taskAnswer plan heights (lists marks strips output) t k
+      unfolding taskAnswer
+      answer-short refusal f = refused-before (lentRows plan heights (lists marks strips output)) _ (rw f at lengths-lent)
 
-      pub marks-lent : short ≡ false → Lent (sizes .«block_rows») (sizes .«block_columns») (length marks)
+      pub answer-marks : tested ≡ Accepted → (outcome : Outcome)
+          → answerOf outcome ≡ firstDue (verdictRows (sizes .«block_rows») (sizes .«block_columns») marks t k)
+          → answerOf outcome ≡ taskAnswer plan heights (lists marks strips output) t k
+      unfolding taskAnswer sizesOf
+      answer-marks f outcome v =
+          let are = sizes-known plan known is sizes e .1 in
+          rw (accepted-before (lentRows plan heights (lists marks strips output)) _ (rw f at lengths-lent)) (rw are at v)
+
+      pub marks-lent : tested ≡ Accepted → Lent (sizes .«block_rows») (sizes .«block_columns») (length marks)
       unfolding sizesOf
-      marks-lent s =
-          let (rules, sizes-are) = sizes-known plan known is sizes e in
+      marks-lent f =
+          let (rules, are) = sizes-known plan known is sizes e in
           let known-bounds = bounds plan rules in
-          let long =
-          enough (neededPixels plan) (neededMarks plan) (neededStrips plan) (length heights) (length marks)
-          (length strips) (length output) (rw sizes-are at (sym test ∙ s)) in
-          rw sizes-are
+          let long = long-enough sizes (length marks) (length strips) (length heights) (length output) (sym (rw f at lengths)) in
+          rw are
           (record {
             grid =
                 record {
@@ -104,7 +73,7 @@ module _ (plan : Plan) (heights : List ℤ) (marks strips output : List ℕ) (t 
                   columns-low = known-bounds .block-columns-low;
                   columns-high = known-bounds .block-columns-high;
                 };
-            enough = long .marks-long;
+            enough = rw are at (long .marks-long);
           })
 
 -- ---- an accepted call
@@ -116,40 +85,32 @@ pub record Performable (plan : Plan) (heights : List ℤ) (marks strips output :
   pub room : getD marks k 0 + 2 ^ t < 2 ^ 32
 
 pub performable : (plan : Plan) (heights : List ℤ) (marks strips output : List ℕ) (t k : ℕ)
-    → taskOutcome plan heights (lists marks strips output) t k ≡ Accepted
-    → Performable plan heights marks strips output t k
-unfolding taskOutcome tooShort
-performable plan heights marks strips output t k = by (keepsRules plan) refl _ refl
-  where
-    by : (kept : Bool) → keepsRules plan ≡ kept → (short : Bool)
-        → Below (neededPixels plan) (neededMarks plan) (neededStrips plan) (length heights) (length marks) (length strips)
-        (length output)
-        ≡ short
-        → cond kept
-        (cond short (Refused BufferTooShort) (verdict (blockRows plan) (blockColumns plan) marks t k))
-        (Refused RecordBreaksRule)
-        ≡ Accepted
-        → Performable plan heights marks strips output t k
-    by false r short s e = let z : _≡_ {A = ℕ} 0 1 = cc in absurd (omega arith)
-    by true r true s e = let z : _≡_ {A = ℕ} 0 1 = cc in absurd (omega arith)
-    by true r false s e =
-        let settable = accepted-settable (blockRows plan) (blockColumns plan) marks t k e in
-        let long =
-        enough (neededPixels plan) (neededMarks plan) (neededStrips plan) (length heights) (length marks) (length strips)
-        (length output) s in
-        record {
-          fits =
-              record {
-                rules = r;
-                task-below = settable .task;
-                block-below = settable .block;
-                map-long = long .map-long;
-                strips-long = long .strips-long;
-                output-long = long .output-long;
-              };
-          mark-there = omega (arith, settable .block, long .marks-long);
-          room = settable .room;
-        }
+    → taskAnswer plan heights (lists marks strips output) t k ≡ accepted → Performable plan heights marks strips output t k
+unfolding taskAnswer lentRows sizesOf
+performable plan heights marks strips output t k e =
+    let kept = not-due _ _ _ _ e in
+    let lengths = lengthRows (sizesOf plan) (length marks) (length strips) (length heights) (length output) in
+    let verdict = verdictRows (blockRows plan) (blockColumns plan) marks t k in
+    let both : firstOf (firstDue lengths) (firstDue verdict) ≡ accepted = sym (first-append lengths verdict) ∙ kept .others in
+    let long =
+    long-enough (sizesOf plan) (length marks) (length strips) (length heights) (length output)
+    (first-accepted (firstDue lengths) (firstDue verdict) both) in
+    let settable =
+    accepted-settable (blockRows plan) (blockColumns plan) marks t k
+    (second-accepted (firstDue lengths) (firstDue verdict) both) in
+    record {
+      fits =
+          record {
+            rules = not-false (keepsRules plan) (kept .first);
+            task-below = settable .task;
+            block-below = settable .block;
+            map-long = long .map-long;
+            strips-long = long .strips-long;
+            output-long = long .output-long;
+          };
+      mark-there = omega (arith, settable .block, long .marks-long);
+      room = settable .room;
+    }
 
 -- ---- what a task writes
 
@@ -184,14 +145,14 @@ pub performed-lists : (plan : Plan) (heights : List ℤ) (t k : ℕ) (marks stri
 unfolding performed
 performed-lists plan heights t k marks strips output m s o a b c = rw (a, b, c)
 
-module _ (plan : Plan) (heights : List ℤ) (before : Buffers) (t k : ℕ) (answer : Outcome)
-    (is : answer ≡ taskOutcome plan heights before t k) where
-  pub task-accepted : answer ≡ Accepted → (after : Buffers) → after ≡ performed plan heights t k before
-      → (Accepted ≡ taskOutcome plan heights before t k) × (after ≡ afterTask plan heights t k before)
+module _ (plan : Plan) (heights : List ℤ) (before : Buffers) (t k : ℕ) (outcome : Outcome)
+    (is : answerOf outcome ≡ taskAnswer plan heights before t k) where
+  pub task-accepted : outcome ≡ Accepted → (after : Buffers) → after ≡ performed plan heights t k before
+      → (accepted ≡ taskAnswer plan heights before t k) × (after ≡ afterTask plan heights t k before)
   unfolding afterTask
-  task-accepted e after p = let accepted = sym e ∙ is in (accepted, rw (← accepted) p)
+  task-accepted e after p = let accepts = rw e at is in (accepts, rw (← accepts) p)
 
-  pub task-refused : (refusal : Refusal) → answer ≡ Refused refusal
-      → (Refused refusal ≡ taskOutcome plan heights before t k) × (before ≡ afterTask plan heights t k before)
+  pub task-refused : (refusal : Refusal) → outcome ≡ Refused refusal
+      → (answerOf (Refused refusal) ≡ taskAnswer plan heights before t k) × (before ≡ afterTask plan heights t k before)
   unfolding afterTask
-  task-refused refusal e = let refused = sym e ∙ is in (refused, rw (← refused))
+  task-refused refusal e = let refuses = rw e at is in (refuses, rw (← refuses))

@@ -1,38 +1,23 @@
--- Demand 3 of the code: what the contracts of `start` and `run_calls` say of the buffers that they leave makes the claim true of
--- those buffers.
+-- What `run_calls` promises: the answers and the lists after the calls, and demand 3 of them.
 use mathlib.Core.Path.{_≡_}
 use mathlib.Core.List.{List}
 use Prim.Native.Nat.{ℕ, _≤_}
 use lib.IntN.{ℤ}
 use lib.ListN.{length}
-use Rattle.refusal.specs.declared.Outcome.the-variants.{Accepted}
+use Rattle.refusal.specs.Table.{accepted}
 use Rattle.plan.specs.declared.Plan.{Plan}
 use Rattle.plan.specs.Sizes.{neededPixels}
-use Rattle.calls.specs.Calls.{
-  Buffers,
-  lists,
-  startOutcome,
-  marksAfterStart,
-  stripsAfterStart,
-  afterCalls,
-  outcomesOf,
-  acceptedCount,
-  callsOf,
-}
-use Rattle.calls.specs.Demand.{countAfter, Claim}
+use Rattle.tasks.specs.Tasks.{BlockTask}
+use Rattle.calls.specs.Calls.{Buffers, startAnswer, started, afterCalls, answersOf, acceptedCount}
+use Rattle.calls.specs.Demand.{Claim}
 
--- After an accepted `start` on lent marks and strips, and `run_calls` with any lists of task and block numbers on what start
--- left, any output and a map, both long enough: the claim holds, and the answer is how many tasks are done.
-abbrev pub CodeKeepsDemand3 : Type 0
-CodeKeepsDemand3 =
-    (plan : Plan) (heights : List ℤ) (tasks blocks marks strips output : List ℕ)
-    → startOutcome plan marks strips ≡ Accepted → neededPixels plan ≤ length heights → neededPixels plan ≤ length output
-    → (marksLeft stripsLeft : List ℕ) → marksLeft ≡ marksAfterStart plan marks strips
-    → stripsLeft ≡ stripsAfterStart plan marks strips
-    → (answer : ℕ) (after : Buffers)
-    → answer
-    ≡ acceptedCount (outcomesOf plan heights (callsOf tasks blocks) (lists marksLeft stripsLeft output))
-    → after ≡ afterCalls plan heights (callsOf tasks blocks) (lists marksLeft stripsLeft output)
-    → Claim plan heights (lists marks strips output) (callsOf tasks blocks) after
-    (outcomesOf plan heights (callsOf tasks blocks) (lists marksLeft stripsLeft output))
-    × (answer ≡ countAfter plan (callsOf tasks blocks))
+-- Calls on a map and lists `before`: how many were accepted, and the lists `after` them.
+pub record Ran (plan : Plan) (heights : List ℤ) (calls : List BlockTask) (before after : Buffers) (count : ℕ) : Type 0 where
+  -- The count is that of the accepted calls, and the lists are those that the calls leave, one after another.
+  pub counted : count ≡ acceptedCount (answersOf plan heights calls before)
+  pub lists-after : after ≡ afterCalls plan heights calls before
+  -- Demand 3: where the lists are as an accepted start leaves lent ones, with a map and an output of h×w words, the claim holds of
+  -- the calls, the lists after them and their answers.
+  pub claimed : (lent : Buffers) → startAnswer plan (lent .marks) (lent .strips) ≡ accepted → before ≡ started plan lent
+      → neededPixels plan ≤ length heights → neededPixels plan ≤ length (lent .output)
+      → Claim plan heights lent calls after (answersOf plan heights calls before)

@@ -1,38 +1,31 @@
 // The calls of a job: the start, one task, and a list of tasks one after another.
 use plan::Plan;
 use plan::PlanSizes;
-use plan::Sizes;
 use refusal::Outcome;
-use refusal::Refusal;
 ghost use mathlib.Core.Path.{_≡_};
-ghost use mathlib.Core.Bool.{_||_};
 ghost use Prim.Native.Nat.{_≤_};
-ghost use lib.Dec.{ltb};
 ghost use lib.ListN.{length};
-ghost use Rattle.refusal.specs.declared.Outcome.the-variants.{Accepted};
-ghost use Rattle.refusal.specs.Refusals.{ifAccepted};
-ghost use Rattle.calls.specs.Calls.{lists, startOutcome, unmarked, cleared, marksAfterStart, stripsAfterStart};
-ghost use Rattle.calls.specs.Calls.{taskOutcome, stripsAfter, outputAfter, performed, afterTask};
-ghost use Rattle.calls.specs.Calls.{afterCalls, outcomesOf, acceptedCount, callsOf};
+ghost use Rattle.refusal.specs.Table.{accepted, answerOf, ifAccepted};
+ghost use Rattle.calls.specs.Calls.{lists, startAnswer, unmarked, cleared, marksAfterStart, stripsAfterStart};
+ghost use Rattle.calls.specs.Calls.{taskAnswer, stripsAfter, outputAfter, performed, afterTask, callsOf};
 ghost use Rattle.job.specs.Fits.{Fits};
+ghost use Rattle.job.specs.Demand.{Ran};
 
 // The mark of a block with no task done: kind 7 in the top four bits.
 const UNMARKED: u32 = 0x7000_0000;
 
 // Starts a job: no task is marked, and all needed strip words are 0.
 pub fn start(plan: Plan, marks: &mut [u32], strips: &mut [u64]) -> Outcome
-    ensures answer { λ r. ⌜ r ≡ startOutcome plan (now (marks .entry)) (now (strips .entry)) ⌝ }
+    ensures answer { λ r. ⌜ answerOf r ≡ startAnswer plan (now (marks .entry)) (now (strips .entry)) ⌝ }
     ensures marked { λ _. ⌜ now (marks .exit) ≡ marksAfterStart plan (now (marks .entry)) (now (strips .entry)) ⌝ }
     ensures stripped { λ _. ⌜ now (strips .exit) ≡ stripsAfterStart plan (now (marks .entry)) (now (strips .entry)) ⌝ }
 {
     let known = plan.sizes();
     match known {
         PlanSizes::Known(sizes) => {
-            if marks.len() < sizes.marks {
-                return Outcome::Refused(Refusal::BufferTooShort);
-            }
-            if strips.len() < sizes.strips {
-                return Outcome::Refused(Refusal::BufferTooShort);
+            let lengths = sizes.marks_and_strips(marks.len(), strips.len());
+            if let Outcome::Refused(refusal) = lengths {
+                return Outcome::Refused(refusal);
             }
             unmark(marks, sizes.marks);
             clear(strips, sizes.strips);
@@ -76,7 +69,7 @@ pub fn task(
     strips: &mut [u64],
     output: &mut [u64],
 ) -> Outcome
-    ensures answer { λ r. ⌜ r ≡ taskOutcome plan (now (map .entry)) (lists (now (marks .entry)) (now (strips .entry)) (now (output .entry))) task block ⌝ }
+    ensures answer { λ r. ⌜ answerOf r ≡ taskAnswer plan (now (map .entry)) (lists (now (marks .entry)) (now (strips .entry)) (now (output .entry))) task block ⌝ }
     ensures written { λ _. ⌜ lists (now (marks .exit)) (now (strips .exit)) (now (output .exit)) ≡ afterTask plan (now (map .entry)) task block (lists (now (marks .entry)) (now (strips .entry)) (now (output .entry))) ⌝ }
 {
     let outcome = task_outcome(plan, task, block, map, marks, strips, output);
@@ -99,34 +92,19 @@ fn task_outcome(
     strips: &[u64],
     output: &[u64],
 ) -> Outcome
-    ensures { λ r. ⌜ r ≡ taskOutcome plan (now (map .entry)) (lists (now (marks .entry)) (now (strips .entry)) (now (output .entry))) task block ⌝ }
+    ensures { λ r. ⌜ answerOf r ≡ taskAnswer plan (now (map .entry)) (lists (now (marks .entry)) (now (strips .entry)) (now (output .entry))) task block ⌝ }
 {
     let known = plan.sizes();
     match known {
         PlanSizes::Known(sizes) => {
-            if too_short(sizes, map.len(), marks.len(), strips.len(), output.len()) {
-                return Outcome::Refused(Refusal::BufferTooShort);
+            let lengths = sizes.all_lent(marks.len(), strips.len(), map.len(), output.len());
+            if let Outcome::Refused(refusal) = lengths {
+                return Outcome::Refused(refusal);
             }
             tasks::verdict(sizes.block_rows, sizes.block_columns, marks, task, block)
         }
         PlanSizes::Refused(refusal) => Outcome::Refused(refusal),
     }
-}
-
-// One of the four lengths is below the needed one.
-fn too_short(sizes: Sizes, map: usize, marks: usize, strips: usize, output: usize) -> bool
-    ensures { λ r. ⌜ r ≡ (ltb map (sizes .pixels) || (ltb marks (sizes .marks) || (ltb strips (sizes .strips) || ltb output (sizes .pixels)))) ⌝ }
-{
-    if map < sizes.pixels {
-        return true;
-    }
-    if marks < sizes.marks {
-        return true;
-    }
-    if strips < sizes.strips {
-        return true;
-    }
-    output < sizes.pixels
 }
 
 // Performs an accepted task.
@@ -139,7 +117,7 @@ fn perform(
     strips: &mut [u64],
     output: &mut [u64],
 )
-    requires { ⌜ taskOutcome plan (now map) (lists (now marks) (now strips) (now output)) task block ≡ Accepted ⌝ }
+    requires { ⌜ taskAnswer plan (now map) (lists (now marks) (now strips) (now output)) task block ≡ accepted ⌝ }
     ensures { λ _. ⌜ lists (now (marks .exit)) (now (strips .exit)) (now (output .exit)) ≡ performed plan (now (map .entry)) task block (lists (now (marks .entry)) (now (strips .entry)) (now (output .entry))) ⌝ }
 {
     tasks::set_bit(marks, task, block);
@@ -167,7 +145,7 @@ fn write_block(
 }
 
 // Calls of tasks, one after another: call number i is of task tasks[i] at block blocks[i], as many as the shorter list has. The
-// answer is how many were accepted.
+// answer is how many were accepted. Demand 3 is part of its contract.
 pub fn run_calls(
     plan: Plan,
     tasks: &[usize],
@@ -177,8 +155,7 @@ pub fn run_calls(
     strips: &mut [u64],
     output: &mut [u64],
 ) -> usize
-    ensures answer { λ r. ⌜ r ≡ acceptedCount (outcomesOf plan (now (map .entry)) (callsOf (now (tasks .entry)) (now (blocks .entry))) (lists (now (marks .entry)) (now (strips .entry)) (now (output .entry)))) ⌝ }
-    ensures written { λ _. ⌜ lists (now (marks .exit)) (now (strips .exit)) (now (output .exit)) ≡ afterCalls plan (now (map .entry)) (callsOf (now (tasks .entry)) (now (blocks .entry))) (lists (now (marks .entry)) (now (strips .entry)) (now (output .entry))) ⌝ }
+    ensures { λ r. ⌜ Ran plan (now (map .entry)) (callsOf (now (tasks .entry)) (now (blocks .entry))) (lists (now (marks .entry)) (now (strips .entry)) (now (output .entry))) (lists (now (marks .exit)) (now (strips .exit)) (now (output .exit))) r ⌝ }
 {
     let count = tasks::smaller(tasks.len(), blocks.len());
     let mut accepted = 0;
@@ -194,7 +171,7 @@ pub fn run_calls(
 }
 
 fn one_if_accepted(outcome: Outcome) -> usize
-    ensures { λ r. ⌜ r ≡ ifAccepted outcome 1 0 ⌝ }
+    ensures { λ r. ⌜ r ≡ ifAccepted (answerOf outcome) 1 0 ⌝ }
 {
     match outcome {
         Outcome::Accepted => 1,

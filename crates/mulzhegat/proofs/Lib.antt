@@ -1,3 +1,2 @@
 pub mod Places
-pub mod Answers
 pub mod Progress

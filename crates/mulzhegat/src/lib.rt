@@ -12,26 +12,25 @@ use report::ReportAnswer;
 ghost use mathlib.Core.Path.{_≡_};
 ghost use Prim.Native.Nat.{_<_};
 ghost use lib.ListN.{length};
-ghost use Rattle.refusal.specs.Refusals.{placeOf, outcomePlace};
-ghost use Rattle.plan.specs.declared.PlanSizes.the-variants.{Known};
+ghost use Rattle.refusal.specs.Refusals.{numberOf, placeOf};
+ghost use Rattle.refusal.specs.Table.{refused, answerOf, placeIn};
 ghost use Rattle.plan.specs.Sizes.{planSizes};
 ghost use Rattle.plan_reader.specs.Reading.{readPlan};
-ghost use Rattle.plan_writer.specs.Writing.{writeAnswer, writtenWords};
+ghost use Rattle.plan_writer.specs.Writing.{writePlan, writtenWords};
 ghost use Rattle.plan_record.specs.Records.{planOfRecord, recordOfPlan};
-ghost use Rattle.serial.specs.Serial.{serialOutcome, serialOutput};
-ghost use Rattle.rectangle.specs.Rectangle.{rectangleAnswer};
-ghost use Rattle.calls.specs.Calls.{lists, startOutcome, marksAfterStart, stripsAfterStart, taskOutcome, afterTask};
-ghost use Rattle.report.specs.declared.ReportAnswer.the-variants.{Made};
+ghost use Rattle.serial.specs.Serial.{serialAnswer, serialOutput};
+ghost use Rattle.rectangle.specs.Rectangle.{rectangleCall};
+ghost use Rattle.calls.specs.Calls.{lists, startAnswer, marksAfterStart, stripsAfterStart, taskAnswer, afterTask};
+ghost use Rattle.report.specs.Values.{valuesOf};
 ghost use Rattle.report.specs.Report.{report};
-ghost use Rattle.mulzhegat.specs.Codes.{refusalCode, outcomeCode, writtenCode, sizesCode, sizesRecord, rectangleCode, rectangleWord};
-ghost use Rattle.mulzhegat.specs.Codes.{reportCode, progressRecord};
+ghost use Rattle.mulzhegat.specs.Codes.{codeOf, sizesRecord, progressRecord};
 
 // ---- plans
 
 // Reads a plan from its words; the record is all zeros beside a refusal.
 #[no_mangle]
 pub extern "C" fn mzg_plan_read(words: &[u32], plan: &mut [i64; plan_record::RECORD_LENGTH]) -> u64
-    ensures { λ r. ⌜ (r ≡ outcomeCode (readPlan (now (words .entry)) .outcome)) × (now (plan .exit) ≡ recordOfPlan (readPlan (now (words .entry)) .plan)) ⌝ }
+    ensures { λ r. ⌜ (r ≡ codeOf (readPlan (now (words .entry)) .answer)) × (now (plan .exit) ≡ recordOfPlan (readPlan (now (words .entry)) .value)) ⌝ }
 {
     let read = plan_reader::read_plan(words);
     let taken = read.plan;
@@ -43,7 +42,7 @@ pub extern "C" fn mzg_plan_read(words: &[u32], plan: &mut [i64; plan_record::REC
 // Writes the words of a plan.
 #[no_mangle]
 pub extern "C" fn mzg_plan_write(plan: &[i64; plan_record::RECORD_LENGTH], words: &mut [u32]) -> u64
-    ensures { λ r. ⌜ (r ≡ writtenCode (writeAnswer (planOfRecord (now (plan .entry))) (length (now (words .entry))))) × (now (words .exit) ≡ writtenWords (planOfRecord (now (plan .entry))) (now (words .entry))) ⌝ }
+    ensures { λ r. ⌜ (r ≡ codeOf (writePlan (planOfRecord (now (plan .entry))) (length (now (words .entry))) .answer)) × (now (words .exit) ≡ writtenWords (planOfRecord (now (plan .entry))) (now (words .entry))) ⌝ }
 {
     let answer = plan_writer::write_plan(plan_record::plan_of_record(plan), words);
     match answer {
@@ -58,7 +57,7 @@ pub extern "C" fn mzg_plan_sizes(
     plan: &[i64; plan_record::RECORD_LENGTH],
     sizes: &mut [u64; 7],
 ) -> u64
-    ensures { λ r. ⌜ (r ≡ sizesCode (planSizes (planOfRecord (now (plan .entry))))) × (now (sizes .exit) ≡ sizesRecord (planSizes (planOfRecord (now (plan .entry))))) ⌝ }
+    ensures { λ r. ⌜ (r ≡ codeOf (planSizes (planOfRecord (now (plan .entry))) .answer)) × (now (sizes .exit) ≡ sizesRecord (planSizes (planOfRecord (now (plan .entry))) .value)) ⌝ }
 {
     let answer = plan_record::plan_of_record(plan).sizes();
     match answer {
@@ -82,7 +81,7 @@ pub extern "C" fn mzg_start(
     marks: &mut [u32],
     strips: &mut [u64],
 ) -> u64
-    ensures answer { λ r. ⌜ r ≡ outcomeCode (startOutcome (planOfRecord (now (plan .entry))) (now (marks .entry)) (now (strips .entry))) ⌝ }
+    ensures answer { λ r. ⌜ r ≡ codeOf (startAnswer (planOfRecord (now (plan .entry))) (now (marks .entry)) (now (strips .entry))) ⌝ }
     ensures marked { λ _. ⌜ now (marks .exit) ≡ marksAfterStart (planOfRecord (now (plan .entry))) (now (marks .entry)) (now (strips .entry)) ⌝ }
     ensures stripped { λ _. ⌜ now (strips .exit) ≡ stripsAfterStart (planOfRecord (now (plan .entry))) (now (marks .entry)) (now (strips .entry)) ⌝ }
 {
@@ -101,7 +100,7 @@ pub extern "C" fn mzg_task(
     strips: &mut [u64],
     output: &mut [u64],
 ) -> u64
-    ensures answer { λ r. ⌜ r ≡ outcomeCode (taskOutcome (planOfRecord (now (plan .entry))) (now (map .entry)) (lists (now (marks .entry)) (now (strips .entry)) (now (output .entry))) task block) ⌝ }
+    ensures answer { λ r. ⌜ r ≡ codeOf (taskAnswer (planOfRecord (now (plan .entry))) (now (map .entry)) (lists (now (marks .entry)) (now (strips .entry)) (now (output .entry))) task block) ⌝ }
     ensures written { λ _. ⌜ lists (now (marks .exit)) (now (strips .exit)) (now (output .exit)) ≡ afterTask (planOfRecord (now (plan .entry))) (now (map .entry)) task block (lists (now (marks .entry)) (now (strips .entry)) (now (output .entry))) ⌝ }
 {
     let taken = plan_record::plan_of_record(plan);
@@ -116,8 +115,8 @@ pub extern "C" fn mzg_report(
     marks: &[u32],
     progress: &mut [u64; 5],
 ) -> u64
-    ensures answer { λ r. ⌜ r ≡ reportCode (report (planOfRecord (now (plan .entry))) (now (marks .entry))) ⌝ }
-    ensures values { λ _. ⌜ now (progress .exit) ≡ progressRecord (report (planOfRecord (now (plan .entry))) (now (marks .entry))) ⌝ }
+    ensures answer { λ r. ⌜ r ≡ codeOf (report (planOfRecord (now (plan .entry))) (now (marks .entry)) .answer) ⌝ }
+    ensures values { λ _. ⌜ now (progress .exit) ≡ progressRecord (report (planOfRecord (now (plan .entry))) (now (marks .entry)) .value) ⌝ }
 {
     let answer = report::report(plan_record::plan_of_record(plan), marks);
     match answer {
@@ -141,7 +140,7 @@ pub extern "C" fn mzg_serial(
     map: &[i32],
     output: &mut [u64],
 ) -> u64
-    ensures { λ r. ⌜ (r ≡ outcomeCode (serialOutcome (planOfRecord (now (plan .entry))) (length (now (map .entry))) (length (now (output .entry))))) × (now (output .exit) ≡ serialOutput (planOfRecord (now (plan .entry))) (now (map .entry)) (now (output .entry))) ⌝ }
+    ensures { λ r. ⌜ (r ≡ codeOf (serialAnswer (planOfRecord (now (plan .entry))) (length (now (map .entry))) (length (now (output .entry))))) × (now (output .exit) ≡ serialOutput (planOfRecord (now (plan .entry))) (now (map .entry)) (now (output .entry))) ⌝ }
 {
     let outcome = serial::serial_passes(plan_record::plan_of_record(plan), map, output);
     outcome_code(outcome)
@@ -158,7 +157,7 @@ pub extern "C" fn mzg_rectangle(
     table: &[u64],
     sum: &mut u64,
 ) -> u64
-    ensures { λ r. ⌜ (r ≡ rectangleCode (rectangleAnswer (planOfRecord (now (plan .entry))) (now (table .entry)) top left bottom right)) × (now (sum .exit) ≡ rectangleWord (rectangleAnswer (planOfRecord (now (plan .entry))) (now (table .entry)) top left bottom right)) ⌝ }
+    ensures { λ r. ⌜ (r ≡ codeOf (rectangleCall (planOfRecord (now (plan .entry))) (now (table .entry)) top left bottom right .answer)) × (now (sum .exit) ≡ rectangleCall (planOfRecord (now (plan .entry))) (now (table .entry)) top left bottom right .value) ⌝ }
 {
     let taken = plan_record::plan_of_record(plan);
     let answer = rectangle::rectangle_sum(taken, top, left, bottom, right, table);
@@ -177,8 +176,8 @@ pub extern "C" fn mzg_rectangle(
 // ---- answers
 
 fn outcome_code(outcome: Outcome) -> u64
-    requires { ⌜ outcomePlace outcome < 4294967296 ⌝ }
-    ensures { λ r. ⌜ r ≡ outcomeCode outcome ⌝ }
+    requires { ⌜ placeIn (answerOf outcome) < 4294967296 ⌝ }
+    ensures { λ r. ⌜ r ≡ codeOf (answerOf outcome) ⌝ }
 {
     match outcome {
         Outcome::Accepted => 0,
@@ -188,13 +187,13 @@ fn outcome_code(outcome: Outcome) -> u64
 
 fn refusal_code(refusal: Refusal) -> u64
     requires { ⌜ placeOf refusal < 4294967296 ⌝ }
-    ensures { λ r. ⌜ r ≡ refusalCode refusal ⌝ }
+    ensures { λ r. ⌜ r ≡ codeOf (refused (numberOf refusal) (placeOf refusal)) ⌝ }
 {
     (refusal.number() as u64) * 4294967296 + (refusal.place() as u64)
 }
 
 fn sizes_record(known: Sizes) -> [u64; 7]
-    ensures { λ r. ⌜ r ≡ sizesRecord (Known known) ⌝ }
+    ensures { λ r. ⌜ r ≡ sizesRecord known ⌝ }
 {
     [
         known.words as u64,
@@ -208,7 +207,7 @@ fn sizes_record(known: Sizes) -> [u64; 7]
 }
 
 fn progress_record(made: Progress) -> [u64; 5]
-    ensures { λ r. ⌜ r ≡ progressRecord (Made made) ⌝ }
+    ensures { λ r. ⌜ r ≡ progressRecord (valuesOf made) ⌝ }
 {
     let next = made.next;
     match next {

@@ -1,33 +1,49 @@
--- What the answer of `sizes` tells of the record. Assumes nothing.
-use mathlib.Core.Path.{_≡_, refl}
-use mathlib.Core.Bool.{Bool, true, false}
-use mathlib.Core.Logic.{_⊎_, inl, inr, ⊎-elim}
+-- What the answer of `sizes` tells of the record, and of every table whose first row is that of the record. Assumes nothing.
+use mathlib.Core.Path.{_≡_, refl, ap, sym}
+use mathlib.Core.Bool.{Bool, true, false, not}
+use mathlib.Core.List.{List, [], _∷_}
 use Rattle.refusal.specs.declared.Refusal.{Refusal}
-use Rattle.refusal.specs.declared.Refusal.the-variants.{RecordBreaksRule}
+use Rattle.refusal.specs.Refusals.{numberOf, placeOf}
+use Rattle.refusal.specs.Table.{accepted, refused, Row, _at_when_, firstDue, Given, given}
+use Rattle.refusal.proofs.Table.{not-accepted}
 use Rattle.plan.specs.declared.Plan.{Plan}
 use Rattle.plan.specs.declared.Sizes.{Sizes}
+use Rattle.plan.specs.declared.PlanSizes.{PlanSizes}
 use Rattle.plan.specs.declared.PlanSizes.the-variants.{Known, Refused}
 use Rattle.plan.specs.Rules.{keepsRules}
-use Rattle.plan.specs.Sizes.{sizesOf, planSizes}
+use Rattle.plan.specs.Sizes.{sizesOf, zeroSizes, planSizes, sizesGiven}
 
-pub true-or-false : (b : Bool) → (b ≡ true) ⊎ (b ≡ false)
-true-or-false true = inl refl
-true-or-false false = inr refl
+-- What is given of a record that keeps the rules or breaks one.
+givenBy : Bool → Sizes → Given Sizes
+givenBy kept sizes = given (firstDue (6 at 0 when not kept ∷ [])) sizes zeroSizes
 
-module _ (plan : Plan) (refusal : Refusal) (e : planSizes plan ≡ Refused refusal) where
-  pub refused-broken : keepsRules plan ≡ false
-  unfolding planSizes
-  refused-broken = ⊎-elim (λ t. let g = rw t at e in cc) (λ f. f) (true-or-false (keepsRules plan))
+module _ (plan : Plan) (answer : PlanSizes) (is : sizesGiven answer ≡ planSizes plan) where
+  by-rules : sizesGiven answer ≡ givenBy (keepsRules plan) (sizesOf plan)
+  unfolding planSizes givenBy
+  by-rules = is
 
-  pub refused-reason : refusal ≡ RecordBreaksRule
-  unfolding planSizes
-  refused-reason = let g = rw refused-broken at e in cc
+  -- A plan of which sizes are known keeps the rules, and they are its sizes.
+  pub sizes-known : (sizes : Sizes) → answer ≡ Known sizes → (keepsRules plan ≡ true) × (sizes ≡ sizesOf plan)
+  unfolding givenBy
+  sizes-known sizes e = by (keepsRules plan) refl (rw e at by-rules)
+    where
+      by : (kept : Bool) → keepsRules plan ≡ kept
+          → _≡_ {A = Given Sizes} (record { answer = accepted; value = sizes }) (givenBy kept (sizesOf plan))
+          → (keepsRules plan ≡ true) × (sizes ≡ sizesOf plan)
+      by true k g = (k, ap (λ (h : Given Sizes). h .value) g)
+      by false k g = absurd (not-accepted (sym (ap (λ (h : Given Sizes). h .answer) g)))
 
-module _ (plan : Plan) (sizes : Sizes) (e : planSizes plan ≡ Known sizes) where
-  pub known-kept : keepsRules plan ≡ true
-  unfolding planSizes
-  known-kept = ⊎-elim (λ t. t) (λ f. let g = rw f at e in cc) (true-or-false (keepsRules plan))
+  -- A plan of which they are refused breaks a rule, and is refused by 6.
+  pub sizes-refused : (refusal : Refusal) → answer ≡ Refused refusal
+      → (keepsRules plan ≡ false) × (refused (numberOf refusal) (placeOf refusal) ≡ refused 6 0)
+  unfolding givenBy
+  sizes-refused refusal e = by (keepsRules plan) (ap (λ (h : Given Sizes). h .answer) (rw e at by-rules))
+    where
+      by : (kept : Bool) → refused (numberOf refusal) (placeOf refusal) ≡ givenBy kept (sizesOf plan) .answer
+          → (kept ≡ false) × (refused (numberOf refusal) (placeOf refusal) ≡ refused 6 0)
+      by true g = absurd (not-accepted g)
+      by false g = (refl, g)
 
-  pub known-sizes : sizes ≡ sizesOf plan
-  unfolding planSizes
-  known-sizes = let g = rw known-kept at e in cc
+  pub record-refused : (refusal : Refusal) → answer ≡ Refused refusal → (rows : List Row)
+      → refused (numberOf refusal) (placeOf refusal) ≡ firstDue (6 at 0 when not (keepsRules plan) ∷ rows)
+  record-refused refusal e rows = let (broken, same) = sizes-refused refusal e in rw (same, broken)

@@ -5,3 +5,4 @@ pub mod Record
 pub mod Blocks
 pub mod Needed
 pub mod Known
+pub mod Lengths

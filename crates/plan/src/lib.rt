@@ -1,9 +1,13 @@
 // The plan record, its check, and what follows from its sizes: blocks, and the lengths of the buffers a job needs.
+use refusal::Outcome;
 use refusal::Refusal;
 ghost use mathlib.Core.Path.{_≡_};
 ghost use mathlib.Core.Bool.{true};
+ghost use mathlib.Core.List.{[], _∷_};
+ghost use lib.Dec.{ltb};
+ghost use Rattle.refusal.specs.Table.{_at_when_, firstDue, answerOf};
 ghost use Rattle.plan.specs.Rules.{inSigned28, isZero, coefficientKept, coefficientsKept, passKept, passesKept, within, keepsRules};
-ghost use Rattle.plan.specs.Sizes.{blockCount, blockExtent, blockRows, blockColumns, blockHeight, blockWidth, orderSum, sizesOf, planSizes};
+ghost use Rattle.plan.specs.Sizes.{blockCount, blockExtent, blockRows, blockColumns, blockHeight, blockWidth, orderSum, sizesOf, planSizes, sizesGiven, lengthRows};
 
 // The largest order of a pass: `orderLimit` of specs/Rules.antt is the same number.
 pub const ORDER_LIMIT: usize = 4;
@@ -86,7 +90,7 @@ impl Plan {
 
     // The sizes that follow from the record, or refusal 6.
     pub fn sizes(self) -> PlanSizes
-        ensures { λ r. ⌜ r ≡ planSizes self ⌝ }
+        ensures { λ r. ⌜ sizesGiven r ≡ planSizes self ⌝ }
     {
         if self.check() {
             return PlanSizes::Known(self.kept_sizes());
@@ -140,6 +144,35 @@ impl Plan {
             i += 1;
         }
         true
+    }
+}
+
+impl Sizes {
+    // The lengths of lent marks and strips, in this order.
+    pub fn marks_and_strips(self, marks: usize, strips: usize) -> Outcome
+        ensures { λ r. ⌜ answerOf r ≡ firstDue (7 at 0 when ltb marks (self .marks) ∷ 7 at 0 when ltb strips (self .strips) ∷ []) ⌝ }
+    {
+        let short_marks = refusal::too_short(marks, self.marks);
+        let short_strips = refusal::too_short(strips, self.strips);
+        short_marks.or_first(short_strips)
+    }
+
+    // The lengths of a lent map and output, in this order.
+    pub fn map_and_output(self, map: usize, output: usize) -> Outcome
+        ensures { λ r. ⌜ answerOf r ≡ firstDue (7 at 0 when ltb map (self .pixels) ∷ 7 at 0 when ltb output (self .pixels) ∷ []) ⌝ }
+    {
+        let short_map = refusal::too_short(map, self.pixels);
+        let short_output = refusal::too_short(output, self.pixels);
+        short_map.or_first(short_output)
+    }
+
+    // The lengths of all four.
+    pub fn all_lent(self, marks: usize, strips: usize, map: usize, output: usize) -> Outcome
+        ensures { λ r. ⌜ answerOf r ≡ firstDue (lengthRows self marks strips map output) ⌝ }
+    {
+        let job = self.marks_and_strips(marks, strips);
+        let pixels = self.map_and_output(map, output);
+        job.or_first(pixels)
     }
 }
 

@@ -2,18 +2,18 @@
 use mathlib.Core.Path.{_≡_}
 use mathlib.Core.List.{List}
 use Prim.Native.Nat.{ℕ}
-use Rattle.refusal.specs.declared.Refusal.{Refusal}
-use Rattle.refusal.specs.declared.Outcome.the-variants.{Accepted, Refused}
+use Rattle.refusal.specs.Table.{accepted, refused, firstDue}
 use Rattle.plan.specs.declared.Plan.{Plan}
-use Rattle.plan_reader.specs.Reading.{planOutcome, planFrom, zeroPlan, readPlan}
+use Rattle.plan_reader.specs.Reading.{planRows, planFrom, zeroPlan, readPlan}
 
 module _ (words : List ℕ) {plan : Plan} where
   pub read-accepted :
-      planOutcome words ≡ Accepted → plan ≡ planFrom words → record { outcome = Accepted; plan = plan } ≡ readPlan words
+      firstDue (planRows words) ≡ accepted → plan ≡ planFrom words → record { answer = accepted; value = plan } ≡ readPlan words
   unfolding readPlan
   read-accepted e f = rw (e, f)
 
   pub read-refused :
-      (refusal : Refusal) → planOutcome words ≡ Refused refusal → plan ≡ zeroPlan → record { outcome = Refused refusal; plan = plan } ≡ readPlan words
+      {number place : ℕ} → firstDue (planRows words) ≡ refused number place → plan ≡ zeroPlan
+      → record { answer = refused number place; value = plan } ≡ readPlan words
   unfolding readPlan
-  read-refused refusal e f = rw (e, f)
+  read-refused e f = rw (e, f)

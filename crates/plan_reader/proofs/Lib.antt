@@ -1,6 +1,6 @@
 pub mod Conjunction
 pub mod Signed
 pub mod Places
-pub mod Outcomes
+pub mod Rows
 pub mod Record
 pub mod Answers

@@ -1,21 +1,12 @@
--- Reading a plan: which word is due at which place, which refusal wins, and the record that the words hold.
+-- Reading a plan: which word is due at which place, the table of refusals, and the record that the words hold.
 -- Places count from 0. Size stands at 0, block at 1, and then pass, gain and coefficients of four passes, and the end.
-use mathlib.Core.Bool.{Bool, true, cond}
-use mathlib.Core.List.{List}
+use mathlib.Core.Bool.{Bool, true, not, cond}
+use mathlib.Core.List.{List, [], _∷_, _++_}
 use Prim.Native.Nat.{ℕ, zero, suc, _+_}
 use lib.IntN.{ℤ, pos}
 use lib.Dec.{ltb, leb, eqb}
 use lib.ListN.{length, replicate}
-use Rattle.refusal.specs.declared.Outcome.{Outcome}
-use Rattle.refusal.specs.declared.Outcome.the-variants.{Accepted, Refused}
-use Rattle.refusal.specs.declared.Refusal.the-variants.{
-  WordsEndEarly,
-  AnotherKindDue,
-  OutOfRange,
-  SideBelowOrder,
-  WordsAfterEnd,
-}
-use Rattle.refusal.specs.Refusals.{firstOf}
+use Rattle.refusal.specs.Table.{Row, _at_when_, firstDue, answerOf, Given, given}
 use Rattle.plan.specs.declared.Pass.{Pass}
 use Rattle.plan.specs.declared.Plan.{Plan}
 use Rattle.plan.specs.Rules.{orderLimit, allBelow}
@@ -55,52 +46,48 @@ passPlace words (suc i) = afterPass words (passPlace words i)
 
 -- A word of a kind is due at a place: 1 if the words end before it, 2 if another kind stands there, 3 if the payload is not
 -- allowed.
-unfoldable pub wordOutcome : List ℕ → ℕ → ℕ → Bool → Outcome
-wordOutcome words place kind allowed =
-    cond (leb (length words) place) (Refused (WordsEndEarly (length words)))
-    (cond (eqb (kindOf (wordAt words place)) kind) (cond allowed Accepted (Refused (OutOfRange place)))
-    (Refused (AnotherKindDue place)))
+unfoldable pub wordRows : List ℕ → (place kind : ℕ) → (allowed : Bool) → List Row
+wordRows words place kind allowed =
+    1 at length words when leb (length words) place
+    ∷ 2 at place when not (eqb (kindOf (wordAt words place)) kind)
+    ∷ 3 at place when not allowed
+    ∷ []
 
 -- The size word and the block word.
-unfoldable pub headOutcome : List ℕ → Outcome
-headOutcome words =
-    firstOf (wordOutcome words 0 1 (sizeAllowed (payloadAt words 0)))
-    (wordOutcome words 1 2 (sideAllowed (payloadAt words 1)))
+unfoldable pub headRows : List ℕ → List Row
+headRows words =
+    wordRows words 0 1 (sizeAllowed (payloadAt words 0)) ++ wordRows words 1 2 (sideAllowed (payloadAt words 1))
 
 -- The first `count` coefficient words, from a place on.
-unfoldable pub coefficientsOutcome : List ℕ → ℕ → ℕ → Outcome
-coefficientsOutcome words place zero = Accepted
-coefficientsOutcome words place (suc count) =
-    firstOf (coefficientsOutcome words place count) (wordOutcome words (place + count) 5 true)
+unfoldable pub coefficientRows : List ℕ → (place count : ℕ) → List Row
+coefficientRows words place zero = []
+coefficientRows words place (suc count) = coefficientRows words place count ++ wordRows words (place + count) 5 true
 
 -- Pass i, its pass word at a place: pass word, gain word, and as many coefficient words as the order says.
-unfoldable pub passOutcome : List ℕ → ℕ → ℕ → Outcome
-passOutcome words i place =
-    firstOf (wordOutcome words place 3 (passAllowed i (payloadAt words place)))
-    (firstOf (wordOutcome words (place + 1) 4 true) (coefficientsOutcome words (place + 2) (orderAt words place)))
+unfoldable pub passRows : List ℕ → (i place : ℕ) → List Row
+passRows words i place =
+    wordRows words place 3 (passAllowed i (payloadAt words place))
+    ++ (wordRows words (place + 1) 4 true ++ coefficientRows words (place + 2) (orderAt words place))
 
 -- The first `count` passes.
-unfoldable pub passesOutcome : List ℕ → ℕ → Outcome
-passesOutcome words zero = Accepted
-passesOutcome words (suc count) =
-    firstOf (passesOutcome words count) (passOutcome words count (passPlace words count))
+unfoldable pub passesRows : List ℕ → (count : ℕ) → List Row
+passesRows words zero = []
+passesRows words (suc count) = passesRows words count ++ passRows words count (passPlace words count)
 
 -- The end word stands at a place, and then: 5 if a word follows it.
-unfoldable pub endOutcome : List ℕ → ℕ → Outcome
-endOutcome words place =
-    firstOf (wordOutcome words place 6 (endAllowed (payloadAt words place)))
-    (cond (ltb (place + 1) (length words)) (Refused (WordsAfterEnd (place + 1))) Accepted)
+unfoldable pub endRows : List ℕ → (place : ℕ) → List Row
+endRows words place =
+    wordRows words place 6 (endAllowed (payloadAt words place))
+    ++ (5 at place + 1 when ltb (place + 1) (length words) ∷ [])
 
 -- 4 if the block side is below an order.
-unfoldable pub sideOutcome : List ℕ → Outcome
-sideOutcome words =
-    cond (allBelow (λ i. leb (orderAt words (passPlace words i)) (payloadAt words 1)) 4) Accepted (Refused SideBelowOrder)
+unfoldable pub sideRows : List ℕ → List Row
+sideRows words =
+    4 at 1 when not (allBelow (λ i. leb (orderAt words (passPlace words i)) (payloadAt words 1)) 4) ∷ []
 
--- All words from left to right, the first refusal; then 5, then 4.
-unfoldable pub planOutcome : List ℕ → Outcome
-planOutcome words =
-    firstOf (headOutcome words)
-    (firstOf (passesOutcome words 4) (firstOf (endOutcome words (passPlace words 4)) (sideOutcome words)))
+-- All words from left to right; then 5, then 4.
+unfoldable pub planRows : List ℕ → List Row
+planRows words = headRows words ++ (passesRows words 4 ++ (endRows words (passPlace words 4) ++ sideRows words))
 
 -- ---- the record
 
@@ -136,11 +123,10 @@ zeroPass = record { order = 0; gain = pos 0; coefficients = replicate orderLimit
 abbrev pub zeroPlan : Plan
 zeroPlan = record { rows = 0; columns = 0; side = 0; passes = replicate 4 zeroPass }
 
--- The record where the words are accepted, and a record of zeros beside a refusal.
-abbrev pub answerOf : Outcome → Plan → PlanRead
-answerOf Accepted plan = record { outcome = Accepted; plan = plan }
-answerOf (Refused refusal) plan = record { outcome = Refused refusal; plan = zeroPlan }
+-- The record that a list of plan words holds, or the first refusal and a record of zeros.
+unfoldable pub readPlan : List ℕ → Given Plan
+readPlan words = given (firstDue (planRows words)) (planFrom words) zeroPlan
 
--- The answer to a list of plan words.
-unfoldable pub readPlan : List ℕ → PlanRead
-readPlan words = answerOf (planOutcome words) (planFrom words)
+-- Document 01's number and place, and the record, that `read_plan` answers.
+abbrev pub readGiven : PlanRead → Given Plan
+readGiven read = record { answer = answerOf (read .outcome); value = read .plan }

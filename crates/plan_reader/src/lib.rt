@@ -5,10 +5,11 @@ use refusal::Outcome;
 use refusal::Refusal;
 ghost use mathlib.Core.Path.{_≡_};
 ghost use Prim.Native.Nat.{_+_, _<_, _≤_, _%_};
+ghost use Rattle.refusal.specs.Table.{firstDue, answerOf};
 ghost use Rattle.plan.specs.Rules.{orderLimit};
 ghost use Rattle.plan.specs.Lists.{wordAt, listOf};
 ghost use Rattle.plan_reader.specs.Layout.{sizeAllowed, passAllowed, signed28};
-ghost use Rattle.plan_reader.specs.Reading.{payloadAt, orderAt, passPlace, wordOutcome, headOutcome, coefficientsOutcome, passOutcome, passesOutcome, endOutcome, sideOutcome, planOutcome, coefficientIn, passFrom, planFrom, zeroPass, zeroPlan, readPlan};
+ghost use Rattle.plan_reader.specs.Reading.{payloadAt, orderAt, passPlace, wordRows, headRows, coefficientRows, passRows, passesRows, endRows, sideRows, planRows, coefficientIn, passFrom, planFrom, zeroPass, zeroPlan, readPlan, readGiven};
 
 // The plan that was read, or a plan of zeros beside a refusal.
 pub struct PlanRead {
@@ -18,7 +19,7 @@ pub struct PlanRead {
 
 // The plan that the words hold, or the first refusal.
 pub fn read_plan(words: &[u32]) -> PlanRead
-    ensures { λ r. ⌜ r ≡ readPlan (now (words .entry)) ⌝ }
+    ensures { λ r. ⌜ readGiven r ≡ readPlan (now (words .entry)) ⌝ }
 {
     let outcome = plan_outcome(words);
     match outcome {
@@ -107,7 +108,7 @@ fn decode_signed28(payload: u32) -> i64
 // ---- refusals
 
 fn word_outcome(words: &[u32], place: usize, kind: u32, allowed: bool) -> Outcome
-    ensures { λ r. ⌜ r ≡ wordOutcome (now (words .entry)) place kind allowed ⌝ }
+    ensures { λ r. ⌜ answerOf r ≡ firstDue (wordRows (now (words .entry)) place kind allowed) ⌝ }
 {
     let count = words.len();
     if count <= place {
@@ -123,7 +124,7 @@ fn word_outcome(words: &[u32], place: usize, kind: u32, allowed: bool) -> Outcom
 }
 
 fn head_outcome(words: &[u32]) -> Outcome
-    ensures { λ r. ⌜ r ≡ headOutcome (now (words .entry)) ⌝ }
+    ensures { λ r. ⌜ answerOf r ≡ firstDue (headRows (now (words .entry))) ⌝ }
 {
     let size = word_outcome(words, 0, 1, size_allowed(payload_at(words, 0)));
     let block = word_outcome(words, 1, 2, plan::within(payload_at(words, 1) as usize, 32));
@@ -132,7 +133,7 @@ fn head_outcome(words: &[u32]) -> Outcome
 
 fn coefficients_outcome(words: &[u32], place: usize, count: usize) -> Outcome
     requires { ⌜ place + count < 4294967296 ⌝ }
-    ensures { λ r. ⌜ r ≡ coefficientsOutcome (now (words .entry)) place count ⌝ }
+    ensures { λ r. ⌜ answerOf r ≡ firstDue (coefficientRows (now (words .entry)) place count) ⌝ }
 {
     let mut outcome = Outcome::Accepted;
     let mut j = 0;
@@ -146,7 +147,7 @@ fn coefficients_outcome(words: &[u32], place: usize, count: usize) -> Outcome
 
 fn pass_outcome(words: &[u32], i: usize, place: usize) -> Outcome
     requires { ⌜ place ≤ 1000 ⌝ }
-    ensures { λ r. ⌜ r ≡ passOutcome (now (words .entry)) i place ⌝ }
+    ensures { λ r. ⌜ answerOf r ≡ firstDue (passRows (now (words .entry)) i place) ⌝ }
 {
     let head = word_outcome(words, place, 3, pass_allowed(i, payload_at(words, place)));
     let gain = word_outcome(words, place + 1, 4, true);
@@ -155,7 +156,7 @@ fn pass_outcome(words: &[u32], i: usize, place: usize) -> Outcome
 }
 
 fn passes_outcome(words: &[u32]) -> Outcome
-    ensures { λ r. ⌜ r ≡ passesOutcome (now (words .entry)) 4 ⌝ }
+    ensures { λ r. ⌜ answerOf r ≡ firstDue (passesRows (now (words .entry)) 4) ⌝ }
 {
     let mut outcome = Outcome::Accepted;
     let mut i = 0;
@@ -169,7 +170,7 @@ fn passes_outcome(words: &[u32]) -> Outcome
 
 fn end_outcome(words: &[u32], place: usize) -> Outcome
     requires { ⌜ place ≤ 1000 ⌝ }
-    ensures { λ r. ⌜ r ≡ endOutcome (now (words .entry)) place ⌝ }
+    ensures { λ r. ⌜ answerOf r ≡ firstDue (endRows (now (words .entry)) place) ⌝ }
 {
     let end = word_outcome(words, place, 6, payload_at(words, place) == 0);
     if place + 1 < words.len() {
@@ -179,7 +180,7 @@ fn end_outcome(words: &[u32], place: usize) -> Outcome
 }
 
 fn side_outcome(words: &[u32]) -> Outcome
-    ensures { λ r. ⌜ r ≡ sideOutcome (now (words .entry)) ⌝ }
+    ensures { λ r. ⌜ answerOf r ≡ firstDue (sideRows (now (words .entry))) ⌝ }
 {
     let side = payload_at(words, 1) as usize;
     let mut i = 0;
@@ -193,7 +194,7 @@ fn side_outcome(words: &[u32]) -> Outcome
 }
 
 fn plan_outcome(words: &[u32]) -> Outcome
-    ensures { λ r. ⌜ r ≡ planOutcome (now (words .entry)) ⌝ }
+    ensures { λ r. ⌜ answerOf r ≡ firstDue (planRows (now (words .entry))) ⌝ }
 {
     let head = head_outcome(words);
     let passes = passes_outcome(words);

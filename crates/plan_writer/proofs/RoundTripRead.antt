@@ -11,8 +11,9 @@ use native.Mathlib.Numerals.{add-one}
 use lib.IntN.{pos}
 use lib.Dec.{ltb, leb, eqb}
 use lib.ListN.{length, drop, drop-of-length-le}
-use borrow.Author.Tests.{lt-ltb, le-ltb, ltb-false, le-leb, leb-true, eqb-true}
-use Rattle.refusal.specs.declared.Outcome.the-variants.{Accepted}
+use borrow.Author.Tests.{lt-ltb, le-ltb, ltb-false, le-leb, leb-true, eqb-true, not-false}
+use Rattle.refusal.specs.Table.{accepted, _at_when_, firstDue}
+use Rattle.refusal.proofs.Table.{rows-accepted, none-of}
 use Rattle.plan.specs.declared.Pass.{Pass}
 use Rattle.plan.specs.Rules.{
   orderLimit,
@@ -28,62 +29,48 @@ use Rattle.plan.specs.Rules.{
   keepsRules,
 }
 use Rattle.plan.proofs.Tests.{and-left, and-right, all-at, lt-or-ge}
-use Rattle.plan.proofs.Listed.{listed-at, listed-length}
+use Rattle.plan.proofs.Listed.{listed-at}
 use Rattle.plan_reader.specs.Layout.{rowsIn, columnsIn, passIn, passAllowed, sizeAllowed, sideAllowed, endAllowed, signed28}
 use Rattle.plan_reader.specs.Reading.{
   payloadAt,
   orderAt,
   afterPass,
   passPlace,
-  wordOutcome,
-  headOutcome,
-  coefficientsOutcome,
-  passOutcome,
-  passesOutcome,
-  endOutcome,
-  sideOutcome,
-  planOutcome,
+  wordRows,
+  headRows,
+  coefficientRows,
+  passRows,
+  passesRows,
+  endRows,
+  sideRows,
+  planRows,
   coefficientIn,
   passFrom,
   planFrom,
   readPlan,
 }
 use Rattle.plan_reader.proofs.Record.{coefficient-read, coefficient-zero}
-use Rattle.plan_reader.proofs.Outcomes.{sideReaches}
-use Rattle.plan_writer.specs.Shape.{WellShaped}
+use Rattle.plan_reader.proofs.Rows.{sideReaches}
 use Rattle.plan_writer.specs.Writing.{wordOf, payload28, coefficientWords, passWords, passesWords, wordsOf}
 use Rattle.plan_writer.proofs.Payload.{payload-signed, signed-kept}
-use Rattle.plan_writer.proofs.Accepted.{
-  and-both,
-  all-of,
-  first-accepted,
-  second-accepted,
-  answer-accepted,
-  not-refused,
-  not-refused-unless,
-  word-due,
-  word-first,
-}
+use Rattle.plan_writer.proofs.Accepted.{and-both, all-of, word-due, word-first}
 
 -- ---- one pass
 
-module _ (words : List ℕ) (i place : ℕ) (e : passOutcome words i place ≡ Accepted) where
+module _ (words : List ℕ) (i place : ℕ) (e : firstDue (passRows words i place) ≡ accepted) where
   abbrev pass : Pass
   pass = passFrom words place
 
-  head-accepted : wordOutcome words place 3 (passAllowed i (payloadAt words place)) ≡ Accepted
-  unfolding passOutcome
-  head-accepted = first-accepted _ _ e
+  head-accepted : firstDue (wordRows words place 3 (passAllowed i (payloadAt words place))) ≡ accepted
+  unfolding passRows
+  head-accepted = rows-accepted (wordRows words place 3 (passAllowed i (payloadAt words place))) _ e .0
 
-  gain-accepted : wordOutcome words (place + 1) 4 true ≡ Accepted
-  unfolding passOutcome
-  gain-accepted = first-accepted _ _ (second-accepted (wordOutcome words place 3 (passAllowed i (payloadAt words place))) _ e)
-
-  coefficients-accepted : coefficientsOutcome words (place + 2) (orderAt words place) ≡ Accepted
-  unfolding passOutcome
-  coefficients-accepted =
-      second-accepted (wordOutcome words (place + 1) 4 true) _
-      (second-accepted (wordOutcome words place 3 (passAllowed i (payloadAt words place))) _ e)
+  others-accepted : (firstDue (wordRows words (place + 1) 4 true) ≡ accepted)
+      × (firstDue (coefficientRows words (place + 2) (orderAt words place)) ≡ accepted)
+  unfolding passRows
+  others-accepted =
+      rows-accepted (wordRows words (place + 1) 4 true) (coefficientRows words (place + 2) (orderAt words place))
+      (rows-accepted (wordRows words place 3 (passAllowed i (payloadAt words place))) _ e .1)
 
   -- what the pass word may hold
   head-allowed : passAllowed i (payloadAt words place) ≡ true
@@ -117,22 +104,18 @@ module _ (words : List ℕ) (i place : ℕ) (e : passOutcome words i place ≡ A
   coefficient-is : (j : ℕ) → j < orderAt words place → coefficientAt pass j ≡ signed28 (payloadAt words (place + 2 + j))
   coefficient-is j h = place-is j (omega (arith, order-limited)) ∙ coefficient-read words place j h
 
-  places-full : length (pass .coefficients) ≡ orderLimit
-  unfolding passFrom
-  places-full = listed-length (coefficientIn words place) orderLimit
-
   -- its words are those that were read
-  coefficients-first : (count : ℕ) → count ≤ orderAt words place → coefficientsOutcome words (place + 2) count ≡ Accepted
+  coefficients-first : (count : ℕ) → count ≤ orderAt words place → firstDue (coefficientRows words (place + 2) count) ≡ accepted
       → drop (place + 2) words ≡ coefficientWords pass count ++ drop (place + 2 + count) words
-  unfolding coefficientsOutcome coefficientWords
+  unfolding coefficientRows coefficientWords
   coefficients-first zero h a = rw (add-zero (place + 2))
   coefficients-first (suc count) h a =
-      let before = first-accepted (coefficientsOutcome words (place + 2) count) _ a in
-      let word = word-first words (place + 2 + count) 5 true (second-accepted (coefficientsOutcome words (place + 2) count) _ a) in
+      let both = rows-accepted (coefficientRows words (place + 2) count) (wordRows words (place + 2 + count) 5 true) a in
+      let word = word-first words (place + 2 + count) 5 true (both .1) in
       let same : payload28 (coefficientAt pass count) ≡ payloadAt words (place + 2 + count) =
       ap payload28 (coefficient-is count (omega arith)) ∙ payload-signed (payloadAt words (place + 2 + count)) (omega arith) in
       let next : place + 2 + suc count ≡ suc (place + 2 + count) = omega arith in
-      coefficients-first count (omega arith) before
+      coefficients-first count (omega arith) (both .0)
       ∙ ap (λ (l : List ℕ). coefficientWords pass count ++ l) word
       ∙ rw (append-assoc, same, next)
 
@@ -142,10 +125,10 @@ module _ (words : List ℕ) (i place : ℕ) (e : passOutcome words i place ≡ A
       let gain : payload28 (pass .gain) ≡ payloadAt words (place + 1) =
       ap payload28 gain-is ∙ payload-signed (payloadAt words (place + 1)) (omega arith) in
       let second : drop (suc place) words ≡ wordOf 4 (payloadAt words (place + 1)) ∷ drop (suc (place + 1)) words =
-      ap (λ (n : ℕ). drop n words) (sym (add-one place)) ∙ word-first words (place + 1) 4 true gain-accepted in
+      ap (λ (n : ℕ). drop n words) (sym (add-one place)) ∙ word-first words (place + 1) 4 true (others-accepted .0) in
       let third : suc (place + 1) ≡ place + 2 = omega arith in
       word-first words place 3 _ head-accepted
-      ∙ rw (second, third, coefficients-first (orderAt words place) (omega arith) coefficients-accepted, order-is, gain, ← head-payload)
+      ∙ rw (second, third, coefficients-first (orderAt words place) (omega arith) (others-accepted .1), order-is, gain, ← head-payload)
 
   -- it keeps the rules
   coefficient-kept : (j : ℕ) → j < orderLimit → coefficientKept (pass .order) j (coefficientAt pass j) ≡ true
@@ -174,18 +157,20 @@ module _ (words : List ℕ) where
   unfolding planFrom
   pass-is i h = listed-at (λ i. passFrom words (passPlace words i)) 4 i _ h
 
-  pass-accepted : (count i : ℕ) → passesOutcome words count ≡ Accepted → i < count → passOutcome words i (passPlace words i) ≡ Accepted
-  unfolding passesOutcome
+  pass-accepted : (count i : ℕ) → firstDue (passesRows words count) ≡ accepted → i < count
+      → firstDue (passRows words i (passPlace words i)) ≡ accepted
+  unfolding passesRows
   pass-accepted zero i a h = absurd (omega arith)
   pass-accepted (suc count) i a h =
+      let both = rows-accepted (passesRows words count) (passRows words count (passPlace words count)) a in
       ⊎-elim
-      (λ (l : i < count). pass-accepted count i (first-accepted (passesOutcome words count) _ a) l)
+      (λ (l : i < count). pass-accepted count i (both .0) l)
       (λ (g : count ≤ i).
       let same : i ≡ count = omega arith in
-      rw same (second-accepted (passesOutcome words count) _ a))
+      rw same (both .1))
       (lt-or-ge i count)
 
-  passes-first : passesOutcome words 4 ≡ Accepted → (count : ℕ) → count ≤ 4
+  passes-first : firstDue (passesRows words 4) ≡ accepted → (count : ℕ) → count ≤ 4
       → drop 2 words ≡ passesWords (planFrom words) count ++ drop (passPlace words count) words
   unfolding passesWords passPlace
   passes-first a zero h = refl
@@ -193,42 +178,36 @@ module _ (words : List ℕ) where
       passes-first a count (omega arith)
       ∙ rw (pass-first words count (passPlace words count) (pass-accepted 4 count a (omega arith)), pass-is count (omega arith), append-assoc)
 
-module _ (words : List ℕ) (accepted : planOutcome words ≡ Accepted) where
-  heads : headOutcome words ≡ Accepted
-  unfolding planOutcome
-  heads = first-accepted _ _ accepted
+module _ (words : List ℕ) (e : firstDue (planRows words) ≡ accepted) where
+  heads : (firstDue (wordRows words 0 1 (sizeAllowed (payloadAt words 0))) ≡ accepted)
+      × (firstDue (wordRows words 1 2 (sideAllowed (payloadAt words 1))) ≡ accepted)
+  unfolding planRows headRows
+  heads =
+      rows-accepted (wordRows words 0 1 (sizeAllowed (payloadAt words 0))) (wordRows words 1 2 (sideAllowed (payloadAt words 1)))
+      (rows-accepted (headRows words) _ e .0)
 
-  passes : passesOutcome words 4 ≡ Accepted
-  unfolding planOutcome
-  passes = first-accepted _ _ (second-accepted (headOutcome words) _ accepted)
+  after-head : (firstDue (passesRows words 4) ≡ accepted)
+      × (firstDue (endRows words (passPlace words 4) ++ sideRows words) ≡ accepted)
+  unfolding planRows
+  after-head =
+      rows-accepted (passesRows words 4) (endRows words (passPlace words 4) ++ sideRows words) (rows-accepted (headRows words) _ e .1)
 
-  ends : endOutcome words (passPlace words 4) ≡ Accepted
-  unfolding planOutcome
-  ends = first-accepted _ _ (second-accepted (passesOutcome words 4) _ (second-accepted (headOutcome words) _ accepted))
+  passes : firstDue (passesRows words 4) ≡ accepted
+  passes = after-head .0
 
-  sides : sideOutcome words ≡ Accepted
-  unfolding planOutcome
-  sides =
-      second-accepted (endOutcome words (passPlace words 4)) _
-      (second-accepted (passesOutcome words 4) _ (second-accepted (headOutcome words) _ accepted))
+  last : (firstDue (endRows words (passPlace words 4)) ≡ accepted) × (firstDue (sideRows words) ≡ accepted)
+  last = rows-accepted (endRows words (passPlace words 4)) (sideRows words) (after-head .1)
 
-  size-accepted : wordOutcome words 0 1 (sizeAllowed (payloadAt words 0)) ≡ Accepted
-  unfolding headOutcome
-  size-accepted = first-accepted _ _ heads
-
-  block-accepted : wordOutcome words 1 2 (sideAllowed (payloadAt words 1)) ≡ Accepted
-  unfolding headOutcome
-  block-accepted = second-accepted (wordOutcome words 0 1 (sizeAllowed (payloadAt words 0))) _ heads
-
-  end-accepted : wordOutcome words (passPlace words 4) 6 (endAllowed (payloadAt words (passPlace words 4))) ≡ Accepted
-  unfolding endOutcome
-  end-accepted = first-accepted _ _ ends
+  ends : (firstDue (wordRows words (passPlace words 4) 6 (endAllowed (payloadAt words (passPlace words 4)))) ≡ accepted)
+      × (firstDue (5 at passPlace words 4 + 1 when ltb (passPlace words 4 + 1) (length words) ∷ []) ≡ accepted)
+  unfolding endRows
+  ends = rows-accepted (wordRows words (passPlace words 4) 6 (endAllowed (payloadAt words (passPlace words 4)))) (_ ∷ []) (last .0)
 
   rows-kept : within (rowsIn (payloadAt words 0)) 4096 ≡ true
-  rows-kept = and-left _ _ (word-due words 0 1 _ size-accepted .payload-allowed)
+  rows-kept = and-left _ _ (word-due words 0 1 _ (heads .0) .payload-allowed)
 
   columns-and-spare : (within (columnsIn (payloadAt words 0)) 4096 && eqb (payloadAt words 0 / 67108864) 0) ≡ true
-  columns-and-spare = and-right (within (rowsIn (payloadAt words 0)) 4096) _ (word-due words 0 1 _ size-accepted .payload-allowed)
+  columns-and-spare = and-right (within (rowsIn (payloadAt words 0)) 4096) _ (word-due words 0 1 _ (heads .0) .payload-allowed)
 
   size-payload : rowsIn (payloadAt words 0) * 8192 + columnsIn (payloadAt words 0) ≡ payloadAt words 0
   size-payload =
@@ -236,28 +215,26 @@ module _ (words : List ℕ) (accepted : planOutcome words ≡ Accepted) where
       omega arith
 
   nothing-left : drop (suc (passPlace words 4)) words ≡ []
-  unfolding endOutcome
   nothing-left =
-      let last : ltb (passPlace words 4 + 1) (length words) ≡ false =
-      not-refused _ _ (second-accepted (wordOutcome words (passPlace words 4) 6 (endAllowed (payloadAt words (passPlace words 4)))) _ ends) in
-      let past : length words ≤ suc (passPlace words 4) = omega (arith, ltb-false (passPlace words 4 + 1) (length words) last) in
+      let none : ltb (passPlace words 4 + 1) (length words) ≡ false = none-of (_ ∷ []) (ends .1) .0 in
+      let past : length words ≤ suc (passPlace words 4) = omega (arith, ltb-false (passPlace words 4 + 1) (length words) none) in
       drop-of-length-le words past
 
   end-first : drop (passPlace words 4) words ≡ wordOf 6 0 ∷ []
   end-first =
-      let d = word-due words (passPlace words 4) 6 _ end-accepted in
+      let d = word-due words (passPlace words 4) 6 _ (ends .0) in
       let empty : payloadAt words (passPlace words 4) ≡ 0 = eqb-true (payloadAt words (passPlace words 4)) 0 (d .payload-allowed) in
-      word-first words (passPlace words 4) 6 _ end-accepted ∙ rw (empty, nothing-left)
+      word-first words (passPlace words 4) 6 _ (ends .0) ∙ rw (empty, nothing-left)
 
   words-again : wordsOf (planFrom words) ≡ words
   unfolding wordsOf planFrom
   words-again =
-      sym (word-first words 0 1 _ size-accepted
-      ∙ rw (word-first words 1 2 _ block-accepted, passes-first words passes 4 (omega arith), end-first, size-payload))
+      sym (word-first words 0 1 _ (heads .0)
+      ∙ rw (word-first words 1 2 _ (heads .1), passes-first words passes 4 (omega arith), end-first, size-payload))
 
   sides-reach : allBelow (sideReaches words) 4 ≡ true
-  unfolding sideOutcome
-  sides-reach = not-refused-unless _ _ sides
+  unfolding sideRows
+  sides-reach = not-false _ (none-of (sideRows words) (last .1) .0)
 
   pass-kept : (i : ℕ) → i < 4 → passKept (payloadAt words 1) (passAt (planFrom words) i) ≡ true
   pass-kept i h =
@@ -270,35 +247,24 @@ module _ (words : List ℕ) (accepted : planOutcome words ≡ Accepted) where
   rules-kept =
       and-both rows-kept
       (and-both (and-left (within (columnsIn (payloadAt words 0)) 4096) _ columns-and-spare)
-      (and-both (word-due words 1 2 _ block-accepted .payload-allowed)
+      (and-both (word-due words 1 2 _ (heads .1) .payload-allowed)
       (all-of (λ i. passKept (payloadAt words 1) (passAt (planFrom words) i)) 4 pass-kept)))
-
-  shaped : WellShaped (planFrom words)
-  unfolding planFrom
-  shaped =
-      record {
-        passCount = listed-length (λ i. passFrom words (passPlace words i)) 4;
-        placeCount = λ i h. ap (λ (pass : Pass). length (pass .coefficients)) (pass-is words i h) ∙ places-full words i (passPlace words i) (pass-accepted words 4 i passes h);
-      }
 
 -- ---- the laws
 
-module _ (words : List ℕ) (e : readPlan words .outcome ≡ Accepted) where
-  accepted-words : planOutcome words ≡ Accepted
+module _ (words : List ℕ) (e : readPlan words .answer ≡ accepted) where
+  plan-accepted : firstDue (planRows words) ≡ accepted
   unfolding readPlan
-  accepted-words = answer-accepted (planOutcome words) (planFrom words) e
+  plan-accepted = e
 
-  read-is : readPlan words .plan ≡ planFrom words
+  read-is : readPlan words .value ≡ planFrom words
   unfolding readPlan
-  read-is = rw accepted-words
+  read-is = rw e
 
--- The words of a plan that was read are the words that it was read from.
-pub writing-read : (words : List ℕ) → readPlan words .outcome ≡ Accepted → wordsOf (readPlan words .plan) ≡ words
-writing-read words e = rw (read-is words e) (words-again words (accepted-words words e))
+  -- The words of a plan that was read are the words that it was read from.
+  pub writing-read : wordsOf (readPlan words .value) ≡ words
+  writing-read = rw read-is (words-again words plan-accepted)
 
--- A plan that was read keeps the rules.
-pub read-keeps-rules : (words : List ℕ) → readPlan words .outcome ≡ Accepted → keepsRules (readPlan words .plan) ≡ true
-read-keeps-rules words e = rw (read-is words e) (rules-kept words (accepted-words words e))
-
-pub read-well-shaped : (words : List ℕ) → readPlan words .outcome ≡ Accepted → WellShaped (readPlan words .plan)
-read-well-shaped words e = rw (read-is words e) (shaped words (accepted-words words e))
+  -- A plan that was read keeps the rules.
+  pub read-keeps-rules : keepsRules (readPlan words .value) ≡ true
+  read-keeps-rules = rw read-is (rules-kept words plan-accepted)

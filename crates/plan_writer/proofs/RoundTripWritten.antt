@@ -11,7 +11,8 @@ use lib.IntN.{ℤ, pos, negsuc}
 use lib.ListN.{length, getD, List·getD-append}
 use lib.Seq.{getD-at, getD-append-add}
 use borrow.Author.Tests.{lt-ltb, le-ltb, le-leb, eq-eqb, eqb-true}
-use Rattle.refusal.specs.declared.Outcome.the-variants.{Accepted}
+use Rattle.refusal.specs.Table.{accepted, firstDue}
+use Rattle.refusal.proofs.Table.{first-append, both-accepted}
 use Rattle.plan.specs.declared.Pass.{Pass}
 use Rattle.plan.specs.declared.Plan.{Plan}
 use Rattle.plan.specs.Rules.{orderLimit, within, inSigned28, isZero, coefficientAt, passAt, keepsRules}
@@ -25,22 +26,22 @@ use Rattle.plan_reader.specs.Reading.{
   payloadAt,
   orderAt,
   passPlace,
-  headOutcome,
-  coefficientsOutcome,
-  passOutcome,
-  passesOutcome,
-  endOutcome,
-  sideOutcome,
-  planOutcome,
+  headRows,
+  coefficientRows,
+  passRows,
+  passesRows,
+  endRows,
+  sideRows,
+  planRows,
   coefficientIn,
   passFrom,
   planFrom,
   readPlan,
 }
 use Rattle.plan_reader.proofs.Record.{coefficient-read, coefficient-zero, same-pass, same-plan}
-use Rattle.plan_reader.proofs.Outcomes.{side-accepted, sideReaches}
+use Rattle.plan_reader.proofs.Rows.{side-accepted, sideReaches}
 use Rattle.plan_writer.specs.Shape.{WellShaped}
-use Rattle.plan_writer.specs.Writing.{wordOf, payload28, coefficientWords, passWords, passesWords, wordsOf}
+use Rattle.plan_writer.specs.Writing.{wordOf, payload28, coefficientWords, passWords, passesWords, sizePayload, wordsOf}
 use Rattle.plan_writer.proofs.Payload.{payload-below, signed-payload}
 use Rattle.plan_writer.proofs.Words.{
   length-coefficients,
@@ -50,7 +51,7 @@ use Rattle.plan_writer.proofs.Words.{
   more-orders,
   orders-grow,
 }
-use Rattle.plan_writer.proofs.Accepted.{and-both, all-of, both-accepted, payload-written, word-written}
+use Rattle.plan_writer.proofs.Accepted.{and-both, all-of, payload-written, word-written}
 
 -- ---- where the words stand
 
@@ -135,14 +136,15 @@ module _ (plan : Plan) (i : ℕ) (h : i < 4) (kept : PassRules (plan .side) (pas
   signed-below : (j : ℕ) → j < pass .order → inSigned28 (coefficientAt pass j) ≡ true
   signed-below j b = rw (lt-ltb j (pass .order) b) at (kept .coefficient-kept j (omega (arith, kept .order-limited)))
 
-  coefficients-accepted : (count : ℕ) → count ≤ pass .order → coefficientsOutcome (wordsOf plan) (start + 2) count ≡ Accepted
-  unfolding coefficientsOutcome
+  coefficients-accepted : (count : ℕ) → count ≤ pass .order → firstDue (coefficientRows (wordsOf plan) (start + 2) count) ≡ accepted
+  unfolding coefficientRows
   coefficients-accepted zero b = refl
   coefficients-accepted (suc count) b =
       let l : count < pass .order = omega arith in
       let p : start + 2 + count < length (wordsOf plan) = omega (arith, pass-within (2 + count) (omega arith)) in
-      both-accepted (coefficients-accepted count (omega arith))
-      (word-written (wordsOf plan) (start + 2 + count) 5 _ (coefficient-at count l) (payload-below _ (signed-below count l)) p true refl)
+      rw first-append
+      (both-accepted (coefficients-accepted count (omega arith))
+      (word-written (wordsOf plan) (start + 2 + count) 5 _ (coefficient-at count l) (payload-below _ (signed-below count l)) p true refl))
 
   pass-allowed : passAllowed i (payloadAt (wordsOf plan) start) ≡ true
   pass-allowed =
@@ -151,14 +153,15 @@ module _ (plan : Plan) (i : ℕ) (h : i < 4) (kept : PassRules (plan .side) (pas
       (and-both (eq-eqb ((i * 16 + pass .order) / 16 % 4) i (omega arith))
       (and-both (le-leb ((i * 16 + pass .order) % 16) orderLimit (omega arith)) (eq-eqb ((i * 16 + pass .order) / 64) 0 (omega arith))))
 
-  pass-accepted : passOutcome (wordsOf plan) i start ≡ Accepted
-  unfolding passOutcome
+  pass-accepted : firstDue (passRows (wordsOf plan) i start) ≡ accepted
+  unfolding passRows
   pass-accepted =
       let p : start < length (wordsOf plan) = omega (arith, pass-within 0 (omega arith)) in
-      both-accepted (word-written (wordsOf plan) start 3 _ head-at (omega (arith, kept .order-limited)) p _ pass-allowed)
+      rw (first-append, first-append)
+      (both-accepted (word-written (wordsOf plan) start 3 _ head-at (omega (arith, kept .order-limited)) p _ pass-allowed)
       (both-accepted
       (word-written (wordsOf plan) (start + 1) 4 _ gain-at (payload-below _ (kept .gain-kept)) (pass-within 1 (omega arith)) true refl)
-      (rw order-read (coefficients-accepted (pass .order) (omega arith))))
+      (rw order-read (coefficients-accepted (pass .order) (omega arith)))))
 
   coefficient-back : (j : ℕ) → j < orderLimit → coefficientAt pass j ≡ coefficientIn (wordsOf plan) start j
   coefficient-back j b =
@@ -190,14 +193,15 @@ module _ (plan : Plan) (kept : keepsRules plan ≡ true) where
   place-read (suc i) h =
       rw (place-read i (omega arith)) (omega (arith, order-read plan i (omega arith) (rules plan kept .pass-kept i (omega arith))))
 
-  passes-accepted : (count : ℕ) → count ≤ 4 → passesOutcome (wordsOf plan) count ≡ Accepted
-  unfolding passesOutcome
+  passes-accepted : (count : ℕ) → count ≤ 4 → firstDue (passesRows (wordsOf plan) count) ≡ accepted
+  unfolding passesRows
   passes-accepted zero h = refl
   passes-accepted (suc count) h =
-      both-accepted (passes-accepted count (omega arith))
-      (rw (place-read count (omega arith)) (pass-accepted plan count (omega arith) (rules plan kept .pass-kept count (omega arith))))
+      rw first-append
+      (both-accepted (passes-accepted count (omega arith))
+      (rw (place-read count (omega arith)) (pass-accepted plan count (omega arith) (rules plan kept .pass-kept count (omega arith)))))
 
-  size-payload : payloadAt (wordsOf plan) 0 ≡ plan .rows * 8192 + plan .columns
+  size-payload : payloadAt (wordsOf plan) 0 ≡ sizePayload plan
   unfolding wordsOf
   size-payload = let r = rules plan kept in payload-written (wordsOf plan) 0 1 _ refl (omega arith)
 
@@ -211,32 +215,32 @@ module _ (plan : Plan) (kept : keepsRules plan ≡ true) where
   size-allowed : sizeAllowed (payloadAt (wordsOf plan) 0) ≡ true
   size-allowed =
       let r = rules plan kept in
-      let s = plan .rows * 8192 + plan .columns in
       rw size-payload
-      (and-both (within-both ((plan .rows * 8192 + plan .columns) / 8192 % 8192) 4096 (omega arith) (omega arith))
-      (and-both (within-both ((plan .rows * 8192 + plan .columns) % 8192) 4096 (omega arith) (omega arith))
-      (eq-eqb ((plan .rows * 8192 + plan .columns) / 67108864) 0 (omega arith))))
+      (and-both (within-both (sizePayload plan / 8192 % 8192) 4096 (omega arith) (omega arith))
+      (and-both (within-both (sizePayload plan % 8192) 4096 (omega arith) (omega arith))
+      (eq-eqb (sizePayload plan / 67108864) 0 (omega arith))))
 
-  head-accepted : headOutcome (wordsOf plan) ≡ Accepted
-  unfolding headOutcome wordsOf
+  head-accepted : firstDue (headRows (wordsOf plan)) ≡ accepted
+  unfolding headRows wordsOf
   head-accepted =
       let r = rules plan kept in
       let n = length-words plan in
-      both-accepted (word-written (wordsOf plan) 0 1 (plan .rows * 8192 + plan .columns) refl (omega arith) (omega arith) _ size-allowed)
+      rw first-append
+      (both-accepted (word-written (wordsOf plan) 0 1 (sizePayload plan) refl (omega arith) (omega arith) _ size-allowed)
       (word-written (wordsOf plan) 1 2 (plan .side) refl (omega arith) (omega arith) _
-      (rw side-payload (within-both (plan .side) 32 (r .side-low) (r .side-high))))
+      (rw side-payload (within-both (plan .side) 32 (r .side-low) (r .side-high)))))
 
-  end-accepted : endOutcome (wordsOf plan) (passPlace (wordsOf plan) 4) ≡ Accepted
-  unfolding endOutcome
+  end-accepted : firstDue (endRows (wordsOf plan) (passPlace (wordsOf plan) 4)) ≡ accepted
+  unfolding endRows
   end-accepted =
       let n = length-words plan in
-      rw (place-read 4 (omega arith))
+      rw (place-read 4 (omega arith), first-append)
       (both-accepted
       (word-written (wordsOf plan) (passStart plan 4) 6 0 (end-word plan) (omega arith) (omega arith) _
       (eq-eqb _ 0 (payload-written (wordsOf plan) (passStart plan 4) 6 0 (end-word plan) (omega arith))))
       (rw (le-ltb (passStart plan 4 + 1) (length (wordsOf plan)) (omega arith))))
 
-  sides-accepted : sideOutcome (wordsOf plan) ≡ Accepted
+  sides-accepted : firstDue (sideRows (wordsOf plan)) ≡ accepted
   sides-accepted =
       side-accepted (wordsOf plan)
       (all-of (sideReaches (wordsOf plan)) 4
@@ -244,9 +248,11 @@ module _ (plan : Plan) (kept : keepsRules plan ≡ true) where
       let r = rules plan kept .pass-kept i h in
       rw (place-read i (omega arith)) (le-leb (orderAt (wordsOf plan) (passStart plan i)) (payloadAt (wordsOf plan) 1) (omega (arith, order-read plan i h r, side-payload, r .order-in-side)))))
 
-  accepted : planOutcome (wordsOf plan) ≡ Accepted
-  unfolding planOutcome
-  accepted = both-accepted head-accepted (both-accepted (passes-accepted 4 (omega arith)) (both-accepted end-accepted sides-accepted))
+  plan-accepted : firstDue (planRows (wordsOf plan)) ≡ accepted
+  unfolding planRows
+  plan-accepted =
+      rw (first-append, first-append, first-append)
+      (both-accepted head-accepted (both-accepted (passes-accepted 4 (omega arith)) (both-accepted end-accepted sides-accepted)))
 
   module _ (shape : WellShaped plan) where
     pass-back : (i : ℕ) → i < 4 → passAt plan i ≡ passFrom (wordsOf plan) (passPlace (wordsOf plan) i)
@@ -264,6 +270,6 @@ module _ (plan : Plan) (kept : keepsRules plan ≡ true) where
 
 -- A plan that keeps the rules is read back from its words.
 pub reading-written : (plan : Plan) → WellShaped plan → keepsRules plan ≡ true
-    → readPlan (wordsOf plan) ≡ record { outcome = Accepted; plan = plan }
+    → readPlan (wordsOf plan) ≡ record { answer = accepted; value = plan }
 unfolding readPlan
-reading-written plan shape kept = rw (accepted plan kept, plan-read plan kept shape)
+reading-written plan shape kept = rw (plan-accepted plan kept, plan-read plan kept shape)

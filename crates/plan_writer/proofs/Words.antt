@@ -27,7 +27,7 @@ use Rattle.plan.specs.Rules.{
 }
 use Rattle.plan.specs.Sizes.{orderSum, wordCount}
 use Rattle.plan.proofs.Tests.{and-right, all-at}
-use Rattle.plan_writer.specs.Writing.{wordOf, payload28, coefficientWords, passWords, passesWords, wordsOf}
+use Rattle.plan_writer.specs.Writing.{wordOf, payload28, coefficientWords, passWords, passesWords, sizePayload, wordsOf}
 
 sets-append : (a b l : List ℕ) (i : ℕ) → sets l i (a ++ b) ≡ sets (sets l i a) (i + length a) b
 sets-append [] b l i = rw (add-zero i)
@@ -138,7 +138,7 @@ module _ (plan : Plan) (words : List ℕ) (place : ℕ) where
 
 -- Size word, block word, passes and end word, each written at the place after the one before.
 pub plan-parts : (words : List ℕ) (plan : Plan) {size block place₁ place₂ place₃ : ℕ} {words₁ words₂ words₃ words₄ : List ℕ}
-    → size ≡ wordOf 1 (plan .rows * 8192 + plan .columns) → block ≡ wordOf 2 (plan .side)
+    → size ≡ wordOf 1 (sizePayload plan) → block ≡ wordOf 2 (plan .side)
     → (place₁ ≡ 0 + 1) × (words₁ ≡ sets words 0 (size ∷ []))
     → (place₂ ≡ place₁ + 1) × (words₂ ≡ sets words₁ place₁ (block ∷ []))
     → (place₃ ≡ place₂ + (8 + orderSum plan 4)) × (words₃ ≡ sets words₂ place₂ (passesWords plan 4))

@@ -1,11 +1,12 @@
 -- The words of a plan, in the order of document 01's table, and the call that writes them.
-use mathlib.Core.Bool.{cond}
+use mathlib.Core.Bool.{not}
 use mathlib.Core.List.{List, [], _∷_, _++_}
 use Prim.Native.Nat.{ℕ, zero, suc, _+_, _-_, _*_}
 use lib.IntN.{ℤ, pos, negsuc}
 use lib.Dec.{ltb}
 use lib.ListN.{length, drop}
-use Rattle.refusal.specs.declared.Refusal.the-variants.{RecordBreaksRule, BufferTooShort}
+use Rattle.refusal.specs.Refusals.{numberOf, placeOf}
+use Rattle.refusal.specs.Table.{accepted, refused, _at_when_, firstDue, ifAccepted, Given, given}
 use Rattle.plan.specs.declared.Pass.{Pass}
 use Rattle.plan.specs.declared.Plan.{Plan}
 use Rattle.plan.specs.Rules.{coefficientAt, passAt, keepsRules}
@@ -38,19 +39,26 @@ unfoldable pub passesWords : Plan → ℕ → List ℕ
 passesWords plan zero = []
 passesWords plan (suc count) = passesWords plan count ++ passWords count (passAt plan count)
 
+-- The payload of the size word: rows in bits 13 to 25, columns in bits 0 to 12.
+abbrev pub sizePayload : Plan → ℕ
+sizePayload plan = plan .rows * 8192 + plan .columns
+
 -- The words of a plan: size, block, the four passes, end.
 unfoldable pub wordsOf : Plan → List ℕ
 wordsOf plan =
-    wordOf 1 (plan .rows * 8192 + plan .columns) ∷ wordOf 2 (plan .side) ∷ (passesWords plan 4 ++ (wordOf 6 0 ∷ []))
+    wordOf 1 (sizePayload plan) ∷ wordOf 2 (plan .side) ∷ (passesWords plan 4 ++ (wordOf 6 0 ∷ []))
 
--- The answer: 6 if the record breaks a rule, 7 if there is no room for the words, else how many words were written.
-unfoldable pub writeAnswer : Plan → ℕ → PlanWritten
-writeAnswer plan room =
-    cond (keepsRules plan) (cond (ltb room (wordCount plan)) (Refused BufferTooShort) (Words (wordCount plan)))
-    (Refused RecordBreaksRule)
+-- How many words are written into so much room; 0 beside a refusal.
+unfoldable pub writePlan : Plan → (room : ℕ) → Given ℕ
+writePlan plan room =
+    given (firstDue (6 at 0 when not (keepsRules plan) ∷ 7 at 0 when ltb room (wordCount plan) ∷ [])) (wordCount plan) 0
+
+-- Document 01's number and place, and the count, of each case that `write_plan` answers.
+abbrev pub writtenGiven : PlanWritten → Given ℕ
+writtenGiven (Words count) = record { answer = accepted; value = count }
+writtenGiven (Refused refusal) = record { answer = refused (numberOf refusal) (placeOf refusal); value = 0 }
 
 -- The lent words after the call: the plan's words and then what stood there; unaltered by a refusal.
 unfoldable pub writtenWords : Plan → List ℕ → List ℕ
 writtenWords plan words =
-    cond (keepsRules plan)
-    (cond (ltb (length words) (wordCount plan)) words (wordsOf plan ++ drop (wordCount plan) words)) words
+    ifAccepted (writePlan plan (length words) .answer) (wordsOf plan ++ drop (wordCount plan) words) words

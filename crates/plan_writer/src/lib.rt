@@ -2,6 +2,7 @@
 use plan::Pass;
 use plan::Plan;
 use plan::PlanSizes;
+use refusal::Outcome;
 use refusal::Refusal;
 ghost use mathlib.Core.Path.{_≡_};
 ghost use mathlib.Core.Bool.{true};
@@ -11,7 +12,7 @@ ghost use lib.ListN.{length};
 ghost use lib.Seq.{sets};
 ghost use Rattle.plan.specs.Rules.{keepsRules, passKept, coefficientsKept, inSigned28, orderLimit};
 ghost use Rattle.plan.specs.Sizes.{orderSum, wordCount};
-ghost use Rattle.plan_writer.specs.Writing.{wordOf, payload28, coefficientWords, passWords, passesWords, wordsOf, writeAnswer, writtenWords};
+ghost use Rattle.plan_writer.specs.Writing.{wordOf, payload28, coefficientWords, passWords, passesWords, wordsOf, writePlan, writtenGiven, writtenWords};
 
 // How many words were written, or why none was.
 pub enum PlanWritten {
@@ -21,17 +22,21 @@ pub enum PlanWritten {
 
 // Writes the words of a plan to the front of a lent buffer.
 pub fn write_plan(plan: Plan, words: &mut [u32]) -> PlanWritten
-    ensures { λ r. ⌜ (r ≡ writeAnswer plan (length (now (words .entry)))) × (now (words .exit) ≡ writtenWords plan (now (words .entry))) ⌝ }
+    ensures answer { λ r. ⌜ writtenGiven r ≡ writePlan plan (length (now (words .entry))) ⌝ }
+    ensures written { λ _. ⌜ now (words .exit) ≡ writtenWords plan (now (words .entry)) ⌝ }
 {
     let known = plan.sizes();
     match known {
         PlanSizes::Refused(refusal) => PlanWritten::Refused(refusal),
         PlanSizes::Known(sizes) => {
-            if words.len() < sizes.words {
-                return PlanWritten::Refused(Refusal::BufferTooShort);
+            let room = refusal::too_short(words.len(), sizes.words);
+            match room {
+                Outcome::Refused(refusal) => PlanWritten::Refused(refusal),
+                Outcome::Accepted => {
+                    write_words(plan, words);
+                    PlanWritten::Words(sizes.words)
+                }
             }
-            write_words(plan, words);
-            PlanWritten::Words(sizes.words)
         }
     }
 }

@@ -1,31 +1,31 @@
--- The four answers of the call, by the tests that decide them. Assumes nothing.
-use mathlib.Core.Path.{_≡_, ap}
-use mathlib.Core.Bool.{Bool, true, false, _||_}
-use mathlib.Core.List.{List}
+-- The answer of the call by the tests that are made, and what is given beside it. Assumes nothing.
+use mathlib.Core.Path.{_≡_, ap, _∙_}
+use mathlib.Core.Bool.{Bool, true, false, not, _||_}
+use mathlib.Core.List.{List, [], _∷_}
 use Prim.Native.Nat.{ℕ, _<_, _≤_}
-use native.Mathlib.Omega.{arith}
 use lib.Dec.{ltb, leb}
 use lib.ListN.{length}
-use borrow.Author.Tests.{lt-ltb, le-ltb, ltb-false, leb-false}
+use borrow.Author.Tests.{le-ltb, lt-leb, ltb-false, leb-false}
 use Rattle.refusal.specs.declared.Refusal.{Refusal}
-use Rattle.refusal.specs.declared.Refusal.the-variants.{BufferTooShort, RectangleOutside}
+use Rattle.refusal.specs.Refusals.{numberOf, placeOf}
+use Rattle.refusal.specs.Table.{Answer, accepted, refused, Row, _at_when_, firstDue, firstOf, Given}
+use Rattle.refusal.proofs.Table.{tests-rows, none-of}
 use Rattle.plan.specs.declared.Plan.{Plan}
 use Rattle.plan.specs.declared.Sizes.{Sizes}
-use Rattle.plan.specs.declared.PlanSizes.the-variants as sized
-use Rattle.plan.specs.Sizes.{sizesOf, planSizes, neededPixels}
-use Rattle.plan.proofs.Known.{refused-broken, refused-reason, known-kept, known-sizes}
+use Rattle.plan.specs.declared.PlanSizes.{PlanSizes}
+use Rattle.plan.specs.declared.PlanSizes.the-variants.{Known, Refused}
+use Rattle.plan.specs.Rules.{keepsRules}
+use Rattle.plan.specs.Sizes.{neededPixels, sizesOf, planSizes, sizesGiven}
+use Rattle.plan.proofs.Known.{sizes-known, record-refused}
 use Rattle.passes.specs.Table.{rectangleSum}
-use Rattle.rectangle.specs.declared.RectangleSum.the-variants.{Sum, Refused}
-use Rattle.rectangle.specs.Rectangle.{tableOf, outside, rectangleAnswer}
+use Rattle.rectangle.specs.Rectangle.{tableOf, outside, rectangleCall}
 
--- A rectangle that is not outside lies in the map.
+-- A rectangle of the map that is not empty.
 pub record Inside (plan : Plan) (top left bottom right : ℕ) : Type 0 where
-  pub top-low : top ≤ plan .rows
+  pub top-bottom : top < bottom
+  pub left-right : left < right
   pub bottom-low : bottom ≤ plan .rows
-  pub left-low : left ≤ plan .columns
   pub right-low : right ≤ plan .columns
-  pub top-bottom : top ≤ bottom
-  pub left-right : left ≤ right
 
 or-left : (a b : Bool) → (a || b) ≡ false → a ≡ false
 or-left true b e = e
@@ -35,42 +35,72 @@ or-right : (a b : Bool) → (a || b) ≡ false → b ≡ false
 or-right true b e = let z : _≡_ {A = Bool} true false = e in cc
 or-right false b e = e
 
-module _ (plan : Plan) (table : List ℕ) (top left bottom right : ℕ) where
+module _ (plan : Plan) (top left bottom right : ℕ) where
   pub not-outside : outside plan top left bottom right ≡ false → Inside plan top left bottom right
   not-outside e =
       let f = or-right (leb bottom top) _ e in
       let g = or-right (leb right left) _ f in
-      let b : bottom ≤ plan .rows = ltb-false (plan .rows) bottom (or-left (ltb (plan .rows) bottom) _ g) in
-      let r : right ≤ plan .columns = ltb-false (plan .columns) right (or-right (ltb (plan .rows) bottom) _ g) in
-      let t : top < bottom = leb-false bottom top (or-left (leb bottom top) _ e) in
-      let l : left < right = leb-false right left (or-left (leb right left) _ f) in
-      record { top-low = omega arith; bottom-low = b; left-low = omega arith; right-low = r; top-bottom = omega arith; left-right = omega arith }
+      let h = or-right (ltb (plan .rows) bottom) _ g in
+      record {
+        top-bottom = leb-false bottom top (or-left (leb bottom top) _ e);
+        left-right = leb-false right left (or-left (leb right left) _ f);
+        bottom-low = ltb-false (plan .rows) bottom (or-left (ltb (plan .rows) bottom) _ g);
+        right-low = ltb-false (plan .columns) right h;
+      }
 
-  pub broken-answer : (refusal : Refusal) → planSizes plan ≡ sized.Refused refusal
-      → Refused refusal ≡ rectangleAnswer plan table top left bottom right
-  unfolding rectangleAnswer
-  broken-answer refusal e = simp (refused-broken plan refusal e, refused-reason plan refusal e)
+  pub inside-the-map : Inside plan top left bottom right → outside plan top left bottom right ≡ false
+  inside-the-map i =
+      rw (
+        lt-leb bottom top (i .top-bottom),
+        lt-leb right left (i .left-right),
+        le-ltb (plan .rows) bottom (i .bottom-low),
+        le-ltb (plan .columns) right (i .right-low),
+      )
 
-  module _ (sizes : Sizes) (e : planSizes plan ≡ sized.Known sizes) where
-    pub known-pixels : sizes .pixels ≡ neededPixels plan
-    unfolding sizesOf
-    known-pixels = ap (λ (s : Sizes). s .pixels) (known-sizes plan sizes e)
+module _ (plan : Plan) (table : List ℕ) (top left bottom right : ℕ) where
+  -- The rows of the call after that of the record.
+  abbrev isShort : (needed : ℕ) → Row
+  isShort needed = 7 at 0 when ltb (length table) needed
 
-    pub short-answer : length table < sizes .pixels → Refused BufferTooShort ≡ rectangleAnswer plan table top left bottom right
-    unfolding rectangleAnswer
-    short-answer h =
-        simp (known-kept plan sizes e, lt-ltb (length table) (neededPixels plan) (omega (arith, known-pixels)))
+  abbrev isOutside : Row
+  isOutside = 12 at 0 when outside plan top left bottom right
 
-    module _ (room : sizes .pixels ≤ length table) where
-      enough : ltb (length table) (neededPixels plan) ≡ false
-      enough = le-ltb (length table) (neededPixels plan) (omega (arith, known-pixels))
+  module _ (known : PlanSizes) (is : sizesGiven known ≡ planSizes plan) where
+    pub answer-of-record : (refusal : Refusal) → known ≡ Refused refusal
+        → refused (numberOf refusal) (placeOf refusal) ≡ rectangleCall plan table top left bottom right .answer
+    unfolding rectangleCall
+    answer-of-record refusal e = record-refused plan known is refusal e (isShort (neededPixels plan) ∷ isOutside ∷ [])
 
-      pub outside-answer : outside plan top left bottom right ≡ true
-          → Refused RectangleOutside ≡ rectangleAnswer plan table top left bottom right
-      unfolding rectangleAnswer
-      outside-answer h = rw (known-kept plan sizes e, enough, h)
+    pub answer-of-tests : (sizes : Sizes) → known ≡ Known sizes → {answer a b : Answer} → answer ≡ firstOf a b
+        → a ≡ firstDue (isShort (sizes .pixels) ∷ []) → b ≡ firstDue (isOutside ∷ [])
+        → answer ≡ rectangleCall plan table top left bottom right .answer
+    unfolding rectangleCall sizesOf
+    answer-of-tests sizes e o p q =
+        let kept = sizes-known plan known is sizes e in
+        tests-rows (isShort (sizes .pixels) ∷ []) (isOutside ∷ []) o p q ∙ rw (kept .1, kept .0)
 
-      pub sum-answer : outside plan top left bottom right ≡ false
-          → Sum (rectangleSum (tableOf plan table) top left bottom right) ≡ rectangleAnswer plan table top left bottom right
-      unfolding rectangleAnswer
-      sum-answer h = rw (known-kept plan sizes e, enough, h)
+  pub accepted-when : keepsRules plan ≡ true → neededPixels plan ≤ length table → Inside plan top left bottom right
+      → rectangleCall plan table top left bottom right .answer ≡ accepted
+  unfolding rectangleCall
+  accepted-when kept h i =
+      rw (kept, le-ltb (length table) (neededPixels plan) h, inside-the-map plan top left bottom right i)
+
+  pub accepted-fits : rectangleCall plan table top left bottom right .answer ≡ accepted
+      → (neededPixels plan ≤ length table) × Inside plan top left bottom right
+  unfolding rectangleCall
+  accepted-fits e =
+      let (kept, (long, (within, none))) =
+      none-of (6 at 0 when not (keepsRules plan) ∷ isShort (neededPixels plan) ∷ isOutside ∷ []) e in
+      (ltb-false _ _ long, not-outside plan top left bottom right within)
+
+  -- Beside the answer: the sum of an accepted call, 0 of a refused one.
+  pub given-accepted : rectangleCall plan table top left bottom right .answer ≡ accepted
+      → {sum : ℕ} → sum ≡ rectangleSum (tableOf plan table) top left bottom right
+      → _≡_ {A = Given ℕ} (record { answer = accepted; value = sum }) (rectangleCall plan table top left bottom right)
+  unfolding rectangleCall
+  given-accepted e f = rw (e, f)
+
+  pub given-refused : {number place : ℕ} → rectangleCall plan table top left bottom right .answer ≡ refused number place
+      → _≡_ {A = Given ℕ} (record { answer = refused number place; value = 0 }) (rectangleCall plan table top left bottom right)
+  unfolding rectangleCall
+  given-refused e = rw e

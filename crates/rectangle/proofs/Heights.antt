@@ -6,7 +6,6 @@ use Prim.Native.Nat.{ℕ, zero, suc, _+_, _-_, _*_, _<_, _≤_}
 use native.Mathlib.Omega.{arith}
 use lib.IntN.{ℤ, pos, negsuc}
 use lib.ListN.{length, getD, drop, replicate, length-append, List·getD-append}
-use borrow.Author.Tests.{le-ltb}
 use Rattle.word.specs.Word.{modulus, minusOne, residue}
 use Rattle.plan.specs.declared.Pass.{Pass}
 use Rattle.plan.specs.declared.Plan.{Plan}
@@ -21,11 +20,10 @@ use Rattle.passes.proofs.Table.{rectangle-heights}
 use Rattle.filter.specs.Filters.{filterOf, filtersOf}
 use Rattle.filter.proofs.RowMajor.{row-of, column-of, place-below}
 use Rattle.serial.specs.Serial.{serialWords, serialOutput}
-use Rattle.serial.proofs.Answers.{long-enough, accepted}
-use Rattle.rectangle.specs.declared.RectangleSum.the-variants.{Sum}
-use Rattle.rectangle.specs.Rectangle.{tableOf, rectangleAnswer}
+use Rattle.serial.proofs.Answers.{long-enough, output-of-accepted}
+use Rattle.rectangle.specs.Rectangle.{tableOf}
 use Rattle.rectangle.specs.Heights.{runningSumPass, unchangedPass, summedAreaPasses, heightAt, SumsHeights}
-use Rattle.rectangle.proofs.Answers.{not-outside}
+use Rattle.rectangle.proofs.Answers.{accepted-when, given-accepted}
 
 -- ---- the filters
 
@@ -85,7 +83,7 @@ module _ (plan : Plan) (passes : plan .passes ≡ summedAreaPasses) where
 module _ (plan : Plan) (kept : keepsRules plan ≡ true) (heights : List ℤ) (output : List ℕ)
     (long : neededPixels plan ≤ length heights) (room : neededPixels plan ≤ length output) where
   table-is : serialWords plan heights ++ drop (neededPixels plan) output ≡ serialOutput plan heights output
-  table-is = accepted plan heights output _ (long-enough plan (length heights) (length output) kept long room) refl .1
+  table-is = output-of-accepted plan heights output (long-enough plan (length heights) (length output) kept long room)
 
   words-length : length (serialWords plan heights) ≡ neededPixels plan
   unfolding serialWords
@@ -106,13 +104,16 @@ module _ (plan : Plan) (kept : keepsRules plan ≡ true) (heights : List ℤ) (o
       ∙ rw (row-of (plan .columns) y x b, column-of (plan .columns) y x b)
 
 pub sums-heights : SumsHeights
-unfolding rectangleAnswer heightMap
-sums-heights plan kept passes heights output long room top left bottom right inside =
-    let i = not-outside plan output top left bottom right inside in
-    rw (kept, le-ltb _ _ (table-long plan kept heights output long room), inside)
-    (ap Sum
+unfolding heightMap
+sums-heights plan kept passes heights output long room top left bottom right t l b r =
+    let table = serialOutput plan heights output in
+    sym
+    (given-accepted plan table top left bottom right
+    (accepted-when plan table top left bottom right kept (table-long plan kept heights output long room)
+    (record { top-bottom = t; left-right = l; bottom-low = b; right-low = r }))
+    (sym
     (rectangle-heights (plan .rows) (plan .columns) _ (heightAt plan heights)
     (λ y x a b.
     table-at plan kept heights output long room y x a b
     ∙ ap (λ (Z : ℕ → ℕ → ℕ). Z y x) (passes-are plan passes (plan .rows) (plan .columns) (heightMap (plan .columns) heights)))
-    top left bottom right (i .top-bottom) (i .left-right) (i .bottom-low) (i .right-low)))
+    top left bottom right (omega arith) (omega arith) b r)))

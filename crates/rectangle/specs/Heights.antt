@@ -1,19 +1,19 @@
 -- On a summed-area table the rectangle sum is the heights' sum modulo 2^64: document 01, 'The four passes' and the rectangle sum.
 use mathlib.Core.Path.{_≡_}
-use mathlib.Core.Bool.{true, false}
+use mathlib.Core.Bool.{true}
 use mathlib.Core.List.{List, [], _∷_}
-use Prim.Native.Nat.{ℕ, _+_, _-_, _*_, _≤_}
+use Prim.Native.Nat.{ℕ, _+_, _-_, _*_, _<_, _≤_}
 use lib.IntN.{ℤ, pos, negsuc}
 use lib.ListN.{length, getD, replicate}
 use Rattle.word.specs.Word.{residue}
+use Rattle.refusal.specs.Table.{accepted}
 use Rattle.plan.specs.declared.Pass.{Pass}
 use Rattle.plan.specs.declared.Plan.{Plan}
 use Rattle.plan.specs.Rules.{orderLimit, keepsRules}
 use Rattle.plan.specs.Sizes.{neededPixels}
 use Rattle.passes.specs.Table.{heightsInside}
 use Rattle.serial.specs.Serial.{serialOutput}
-use Rattle.rectangle.specs.declared.RectangleSum.the-variants.{Sum}
-use Rattle.rectangle.specs.Rectangle.{outside, rectangleAnswer}
+use Rattle.rectangle.specs.Rectangle.{rectangleCall}
 
 -- Order 1, gain 1, coefficient -1.
 abbrev pub runningSumPass : Pass
@@ -31,12 +31,12 @@ summedAreaPasses = runningSumPass ∷ unchangedPass ∷ runningSumPass ∷ uncha
 abbrev pub heightAt : Plan → List ℤ → ℕ → ℕ → ℤ
 heightAt plan heights row column = getD heights (row * plan .columns + column) (pos 0)
 
--- For a plan with these passes, any map, and the output that the serial passes leave of it: the call's sum over a rectangle of
--- the map is the sum of the heights in it, modulo 2^64.
+-- For a plan with these passes, any map, and the output that the serial passes leave of it: over every rectangle of the map that
+-- is not empty, the call gives the sum of the heights in it, modulo 2^64.
 abbrev pub SumsHeights : Type 0
 SumsHeights =
     (plan : Plan) → keepsRules plan ≡ true → plan .passes ≡ summedAreaPasses
     → (heights : List ℤ) (output : List ℕ) → neededPixels plan ≤ length heights → neededPixels plan ≤ length output
-    → (top left bottom right : ℕ) → outside plan top left bottom right ≡ false
-    → rectangleAnswer plan (serialOutput plan heights output) top left bottom right
-    ≡ Sum (residue (heightsInside (heightAt plan heights) top left bottom right))
+    → (top left bottom right : ℕ) → top < bottom → left < right → bottom ≤ plan .rows → right ≤ plan .columns
+    → rectangleCall plan (serialOutput plan heights output) top left bottom right
+    ≡ record { answer = accepted; value = residue (heightsInside (heightAt plan heights) top left bottom right) }

@@ -1,10 +1,11 @@
 -- The rectangle sum as a call: document 01, the paragraph on the rectangle sum and refusals 6, 7 and 12.
-use mathlib.Core.Bool.{Bool, _||_, cond}
-use mathlib.Core.List.{List}
+use mathlib.Core.Bool.{Bool, not, _||_}
+use mathlib.Core.List.{List, [], _∷_}
 use Prim.Native.Nat.{ℕ, _+_, _*_}
 use lib.Dec.{ltb, leb}
 use lib.ListN.{length, getD}
-use Rattle.refusal.specs.declared.Refusal.the-variants.{RecordBreaksRule, BufferTooShort, RectangleOutside}
+use Rattle.refusal.specs.Refusals.{numberOf, placeOf}
+use Rattle.refusal.specs.Table.{accepted, refused, _at_when_, firstDue, Given, given}
 use Rattle.plan.specs.declared.Plan.{Plan}
 use Rattle.plan.specs.Rules.{keepsRules}
 use Rattle.plan.specs.Sizes.{neededPixels}
@@ -21,11 +22,18 @@ abbrev pub outside : Plan → (top left bottom right : ℕ) → Bool
 outside plan top left bottom right =
     leb bottom top || (leb right left || (ltb (plan .rows) bottom || ltb (plan .columns) right))
 
--- The answer: refused by 6, 7, 12 in that order, else the sum, a number from 0 to 2^64 - 1.
-unfoldable pub rectangleAnswer : Plan → List ℕ → (top left bottom right : ℕ) → RectangleSum
-rectangleAnswer plan table top left bottom right =
-    cond (keepsRules plan)
-    (cond (ltb (length table) (neededPixels plan)) (Refused BufferTooShort)
-    (cond (outside plan top left bottom right) (Refused RectangleOutside)
-    (Sum (rectangleSum (tableOf plan table) top left bottom right))))
-    (Refused RecordBreaksRule)
+-- The sum over a rectangle, a number from 0 to 2^64 - 1; 0 beside a refusal.
+unfoldable pub rectangleCall : Plan → List ℕ → (top left bottom right : ℕ) → Given ℕ
+rectangleCall plan table top left bottom right =
+    given
+    (firstDue
+    (6 at 0 when not (keepsRules plan)
+    ∷ 7 at 0 when ltb (length table) (neededPixels plan)
+    ∷ 12 at 0 when outside plan top left bottom right
+    ∷ []))
+    (rectangleSum (tableOf plan table) top left bottom right) 0
+
+-- Document 01's number and place, and the sum, of each case that `rectangle_sum` answers.
+abbrev pub sumGiven : RectangleSum → Given ℕ
+sumGiven (Sum sum) = record { answer = accepted; value = sum }
+sumGiven (Refused refusal) = record { answer = refused (numberOf refusal) (placeOf refusal); value = 0 }

@@ -1,12 +1,15 @@
 // The sum over a rectangle of a summed-area table.
 use plan::Plan;
 use plan::PlanSizes;
+use refusal::Outcome;
 use refusal::Refusal;
 ghost use mathlib.Core.Path.{_≡_};
+ghost use mathlib.Core.List.{[], _∷_};
 ghost use Prim.Native.Nat.{_*_, _≤_};
 ghost use lib.ListN.{length};
+ghost use Rattle.refusal.specs.Table.{_at_when_, firstDue, answerOf};
 ghost use Rattle.passes.specs.Table.{cornerOf, rectangleSum};
-ghost use Rattle.rectangle.specs.Rectangle.{tableOf, outside, rectangleAnswer};
+ghost use Rattle.rectangle.specs.Rectangle.{tableOf, outside, rectangleCall, sumGiven};
 
 // The sum, or why there is none.
 pub enum RectangleSum {
@@ -23,36 +26,54 @@ pub fn rectangle_sum(
     right: usize,
     table: &[u64],
 ) -> RectangleSum
-    ensures { λ r. ⌜ r ≡ rectangleAnswer plan (now (table .entry)) top left bottom right ⌝ }
+    ensures { λ r. ⌜ sumGiven r ≡ rectangleCall plan (now (table .entry)) top left bottom right ⌝ }
+{
+    let outcome = answer(plan, top, left, bottom, right, table);
+    match outcome {
+        Outcome::Refused(refusal) => RectangleSum::Refused(refusal),
+        Outcome::Accepted => RectangleSum::Sum(corners(plan, top, left, bottom, right, table)),
+    }
+}
+
+// The answer to the record, the length of the table and the rectangle, in this order.
+fn answer(
+    plan: Plan,
+    top: usize,
+    left: usize,
+    bottom: usize,
+    right: usize,
+    table: &[u64],
+) -> Outcome
+    ensures { λ r. ⌜ answerOf r ≡ rectangleCall plan (now (table .entry)) top left bottom right .answer ⌝ }
 {
     let known = plan.sizes();
     match known {
-        PlanSizes::Refused(refusal) => RectangleSum::Refused(refusal),
+        PlanSizes::Refused(refusal) => Outcome::Refused(refusal),
         PlanSizes::Known(sizes) => {
-            if table.len() < sizes.pixels {
-                return RectangleSum::Refused(Refusal::BufferTooShort);
-            }
-            if outside(plan, top, left, bottom, right) {
-                return RectangleSum::Refused(Refusal::RectangleOutside);
-            }
-            RectangleSum::Sum(corners(plan, top, left, bottom, right, table))
+            let length = refusal::too_short(table.len(), sizes.pixels);
+            length.or_first(outside(plan, top, left, bottom, right))
         }
     }
 }
 
-fn outside(plan: Plan, top: usize, left: usize, bottom: usize, right: usize) -> bool
-    ensures { λ r. ⌜ r ≡ outside plan top left bottom right ⌝ }
+// Refused by 12 where the rectangle is empty or leaves the map.
+fn outside(plan: Plan, top: usize, left: usize, bottom: usize, right: usize) -> Outcome
+    ensures { λ r. ⌜ answerOf r ≡ firstDue (12 at 0 when outside plan top left bottom right ∷ []) ⌝ }
 {
+    let refused = Outcome::Refused(Refusal::RectangleOutside);
     if bottom <= top {
-        return true;
+        return refused;
     }
     if right <= left {
-        return true;
+        return refused;
     }
     if plan.rows < bottom {
-        return true;
+        return refused;
     }
-    plan.columns < right
+    if plan.columns < right {
+        return refused;
+    }
+    Outcome::Accepted
 }
 
 fn corners(plan: Plan, top: usize, left: usize, bottom: usize, right: usize, table: &[u64]) -> u64

@@ -16,8 +16,6 @@ use Rattle.refusal.specs.declared.Refusal.the-variants.{
   RectangleOutside,
   InputUnfit,
 }
-use Rattle.refusal.specs.declared.Outcome.{Outcome}
-use Rattle.refusal.specs.declared.Outcome.the-variants.{Accepted, Refused}
 
 -- The number of a refusal, by the table of refused calls.
 abbrev pub numberOf : Refusal → ℕ
@@ -50,23 +48,3 @@ placeOf AlreadyMarked = 0
 placeOf NeedUnmarked = 0
 placeOf RectangleOutside = 0
 placeOf InputUnfit = 0
-
--- The number that a call answers: 0 where it is accepted, else that of its refusal;
-abbrev pub outcomeNumber : Outcome → ℕ
-outcomeNumber Accepted = 0
-outcomeNumber (Refused refusal) = numberOf refusal
-
--- and the place beside it, 0 where it is accepted.
-abbrev pub outcomePlace : Outcome → ℕ
-outcomePlace Accepted = 0
-outcomePlace (Refused refusal) = placeOf refusal
-
--- Of two tests, one after the other, the first that refuses decides.
-abbrev pub firstOf : Outcome → Outcome → Outcome
-firstOf Accepted later = later
-firstOf (Refused refusal) later = Refused refusal
-
--- Of two values, that of an accepted call or that of a refused one.
-abbrev pub ifAccepted : {A : Type 0} → Outcome → A → A → A
-ifAccepted Accepted accepted refused = accepted
-ifAccepted (Refused refusal) accepted refused = refused

@@ -1,6 +1,9 @@
-// The one refusal type of the library: every call answers with it, by document 01's numbers.
+// The one refusal type of the library, by document 01's numbers.
 ghost use mathlib.Core.Path.{_≡_};
-ghost use Rattle.refusal.specs.Refusals.{numberOf, placeOf, firstOf};
+ghost use mathlib.Core.List.{[], _∷_};
+ghost use lib.Dec.{ltb};
+ghost use Rattle.refusal.specs.Refusals.{numberOf, placeOf};
+ghost use Rattle.refusal.specs.Table.{_at_when_, firstDue, answerOf, firstOf};
 
 // Why a call was refused. A case holds the place that goes with it where the place varies.
 pub enum Refusal {
@@ -72,11 +75,22 @@ impl Refusal {
 impl Outcome {
     // The earlier of two tests decides.
     pub fn or_first(self, later: Outcome) -> Outcome
-        ensures { λ r. ⌜ r ≡ firstOf self later ⌝ }
+        ensures { λ r. ⌜ answerOf r ≡ firstOf (answerOf self) (answerOf later) ⌝ }
     {
         match self {
             Outcome::Accepted => later,
             Outcome::Refused(_) => self,
         }
+    }
+}
+
+// Refused by 7 where a lent buffer of a length has fewer places than are needed.
+pub fn too_short(length: usize, needed: usize) -> Outcome
+    ensures { λ r. ⌜ answerOf r ≡ firstDue (7 at 0 when ltb length needed ∷ []) ⌝ }
+{
+    if length < needed {
+        Outcome::Refused(Refusal::BufferTooShort)
+    } else {
+        Outcome::Accepted
     }
 }

@@ -7,6 +7,7 @@ use Prim.Native.Nat.{ℕ, _-_, _*_, _<_, _≤_}
 use native.Mathlib.Omega.{arith}
 use lib.ListN.{length}
 use borrow.Author.Tests.{le-ltb}
+use Rattle.refusal.specs.Table.{accepted}
 use Rattle.plan.specs.declared.Plan.{Plan}
 use Rattle.plan.specs.Rules.{keepsRules}
 use Rattle.plan.specs.Sizes.{blockRows, blockColumns, neededMarks, neededPixels, taskCount}
@@ -21,9 +22,9 @@ use Rattle.tasks.proofs.Marking.{Valid, valid-only, valid-shows, shows-marked, 
 use Rattle.report.specs.declared.Next.{Next}
 use Rattle.report.specs.declared.Next.the-variants.{Ready, Nothing}
 use Rattle.report.specs.declared.Progress.{Progress}
-use Rattle.report.specs.declared.ReportAnswer.the-variants.{Made}
 use Rattle.report.specs.Tally.{tally}
-use Rattle.report.specs.Report.{firstReady, firstBroken, progressOf, reportOn, report}
+use Rattle.report.specs.Values.{valuesOf}
+use Rattle.report.specs.Report.{firstReady, firstBroken, progressOf, report}
 use Rattle.report.proofs.Search.{First, task-found, task-none, task-same, least-below, least-fails, least-none}
 use Rattle.report.proofs.Tallies.{tally-whole, tally-same}
 
@@ -104,8 +105,8 @@ module _ (plan : Plan) (kept : keepsRules plan ≡ true) (done : ℕ → ℕ →
 
   -- Enough marks that show what is done are reported on, by what is done.
   pub reported : (marks : List ℕ) → neededMarks plan ≤ length marks → Shows (blockRows plan) (blockColumns plan) done marks
-      → report plan marks ≡ Made (planProgress plan done)
-  unfolding report reportOn progressOf firstBroken
+      → report plan marks ≡ record { answer = accepted; value = valuesOf (planProgress plan done) }
+  unfolding report progressOf firstBroken
   reported marks enough shows =
       let same = shows-marked (blockRows plan) (blockColumns plan) done marks shows in
       let valid = shows-valid (blockRows plan) (blockColumns plan) done marks shows only in
@@ -122,7 +123,8 @@ module _ (plan : Plan) (kept : keepsRules plan ≡ true) (done : ℕ → ℕ →
 -- It answers so on all marks that refusal 9 lets through.
 pub reported-valid : (plan : Plan) → keepsRules plan ≡ true → (marks : List ℕ) → neededMarks plan ≤ length marks
     → Valid (blockRows plan) (blockColumns plan) marks
-    → (report plan marks ≡ Made (planProgress plan (isMarked marks))) × Told plan (isMarked marks) (planProgress plan (isMarked marks))
+    → (report plan marks ≡ record { answer = accepted; value = valuesOf (planProgress plan (isMarked marks)) })
+    × Told plan (isMarked marks) (planProgress plan (isMarked marks))
 reported-valid plan kept marks enough valid =
     let only = valid-only (blockRows plan) (blockColumns plan) marks valid in (
       reported plan kept (isMarked marks) only marks enough (valid-shows (blockRows plan) (blockColumns plan) marks valid),

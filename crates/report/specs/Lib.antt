@@ -1,3 +1,3 @@
 pub mod Tally
-pub mod Report
 pub mod Values
+pub mod Report

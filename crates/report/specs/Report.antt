@@ -1,10 +1,10 @@
 -- The report: how many tasks are marked, the tally, and the ready task with the least number, then the least block; or none.
-use mathlib.Core.Bool.{Bool, cond}
-use mathlib.Core.List.{List}
+use mathlib.Core.Bool.{Bool, not, cond}
+use mathlib.Core.List.{List, [], _∷_}
 use Prim.Native.Nat.{ℕ, zero, suc, _*_}
 use lib.Dec.{ltb}
 use lib.ListN.{length}
-use Rattle.refusal.specs.declared.Refusal.the-variants.{RecordBreaksRule, BufferTooShort, MarkBroken}
+use Rattle.refusal.specs.Table.{_at_when_, firstDue, Given, given}
 use Rattle.plan.specs.declared.Plan.{Plan}
 use Rattle.plan.specs.Rules.{keepsRules}
 use Rattle.plan.specs.Sizes.{blockRows, blockColumns}
@@ -14,9 +14,8 @@ use Rattle.tasks.specs.Marks.{isMarked, markValidAt}
 use Rattle.report.specs.declared.Next.{Next}
 use Rattle.report.specs.declared.Next.the-variants.{Ready, Nothing}
 use Rattle.report.specs.declared.Progress.{Progress}
-use Rattle.report.specs.declared.ReportAnswer.{ReportAnswer}
-use Rattle.report.specs.declared.ReportAnswer.the-variants.{Refused, Made}
 use Rattle.report.specs.Tally.{tally}
+use Rattle.report.specs.Values.{Values, valuesOf, zeroValues}
 
 -- The first of two searches that finds one.
 abbrev pub orElse : Next → Next → Next
@@ -51,16 +50,26 @@ unfoldable pub progressOf : ℕ → ℕ → ℕ → ℕ → ℕ → (ℕ → ℕ
 progressOf h w b M N done =
     record { marked = doneCount M N done; tally = tally h w b M N done; next = firstReady M N done }
 
--- The report on the M×N blocks of a map of h rows and w columns with block side b: refused 7 where the marks are too few, 9 at
--- the least broken mark of all, or what the marks say.
-unfoldable pub reportOn : ℕ → ℕ → ℕ → ℕ → ℕ → List ℕ → ReportAnswer
-reportOn h w b M N marks =
-    cond (ltb (length marks) (M * N)) (Refused BufferTooShort)
-    (cond (ltb (firstBroken M N marks) (M * N)) (Refused (MarkBroken (firstBroken M N marks)))
-    (Made (progressOf h w b M N (isMarked marks))))
-
--- The report on a plan: refused 6 where the record breaks a rule.
-unfoldable pub report : Plan → List ℕ → ReportAnswer
+-- The report on the marks of a plan; zeros beside a refusal. The place of 9 is the least broken mark of all.
+unfoldable pub report : Plan → List ℕ → Given Values
 report plan marks =
-    cond (keepsRules plan) (reportOn (plan .rows) (plan .columns) (plan .side) (blockRows plan) (blockColumns plan) marks)
-    (Refused RecordBreaksRule)
+    let M : ℕ = blockRows plan in
+    let N : ℕ = blockColumns plan in
+    given
+    (firstDue
+    (6 at 0 when not (keepsRules plan)
+    ∷ 7 at 0 when ltb (length marks) (M * N)
+    ∷ 9 at firstBroken M N marks when ltb (firstBroken M N marks) (M * N)
+    ∷ []))
+    (valuesOf (progressOf (plan .rows) (plan .columns) (plan .side) M N (isMarked marks))) zeroValues
+
+-- What is left of it for a record that keeps the rules, for the inner function that goes by numbers: h rows, w columns and block
+-- side b, in M rows and N columns of blocks.
+unfoldable pub reportOn : ℕ → ℕ → ℕ → ℕ → ℕ → List ℕ → Given Values
+reportOn h w b M N marks =
+    given
+    (firstDue
+    (7 at 0 when ltb (length marks) (M * N)
+    ∷ 9 at firstBroken M N marks when ltb (firstBroken M N marks) (M * N)
+    ∷ []))
+    (valuesOf (progressOf h w b M N (isMarked marks))) zeroValues

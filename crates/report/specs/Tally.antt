@@ -8,7 +8,7 @@ use Rattle.tasks.specs.Tasks.{rowOf, columnOf}
 use Rattle.tasks.specs.Counts.{total, one}
 use Rattle.tasks.specs.Grid.{Grid}
 
--- A block's area is its rows times its columns.
+-- A block's area is its rows times its columns; calls/Demand: `AreasAgree` ties it to the `blockArea` of a plan.
 unfoldable pub blockArea : ℕ → ℕ → ℕ → ℕ → ℕ → ℕ
 blockArea h w b N k = blockExtent h b (rowOf N k) * blockExtent w b (columnOf N k)
 

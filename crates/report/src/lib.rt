@@ -1,5 +1,7 @@
 // The report on a job's marks: how many tasks are marked, the tally, and the first ready task.
 use plan::Plan;
+use plan::PlanSizes;
+use refusal::Outcome;
 use refusal::Refusal;
 ghost use mathlib.Core.Path.{_≡_};
 ghost use Prim.Native.Nat.{_<_, _≤_, _*_, _/_, _%_};
@@ -8,6 +10,7 @@ ghost use Rattle.tasks.specs.Counts.{one, doneAt, doneCount};
 ghost use Rattle.tasks.specs.Marks.{isMarked};
 ghost use Rattle.tasks.specs.Grid.{Lent};
 ghost use Rattle.report.specs.Tally.{blockArea, tallyAt, tally, Sized};
+ghost use Rattle.report.specs.Values.{reportGiven};
 ghost use Rattle.report.specs.Report.{firstReady, firstBroken, reportOn, report};
 
 // The ready task with the least number, then the least block: its task and its block.
@@ -30,21 +33,20 @@ pub enum ReportAnswer {
 
 // The report on a plan's marks, which may be a part of a longer list.
 pub fn report(plan: Plan, marks: &[u32]) -> ReportAnswer
-    ensures { λ r. ⌜ r ≡ report plan (now (marks .entry)) ⌝ }
+    ensures { λ r. ⌜ reportGiven r ≡ report plan (now (marks .entry)) ⌝ }
 {
-    if !plan.check() {
-        return ReportAnswer::Refused(Refusal::RecordBreaksRule);
+    let known = plan.sizes();
+    match known {
+        PlanSizes::Known(sizes) => report_on(
+            plan.rows,
+            plan.columns,
+            plan.side,
+            sizes.block_rows,
+            sizes.block_columns,
+            marks,
+        ),
+        PlanSizes::Refused(refusal) => ReportAnswer::Refused(refusal),
     }
-    let block_rows = plan.block_rows();
-    let block_columns = plan.block_columns();
-    report_on(
-        plan.rows,
-        plan.columns,
-        plan.side,
-        block_rows,
-        block_columns,
-        marks,
-    )
 }
 
 // The report on the marks of a map of these sizes.
@@ -57,11 +59,12 @@ fn report_on(
     marks: &[u32],
 ) -> ReportAnswer
     requires { ⌜ Sized rows columns side «block_rows» «block_columns» ⌝ }
-    ensures { λ r. ⌜ r ≡ reportOn rows columns side «block_rows» «block_columns» (now (marks .entry)) ⌝ }
+    ensures { λ r. ⌜ reportGiven r ≡ reportOn rows columns side «block_rows» «block_columns» (now (marks .entry)) ⌝ }
 {
     let blocks = block_rows * block_columns;
-    if marks.len() < blocks {
-        return ReportAnswer::Refused(Refusal::BufferTooShort);
+    let length = refusal::too_short(marks.len(), blocks);
+    if let Outcome::Refused(refusal) = length {
+        return ReportAnswer::Refused(refusal);
     }
     let broken = first_broken(block_rows, block_columns, marks);
     if broken < blocks {

@@ -1,14 +1,11 @@
 -- The serial passes over a whole map as a call: document 01, 'The four passes' and 'Refused calls'.
-use mathlib.Core.Bool.{_&&_, cond}
-use mathlib.Core.List.{List, _++_}
+use mathlib.Core.Bool.{not}
+use mathlib.Core.List.{List, [], _∷_, _++_}
 use Prim.Native.Nat.{ℕ, _/_, _%_}
-use lib.Dec.{leb}
+use lib.Dec.{ltb}
 use lib.IntN.{ℤ}
 use lib.ListN.{length, drop}
-use Rattle.refusal.specs.declared.Outcome.{Outcome}
-use Rattle.refusal.specs.declared.Outcome.the-variants.{Accepted, Refused}
-use Rattle.refusal.specs.declared.Refusal.the-variants.{RecordBreaksRule, BufferTooShort}
-use Rattle.refusal.specs.Refusals.{ifAccepted}
+use Rattle.refusal.specs.Table.{Answer, _at_when_, firstDue, ifAccepted}
 use Rattle.plan.specs.declared.Plan.{Plan}
 use Rattle.plan.specs.Rules.{keepsRules}
 use Rattle.plan.specs.Sizes.{neededPixels}
@@ -18,11 +15,13 @@ use Rattle.passes.specs.Passes.{serialPasses}
 use Rattle.filter.specs.Filters.{filtersOf}
 
 -- The answer: 6 where the record breaks a rule, then 7 where map or output has fewer than h×w places.
-unfoldable pub serialOutcome : Plan → (mapLength outputLength : ℕ) → Outcome
-serialOutcome plan mapLength outputLength =
-    cond (keepsRules plan)
-    (cond (leb (neededPixels plan) mapLength && leb (neededPixels plan) outputLength) Accepted (Refused BufferTooShort))
-    (Refused RecordBreaksRule)
+unfoldable pub serialAnswer : Plan → (mapLength outputLength : ℕ) → Answer
+serialAnswer plan mapLength outputLength =
+    firstDue
+    (6 at 0 when not (keepsRules plan)
+    ∷ 7 at 0 when ltb mapLength (neededPixels plan)
+    ∷ 7 at 0 when ltb outputLength (neededPixels plan)
+    ∷ [])
 
 -- The h×w words of the result of left, row after row.
 unfoldable pub serialWords : Plan → List ℤ → List ℕ
@@ -37,6 +36,6 @@ serialWords plan heights =
 -- refused call all words that were there.
 unfoldable pub serialOutput : Plan → List ℤ → List ℕ → List ℕ
 serialOutput plan heights output =
-    ifAccepted (serialOutcome plan (length heights) (length output))
+    ifAccepted (serialAnswer plan (length heights) (length output))
     (serialWords plan heights ++ drop (neededPixels plan) output)
     output

@@ -2,17 +2,18 @@
 // bottom with right and left behind it.
 use filter::Window;
 use plan::Plan;
+use plan::PlanSizes;
 use refusal::Outcome;
-use refusal::Refusal;
 ghost use mathlib.Core.Path.{_≡_};
 ghost use mathlib.Core.Bool.{true};
 ghost use mathlib.Core.List.{_++_};
 ghost use Prim.Native.Nat.{_+_, _<_, _≤_};
 ghost use lib.ListN.{length, drop};
+ghost use Rattle.refusal.specs.Table.{answerOf};
 ghost use Rattle.plan.specs.Rules.{keepsRules};
 ghost use Rattle.plan.specs.Sizes.{neededPixels, blockCount};
 ghost use Rattle.passes.specs.Passes.{axisOf, directionOf};
-ghost use Rattle.serial.specs.Serial.{serialOutcome, serialWords, serialOutput};
+ghost use Rattle.serial.specs.Serial.{serialAnswer, serialWords, serialOutput};
 ghost use Rattle.serial.specs.Stages.{pixelsRead, rowsBefore, rowsPassed, bandRows, bandTop, bandPassed, bandsReadDown, bandsFinished};
 
 // The rows of a band: enough that the chains of multiplies of their row passes overlap, and few enough that a band stays
@@ -21,21 +22,26 @@ const BAND: usize = 8;
 
 // The passes down, up, right and left over a map: the first rows × columns words of the output are their result.
 pub fn serial_passes(plan: Plan, map: &[i32], output: &mut [u64]) -> Outcome
-    ensures answer { λ r. ⌜ r ≡ serialOutcome plan (length (now (map .entry))) (length (now (output .entry))) ⌝ }
+    ensures answer { λ r. ⌜ answerOf r ≡ serialAnswer plan (length (now (map .entry))) (length (now (output .entry))) ⌝ }
     ensures result { λ _. ⌜ now (output .exit) ≡ serialOutput plan (now (map .entry)) (now (output .entry)) ⌝ }
 {
-    if !plan.check() {
-        return Outcome::Refused(Refusal::RecordBreaksRule);
-    }
-    let needed = plan.rows * plan.columns;
-    if map.len() < needed {
-        return Outcome::Refused(Refusal::BufferTooShort);
-    }
-    if output.len() < needed {
-        return Outcome::Refused(Refusal::BufferTooShort);
-    }
+    let outcome = answer(plan, map.len(), output.len());
+    let Outcome::Accepted = outcome else {
+        return outcome;
+    };
     filter_map(plan, map, output);
-    Outcome::Accepted
+    outcome
+}
+
+// The answer to a map and an output of these lengths.
+fn answer(plan: Plan, map_length: usize, output_length: usize) -> Outcome
+    ensures { λ r. ⌜ answerOf r ≡ serialAnswer plan «map_length» «output_length» ⌝ }
+{
+    let known = plan.sizes();
+    match known {
+        PlanSizes::Refused(refusal) => Outcome::Refused(refusal),
+        PlanSizes::Known(sizes) => sizes.map_and_output(map_length, output_length),
+    }
 }
 
 // The passes over a map that fits.

@@ -1,22 +1,22 @@
 -- A cut input asks for what the whole input does: the tests look at the first bytes, at the bytes over, and at whether there are
 -- more words than any input that asks for a job has. Assumes nothing.
 use mathlib.Core.Path.{_≡_, refl, sym, ap, _∙_}
-use mathlib.Core.Bool.{Bool, true, false, cond}
-use mathlib.Core.List.{List}
+use mathlib.Core.Bool.{Bool, true, false, not}
+use mathlib.Core.List.{List, [], _∷_}
 use Prim.Native.Nat.{ℕ, zero, suc, _+_, _*_, _/_, _%_, _≤_, _<_, min}
 use native.Mathlib.Omega.{arith}
+use lib.IntN.{ℤ}
 use lib.Dec.{ltb, eqb}
 use lib.ListN.{length, getD, take}
 use lib.Seq.{getD-take, take-all}
-use borrow.Author.Tests.{ltb-true, ltb-false, ne-eqb, eqb-true}
-use Rattle.refusal.specs.declared.Refusal.the-variants.{InputUnfit}
-use Rattle.refusal.specs.declared.Outcome.{Outcome}
-use Rattle.refusal.specs.declared.Outcome.the-variants.{Accepted, Refused}
+use borrow.Author.Tests.{ltb-true, ltb-false, eq-eqb, ne-eqb, eqb-true}
+use Rattle.refusal.specs.Table.{Answer, accepted, refused, _at_when_, firstDue, firstOf}
+use Rattle.refusal.proofs.Table.{first-append}
 use Rattle.plan.specs.declared.Plan.{Plan}
 use Rattle.plan.specs.Sizes.{neededPixels}
 use Rattle.plan.specs.Lists.{listOf}
 use Rattle.plan.proofs.Listed.{listed-length, listed-at, listed-only}
-use Rattle.plan_reader.specs.Reading.{readPlan}
+use Rattle.plan_reader.specs.Reading.{planRows}
 use Rattle.smooth_job.specs.Promises.{CutAsksTheSame}
 use Rattle.smooth_job.specs.Program.{
   planLimit,
@@ -25,11 +25,12 @@ use Rattle.smooth_job.specs.Program.{
   afterEnd,
   planLength,
   planWords,
-  heightsIn,
+  planIn,
+  countRows,
+  inputRows,
   Asked,
-  unfit,
-  job,
-  askedWith,
+  refusedInput,
+  askedBy,
   asked,
   inputLimit,
 }
@@ -45,25 +46,40 @@ list-same : (f g : ℕ → ℕ) (n : ℕ) → ((i : ℕ) → i < n → f i ≡ g
 list-same f g n same =
     listed-only g (listOf f n) n 0 (listed-length f n) (λ i h. listed-at f n i 0 h ∙ same i h)
 
--- An input of whole words that is longer than any that asks for a job asks for none.
-abbrev noJob : Outcome → Asked
-noJob Accepted = unfit InputUnfit
-noJob (Refused refusal) = unfit refusal
+-- What is asked for with more words than any input that asks for a job has.
+abbrev noJob : Answer → Asked
+noJob accepted = refusedInput 13 0
+noJob (refused number place) = refusedInput number place
 
-long-unfit : (input : List ℕ) → inputLimit < length input → length input % 4 ≡ 0 → (outcome : Outcome) (plan : Plan)
-    → askedWith input outcome plan ≡ noJob outcome
-long-unfit input long whole (Refused refusal) plan = refl
-long-unfit input long whole Accepted plan = by (ltb pixelLimit (neededPixels plan)) refl
-  where
-    by : (many : Bool) → ltb pixelLimit (neededPixels plan) ≡ many
-        → cond many (unfit InputUnfit)
-        (cond (eqb (length input / 4) (planLength input + neededPixels plan))
-        (job plan (heightsIn input (planLength input) (neededPixels plan))) (unfit InputUnfit))
-        ≡ unfit InputUnfit
-    by true e = refl
-    by false e =
-        let few = ltb-false pixelLimit (neededPixels plan) e in
-        rw (ne-eqb (length input / 4) (planLength input + neededPixels plan) (λ same. omega (arith, length-limited input)))
+no-job : (answer : Answer) (plan : Plan) (heights : List ℤ) → askedBy (firstOf answer (refused 13 0)) plan heights ≡ noJob answer
+no-job accepted plan heights = refl
+no-job (refused number place) plan heights = refl
+
+module _ (input : List ℕ) (long : inputLimit < length input) (whole : length input % 4 ≡ 0) where
+  long-counts : (plan : Plan) → firstDue (countRows input plan) ≡ refused 13 0
+  unfolding countRows
+  long-counts plan = by (ltb pixelLimit (neededPixels plan)) refl
+    where
+      by : (many : Bool) → ltb pixelLimit (neededPixels plan) ≡ many
+          → firstDue
+          (13 at 0 when many
+          ∷ 13 at 0 when not (eqb (length input / 4) (planLength input + neededPixels plan))
+          ∷ [])
+          ≡ refused 13 0
+      by true e = refl
+      by false e =
+          let few = ltb-false pixelLimit (neededPixels plan) e in
+          rw (ne-eqb (length input / 4) (planLength input + neededPixels plan) (λ same. omega (arith, length-limited input)))
+
+  long-asked : asked input ≡ noJob (firstDue (planRows (planWords input)))
+  unfolding asked inputRows
+  long-asked =
+      rw (
+        eq-eqb (length input % 4) 0 whole,
+        first-append (planRows (planWords input)) (countRows input (planIn input)),
+        long-counts (planIn input),
+      )
+      (no-job (firstDue (planRows (planWords input))) _ _)
 
 -- Two inputs that are longer than any that asks for a job, with the same first bytes and as many bytes over.
 module _ (a b : List ℕ) (a-long : inputLimit < length a) (b-long : inputLimit < length b)
@@ -95,18 +111,18 @@ module _ (a b : List ℕ) (a-long : inputLimit < length a) (b-long : inputLimit 
       rw same-length
       (list-same (wordIn a) (wordIn b) (planLength b) (λ i h. same-word i (omega (arith, length-limited b))))
 
+  not-whole : (input : List ℕ) → eqb (length input % 4) 0 ≡ false → asked input ≡ refusedInput 13 0
+  unfolding asked inputRows
+  not-whole input e = rw e
+
   same-asked : asked a ≡ asked b
-  unfolding asked
-  same-asked = rw (over, same-words) (by (eqb (length b % 4) 0) refl)
+  same-asked = by (eqb (length b % 4) 0) refl
     where
-      by : (whole : Bool) → eqb (length b % 4) 0 ≡ whole
-          → cond whole (askedWith a (readPlan (planWords b) .outcome) (readPlan (planWords b) .plan)) (unfit InputUnfit)
-          ≡ cond whole (askedWith b (readPlan (planWords b) .outcome) (readPlan (planWords b) .plan)) (unfit InputUnfit)
-      by false e = refl
+      by : (whole : Bool) → eqb (length b % 4) 0 ≡ whole → asked a ≡ asked b
+      by false e = not-whole a (rw over e) ∙ sym (not-whole b e)
       by true e =
           let z = eqb-true (length b % 4) 0 e in
-          let read = readPlan (planWords b) in
-          long-unfit a a-long (over ∙ z) (read .outcome) (read .plan) ∙ sym (long-unfit b b-long z (read .outcome) (read .plan))
+          long-asked a a-long (over ∙ z) ∙ ap (λ w. noJob (firstDue (planRows w))) same-words ∙ sym (long-asked b b-long z)
 
 pub cut-same : CutAsksTheSame
 cut-same whole cut long same = by (ltb inputLimit (length whole)) refl

@@ -1,52 +1,54 @@
 -- What the definitions come to: an input that asks for a job has it done, and a cut input asks for what the whole does.
 -- Assumes nothing.
 use mathlib.Core.Path.{_≡_, refl, sym, ap, _∙_}
-use mathlib.Core.Bool.{Bool, true, false, cond}
-use mathlib.Core.List.{List}
-use Prim.Native.Nat.{ℕ, _+_, _*_, _/_, _%_, _≤_}
+use mathlib.Core.Bool.{Bool, true, false, not}
+use mathlib.Core.List.{List, [], _∷_, _++_}
+use Prim.Native.Nat.{ℕ, _*_, _%_, _≤_}
 use native.Mathlib.Omega.{arith}
 use native.Mathlib.Nat.{mul-le-mul}
 use lib.IntN.{ℤ}
 use lib.Dec.{ltb, eqb}
 use lib.ListN.{length, length-replicate}
 use borrow.Author.Tests.{ltb-false, le-ltb}
-use Rattle.refusal.specs.declared.Refusal.{Refusal}
-use Rattle.refusal.specs.declared.Refusal.the-variants.{InputUnfit}
-use Rattle.refusal.specs.declared.Outcome.{Outcome}
-use Rattle.refusal.specs.declared.Outcome.the-variants.{Accepted, Refused}
+use Rattle.refusal.specs.Table.{Answer, accepted, refused, _at_when_, firstDue, Given}
+use Rattle.refusal.proofs.Table.{refused-before, accepted-before, not-due, rows-accepted, none-of}
 use Rattle.plan.specs.declared.Plan.{Plan}
 use Rattle.plan.specs.Rules.{keepsRules}
-use Rattle.plan.specs.Sizes.{neededMarks, neededStrips, neededPixels}
+use Rattle.plan.specs.Sizes.{neededMarks, neededStrips, neededPixels, sizesOf}
 use Rattle.plan.proofs.Record.{rules}
 use Rattle.plan.proofs.Blocks.{count-bounded}
 use Rattle.plan.proofs.Needed.{bounds}
 use Rattle.plan.proofs.Listed.{listed-length}
-use Rattle.plan_reader.specs.Reading.{readPlan}
+use Rattle.plan_reader.specs.Reading.{planRows, readPlan}
 use Rattle.plan_writer.proofs.RoundTripRead.{read-keeps-rules}
-use Rattle.report.specs.declared.ReportAnswer.{ReportAnswer}
-use Rattle.report.specs.declared.ReportAnswer.the-variants.{Refused as NoReport, Made}
+use Rattle.report.specs.Values.{Values}
 use Rattle.report.specs.Report.{report}
-use Rattle.calls.specs.Calls.{Buffers, tooShort}
-use Rattle.whole_job.specs.WholeJob.{wholeOutcome}
+use Rattle.calls.specs.Calls.{lentRows}
+use Rattle.whole_job.specs.WholeJob.{wholeAnswer}
 use Rattle.whole_job.proofs.Steps.{whole-job-done}
 use Rattle.smooth_job.specs.declared.Smoothed.{Smoothed}
-use Rattle.smooth_job.specs.Promises.{SmoothDone}
+use Rattle.smooth_job.specs.Promises.{Smooths, SmoothDone, SmoothTable}
 use Rattle.smooth_job.specs.Program.{
   pixelLimit,
   stripLimit,
-  planLength,
   planWords,
   heightsIn,
+  planIn,
+  countRows,
+  inputRows,
   Asked,
-  unfit,
+  refusedInput,
   job,
-  askedWith,
+  askedBy,
+  mapIn,
   asked,
   jobLists,
   jobAfter,
-  jobAnswer,
-  refusedWith,
+  Line,
+  reportedWith,
+  afterAnswer,
   answerTo,
+  smoothGiven,
   outputOf,
 }
 
@@ -58,59 +60,35 @@ pub record AsksJob (plan : Plan) (heights : List ℤ) : Type 0 where
   pub few : neededPixels plan ≤ pixelLimit
   pub all : length heights ≡ neededPixels plan
 
--- What is asked for with the plan read is what the tests leave.
-record Passes (input : List ℕ) (outcome : Outcome) (read plan : Plan) (heights : List ℤ) : Type 0 where
-  accepted : outcome ≡ Accepted
+-- A job is asked for only where the tests accept.
+record Asks (answer : Answer) (read plan : Plan) (map heights : List ℤ) : Type 0 where
+  tests : answer ≡ accepted
   same-plan : read ≡ plan
-  few : neededPixels read ≤ pixelLimit
-  heights-are : heightsIn input (planLength input) (neededPixels read) ≡ heights
+  same-map : map ≡ heights
 
-passes : (input : List ℕ) (outcome : Outcome) (read plan : Plan) (heights : List ℤ)
-    → askedWith input outcome read ≡ job plan heights → Passes input outcome read plan heights
-passes input (Refused refusal) read plan heights = λ e. let z : _≡_ {A = ℕ} 0 1 = cc in absurd (omega arith)
-passes input Accepted read plan heights =
-    by (ltb pixelLimit (neededPixels read)) refl (eqb (length input / 4) (planLength input + neededPixels read))
-  where
-    by : (a : Bool) → ltb pixelLimit (neededPixels read) ≡ a → (b : Bool)
-        → cond a (unfit InputUnfit)
-        (cond b (job read (heightsIn input (planLength input) (neededPixels read))) (unfit InputUnfit))
-        ≡ job plan heights
-        → Passes input Accepted read plan heights
-    by true f b e = let z : _≡_ {A = ℕ} 0 1 = cc in absurd (omega arith)
-    by false f false e = let z : _≡_ {A = ℕ} 0 1 = cc in absurd (omega arith)
-    by false f true e = record { accepted = refl; same-plan = cc; few = ltb-false _ _ f; heights-are = cc }
+asks : (answer : Answer) (read plan : Plan) (map heights : List ℤ) → askedBy answer read map ≡ job plan heights
+    → Asks answer read plan map heights
+asks accepted read plan map heights e = record { tests = refl; same-plan = cc; same-map = cc }
+asks (refused number place) read plan map heights e = let z : _≡_ {A = ℕ} 0 1 = cc in absurd (omega arith)
 
 pub asks-job : (input : List ℕ) (plan : Plan) (heights : List ℤ) → asked input ≡ job plan heights → AsksJob plan heights
-unfolding asked heightsIn
-asks-job input plan heights = by (eqb (length input % 4) 0)
-  where
-    by : (a : Bool)
-        → cond a (askedWith input (readPlan (planWords input) .outcome) (readPlan (planWords input) .plan)) (unfit InputUnfit)
-        ≡ job plan heights
-        → AsksJob plan heights
-    by false e = let z : _≡_ {A = ℕ} 0 1 = cc in absurd (omega arith)
-    by true e =
-        let given = passes input (readPlan (planWords input) .outcome) (readPlan (planWords input) .plan) plan heights e in
-        record {
-          rules = rw (given .same-plan) at (read-keeps-rules (planWords input) (given .accepted));
-          few = rw (given .same-plan) at (given .few);
-          all = ap length (sym (given .heights-are)) ∙ listed-length _ _ ∙ ap neededPixels (given .same-plan);
-        }
+unfolding asked inputRows countRows heightsIn readPlan
+asks-job input plan heights e =
+    let known = asks (firstDue (inputRows input)) (planIn input) plan (mapIn input (planIn input)) heights e in
+    let words = planWords input in
+    let tests : firstDue (planRows words ++ countRows input (planIn input)) ≡ accepted =
+    not-due (not (eqb (length input % 4) 0)) 13 0 (firstDue (planRows words ++ countRows input (planIn input))) (known .tests) .others in
+    let (read, counts) = rows-accepted (planRows words) (countRows input (planIn input)) tests in
+    let (few, rest) = none-of (countRows input (planIn input)) counts in
+    let kept : keepsRules (planIn input) ≡ true = rw read at (read-keeps-rules words read) in
+    record {
+      rules = rw (known .same-plan) at kept;
+      few = rw (known .same-plan) at (ltb-false pixelLimit (neededPixels (planIn input)) few);
+      all = ap length (sym (known .same-map)) ∙ listed-length _ _ ∙ ap neededPixels (known .same-plan);
+    }
 
--- A job that is asked for is accepted on lists that are long enough, and so on those of the program.
+-- A job that is asked for is accepted on the program's lists, with an output that is long enough.
 module _ (plan : Plan) (heights : List ℤ) (given : AsksJob plan heights) where
-  enough : (lent : Buffers) → neededMarks plan ≤ length (lent .marks) → neededStrips plan ≤ length (lent .strips)
-      → neededPixels plan ≤ length (lent .output) → wholeOutcome plan heights lent ≡ Accepted
-  unfolding wholeOutcome tooShort
-  enough lent marks strips output =
-      rw (
-        given .rules,
-        le-ltb (length heights) (neededPixels plan) (omega (arith, given .all)),
-        le-ltb (length (lent .marks)) (neededMarks plan) marks,
-        le-ltb (length (lent .strips)) (neededStrips plan) strips,
-        le-ltb (length (lent .output)) (neededPixels plan) output,
-      )
-
   few-blocks : neededMarks plan ≤ pixelLimit
   few-blocks =
       let marks : neededMarks plan ≤ neededPixels plan =
@@ -121,35 +99,84 @@ module _ (plan : Plan) (heights : List ℤ) (given : AsksJob plan heights) where
   few-strips =
       mul-le-mul (mul-le-mul few-blocks (rules plan (given .rules) .side-high)) (bounds plan (given .rules) .orders-high)
 
-  accepted : (output : List ℕ) → pixelLimit ≤ length output → wholeOutcome plan heights (jobLists output) ≡ Accepted
-  unfolding jobLists
-  accepted output long =
-      enough (jobLists output) (rw (length-replicate {A = ℕ} pixelLimit 0) few-blocks)
-      (rw (length-replicate {A = ℕ} stripLimit 0) few-strips) (omega (arith, given .few))
+  -- Marks, strips and map are long enough: the output decides.
+  job-answer : (output : List ℕ)
+      → wholeAnswer plan heights (jobLists output) ≡ firstDue (7 at 0 when ltb (length output) (neededPixels plan) ∷ [])
+  unfolding wholeAnswer lentRows sizesOf jobLists
+  job-answer output =
+      rw (
+        given .rules,
+        le-ltb (length (jobLists output .marks)) (neededMarks plan) (rw (length-replicate {A = ℕ} pixelLimit 0) few-blocks),
+        le-ltb (length (jobLists output .strips)) (neededStrips plan) (rw (length-replicate {A = ℕ} stripLimit 0) few-strips),
+        le-ltb (length heights) (neededPixels plan) (omega (arith, given .all)),
+      )
+
+  job-accepted : (output : List ℕ) → neededPixels plan ≤ length output → wholeAnswer plan heights (jobLists output) ≡ accepted
+  job-accepted output long = job-answer output ∙ rw (le-ltb (length output) (neededPixels plan) long)
+
+module _ (plan : Plan) (heights : List ℤ) (given : AsksJob plan heights) (output : List ℕ)
+    (long : neededPixels plan ≤ length output) where
+  smooths : Smooths plan heights output
+  unfolding answerTo outputOf jobAfter jobLists
+  smooths =
+      let done = job-accepted plan heights given output long in
+      let claim = whole-job-done plan heights (jobLists output) done in
+      record { answer = rw (done, claim .report-is); words = claim .serial-words; past = claim .output-past }
 
 pub smooth-done : SmoothDone
-unfolding answerTo outputOf jobAfter
-smooth-done input plan heights output e long =
-    let done = accepted plan heights (asks-job input plan heights e) output long in
-    let claim = whole-job-done plan heights (jobLists output) done in
-    record { answer = rw (done, claim .report-is); words = claim .serial-words }
+smooth-done input plan heights output e long = smooths plan heights (asks-job input plan heights e) output long
+
+-- Where the tests accept, the table's last row decides.
+accepted-row : (plan : Plan) (heights : List ℤ) → AsksJob plan heights → (output : List ℕ)
+    → answerTo (job plan heights) output .answer ≡ firstDue (7 at 0 when ltb (length output) (neededPixels plan) ∷ [])
+unfolding answerTo
+accepted-row plan heights given output = by (ltb (length output) (neededPixels plan)) refl
+  where
+    by : (short : Bool) → ltb (length output) (neededPixels plan) ≡ short
+        → answerTo (job plan heights) output .answer ≡ firstDue (7 at 0 when ltb (length output) (neededPixels plan) ∷ [])
+    by true e = rw (job-answer plan heights given output, e)
+    by false e = rw e (ap (λ (g : Given Line). g .answer) (smooths plan heights given output (ltb-false _ _ e) .answer))
+
+module _ (input : List ℕ) where
+  asked-by : (answer : Answer) → firstDue (inputRows input) ≡ answer
+      → asked input ≡ askedBy answer (planIn input) (mapIn input (planIn input))
+  unfolding asked
+  asked-by answer e = rw e
+
+pub smooth-table : SmoothTable
+unfolding answerTo
+smooth-table input output = by (firstDue (inputRows input)) refl
+  where
+    by : (answer : Answer) → firstDue (inputRows input) ≡ answer
+        → answerTo (asked input) output .answer
+        ≡ firstDue (inputRows input ++ (7 at 0 when ltb (length output) (neededPixels (planIn input)) ∷ []))
+    by (refused number place) e =
+        ap (λ request. answerTo request output .answer) (asked-by input (refused number place) e)
+        ∙ refused-before (inputRows input) _ (sym e)
+    by accepted e =
+        let job-asked = asked-by input accepted e in
+        ap (λ request. answerTo request output .answer) job-asked
+        ∙ accepted-row (planIn input) (mapIn input (planIn input))
+        (asks-job input (planIn input) (mapIn input (planIn input)) job-asked) output
+        ∙ sym (accepted-before (inputRows input) _ (sym e))
 
 -- No answer has more pixels than the limit.
-pub few-pixels : (input output : List ℕ) (r : Smoothed) → r ≡ answerTo (asked input) output → r .rows * r .columns ≤ pixelLimit
+pub few-pixels : (input output : List ℕ) (r : Smoothed) → smoothGiven r ≡ answerTo (asked input) output
+    → r .rows * r .columns ≤ pixelLimit
 unfolding answerTo
-few-pixels input output r e = rw e (by (asked input) refl)
+few-pixels input output r e =
+    rw (← ap (λ (g : Given Line). g .value .rows) e, ← ap (λ (g : Given Line). g .value .columns) e) at (by (asked input) refl)
   where
-    none : (refusal : Refusal) → refusedWith refusal .rows * refusedWith refusal .columns ≤ pixelLimit
-    none refusal = omega arith
-
-    by-report : (plan : Plan) → neededPixels plan ≤ pixelLimit → (outcome : Outcome) (reported : ReportAnswer)
-        → jobAnswer outcome plan reported .rows * jobAnswer outcome plan reported .columns ≤ pixelLimit
-    by-report plan few (Refused refusal) reported = none refusal
-    by-report plan few Accepted (NoReport refusal) = none refusal
-    by-report plan few Accepted (Made progress) = few
+    by-report : (plan : Plan) → neededPixels plan ≤ pixelLimit → (whole reported : Answer) (values : Values)
+        → let given = afterAnswer whole (reportedWith plan (record { answer = reported; value = values })) in
+        given .value .rows * given .value .columns ≤ pixelLimit
+    by-report plan few (refused number place) reported values = omega arith
+    by-report plan few accepted (refused number place) values = omega arith
+    by-report plan few accepted accepted values = few
 
     by : (request : Asked) → asked input ≡ request
-        → answerTo request output .rows * answerTo request output .columns ≤ pixelLimit
-    by (unfit refusal) f = none refusal
-    by (job plan heights) f = by-report plan (asks-job input plan heights f .few)
-        (wholeOutcome plan heights (jobLists output)) (report plan (jobAfter plan heights output .marks))
+        → answerTo request output .value .rows * answerTo request output .value .columns ≤ pixelLimit
+    by (refusedInput number place) f = omega arith
+    by (job plan heights) f =
+        by-report plan (asks-job input plan heights f .few) (wholeAnswer plan heights (jobLists output))
+        (report plan (jobAfter plan heights output .marks) .answer) (report plan (jobAfter plan heights output .marks) .value)

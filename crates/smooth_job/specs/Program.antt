@@ -1,25 +1,31 @@
 -- Document 01's program: what its input asks for, what it answers, and the output words that it prints.
-use mathlib.Core.Bool.{cond}
-use mathlib.Core.List.{List}
+use mathlib.Core.Bool.{not, cond}
+use mathlib.Core.List.{List, [], _∷_, _++_}
 use Prim.Native.Nat.{ℕ, zero, suc, _+_, _-_, _*_, _/_, _%_, min}
 use lib.IntN.{ℤ, pos, negsuc}
 use lib.Dec.{ltb, leb, eqb}
 use lib.ListN.{length, getD, replicate}
-use Rattle.refusal.specs.declared.Refusal.{Refusal}
-use Rattle.refusal.specs.declared.Refusal.the-variants.{InputUnfit}
-use Rattle.refusal.specs.declared.Outcome.{Outcome}
-use Rattle.refusal.specs.declared.Outcome.the-variants.{Accepted, Refused}
+use Rattle.refusal.specs.Table.{
+  Answer,
+  accepted,
+  refused,
+  Row,
+  _at_when_,
+  firstDue,
+  answerOf,
+  Given,
+  given,
+}
 use Rattle.plan.specs.declared.Plan.{Plan}
 use Rattle.plan.specs.Rules.{orderLimit}
 use Rattle.plan.specs.Sizes.{neededPixels}
 use Rattle.plan.specs.Lists.{listOf}
 use Rattle.plan_reader.specs.Layout.{kindOf}
-use Rattle.plan_reader.specs.Reading.{readPlan}
-use Rattle.report.specs.declared.ReportAnswer.{ReportAnswer}
-use Rattle.report.specs.declared.ReportAnswer.the-variants.{Refused as NoReport, Made}
+use Rattle.plan_reader.specs.Reading.{planRows, planFrom}
+use Rattle.report.specs.Values.{Values}
 use Rattle.report.specs.Report.{report}
 use Rattle.calls.specs.Calls.{Buffers, lists}
-use Rattle.whole_job.specs.WholeJob.{wholeOutcome, afterWholeJob}
+use Rattle.whole_job.specs.WholeJob.{wholeAnswer, afterWholeJob}
 use Rattle.smooth_job.specs.declared.Smoothed.{Smoothed}
 
 -- ---- the input
@@ -61,24 +67,43 @@ heightsIn input first n = listOf (λ q. signed32 (wordIn input (first + q))) n
 
 -- ---- what the input asks for
 
--- A job on a map, or a refusal.
+-- The plan that its words hold.
+abbrev pub planIn : List ℕ → Plan
+planIn input = planFrom (planWords input)
+
+-- With a plan read: 13 if the map has too many pixels, 13 if heights are missing or too many.
+unfoldable pub countRows : List ℕ → Plan → List Row
+countRows input plan =
+    13 at 0 when ltb pixelLimit (neededPixels plan)
+    ∷ 13 at 0 when not (eqb (length input / 4) (planLength input + neededPixels plan))
+    ∷ []
+
+-- The program's tests in their order: 13 if the bytes are not whole words, those of the plan's words, those of the counts.
+unfoldable pub inputRows : List ℕ → List Row
+inputRows input =
+    13 at 0 when not (eqb (length input % 4) 0) ∷ (planRows (planWords input) ++ countRows input (planIn input))
+
+-- A job on a map, or a refusal by a number with a place.
 pub data Asked : Type 0 where
-  unfit : Refusal → Asked
+  refusedInput : (number place : ℕ) → Asked
   job : Plan → List ℤ → Asked
 
--- With the plan read: its refusal; 13 if the map has too many pixels; 13 if heights are missing or too many.
-abbrev pub askedWith : List ℕ → Outcome → Plan → Asked
-askedWith input (Refused refusal) plan = unfit refusal
-askedWith input Accepted plan =
-    cond (ltb pixelLimit (neededPixels plan)) (unfit InputUnfit)
-    (cond (eqb (length input / 4) (planLength input + neededPixels plan))
-    (job plan (heightsIn input (planLength input) (neededPixels plan))) (unfit InputUnfit))
+-- What an answer to the tests comes to.
+abbrev pub askedBy : Answer → Plan → List ℤ → Asked
+askedBy accepted plan heights = job plan heights
+askedBy (refused number place) plan heights = refusedInput number place
 
--- 13 if the bytes are not whole words, and then by the plan.
+-- With a plan read, as many heights behind its words as it has pixels.
+abbrev pub mapIn : List ℕ → Plan → List ℤ
+mapIn input plan = heightsIn input (planLength input) (neededPixels plan)
+
+-- What the input asks for.
 unfoldable pub asked : List ℕ → Asked
-asked input =
-    cond (eqb (length input % 4) 0)
-    (askedWith input (readPlan (planWords input) .outcome) (readPlan (planWords input) .plan)) (unfit InputUnfit)
+asked input = askedBy (firstDue (inputRows input)) (planIn input) (mapIn input (planIn input))
+
+-- What it asks for with a plan read.
+abbrev pub askedWith : List ℕ → Plan → Asked
+askedWith input plan = askedBy (firstDue (countRows input plan)) plan (mapIn input plan)
 
 -- ---- the answer
 
@@ -94,36 +119,59 @@ jobLists output = lists (replicate pixelLimit 0) (replicate stripLimit 0) output
 unfoldable pub jobAfter : Plan → List ℤ → List ℕ → Buffers
 jobAfter plan heights output = afterWholeJob plan heights (jobLists output)
 
--- Beside a refusal all are zeros.
-abbrev pub refusedWith : Refusal → Smoothed
-refusedWith refusal = record { outcome = Refused refusal; rows = 0; columns = 0; marked = 0; tally = 0 }
+-- The numbers of the first line that is printed.
+pub record Line : Type 0 where
+  pub rows : ℕ
+  pub columns : ℕ
+  pub tasks : ℕ
+  pub tally : ℕ
 
--- The size, the tasks marked and the tally of a report.
-abbrev pub reportedWith : Plan → ReportAnswer → Smoothed
-reportedWith plan (NoReport refusal) = refusedWith refusal
-reportedWith plan (Made progress) =
-    record {
-      outcome = Accepted;
-      rows = plan .rows;
-      columns = plan .columns;
-      marked = progress .marked;
-      tally = progress .tally;
-    }
+-- All of them 0.
+abbrev pub zeroLine : Line
+zeroLine = record { rows = 0; columns = 0; tasks = 0; tally = 0 }
 
--- The answer to a job: that of a report on the marks after it.
-abbrev pub jobAnswer : Outcome → Plan → ReportAnswer → Smoothed
-jobAnswer (Refused refusal) plan reported = refusedWith refusal
-jobAnswer Accepted plan reported = reportedWith plan reported
+-- The size, and the tasks marked and the tally of a report.
+abbrev pub lineOf : Plan → Values → Line
+lineOf plan values =
+    record { rows = plan .rows; columns = plan .columns; tasks = values .count; tally = values .tally }
 
--- What is answered.
-unfoldable pub answerTo : Asked → List ℕ → Smoothed
-answerTo (unfit refusal) output = refusedWith refusal
+-- The line of a report on a plan's marks; zeros beside a refusal.
+abbrev pub reportedWith : Plan → Given Values → Given Line
+reportedWith plan reported = given (reported .answer) (lineOf plan (reported .value)) zeroLine
+
+-- What is answered where all is zeros but a refusal's number and place.
+abbrev pub refusedWith : (number place : ℕ) → Given Line
+refusedWith number place = record { answer = refused number place; value = zeroLine }
+
+-- What is answered with an answer first: where it refuses, it decides.
+abbrev pub afterAnswer : Answer → Given Line → Given Line
+afterAnswer accepted later = later
+afterAnswer (refused number place) later = refusedWith number place
+
+-- What is answered: to a job 7 where the output is too short for it, else after the job what the report says of its marks.
+unfoldable pub answerTo : Asked → List ℕ → Given Line
+answerTo (refusedInput number place) output = refusedWith number place
 answerTo (job plan heights) output =
-    jobAnswer (wholeOutcome plan heights (jobLists output)) plan (report plan (jobAfter plan heights output .marks))
+    afterAnswer (wholeAnswer plan heights (jobLists output))
+    (reportedWith plan (report plan (jobAfter plan heights output .marks)))
+
+-- Document 01's number and place, and the line, that `smooth` answers.
+abbrev pub smoothGiven : Smoothed → Given Line
+smoothGiven smoothed =
+    record {
+      answer = answerOf (smoothed .outcome);
+      value =
+          record {
+            rows = smoothed .rows;
+            columns = smoothed .columns;
+            tasks = smoothed .marked;
+            tally = smoothed .tally;
+          };
+    }
 
 -- The output words: of a job those after it, and beside a refusal as they were.
 unfoldable pub outputOf : Asked → List ℕ → List ℕ
-outputOf (unfit refusal) output = output
+outputOf (refusedInput number place) output = output
 outputOf (job plan heights) output = jobAfter plan heights output .output
 
 -- ---- long inputs

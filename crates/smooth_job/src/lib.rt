@@ -1,5 +1,6 @@
 // Document 01's program on its input: the tests, the plan, the heights, and the whole job. Reading and printing are left to main.
 use plan::Plan;
+use plan::PlanSizes;
 use plan_reader::PlanRead;
 use refusal::Outcome;
 use refusal::Refusal;
@@ -9,11 +10,12 @@ ghost use mathlib.Core.Bool.{true};
 ghost use Prim.Native.Nat.{_+_, _*_, _/_, _<_, _≤_};
 ghost use lib.ListN.{length, getD, replicate};
 ghost use Rattle.plan.specs.Rules.{keepsRules};
-ghost use Rattle.refusal.specs.declared.Outcome.the-variants.{Accepted};
+ghost use Rattle.refusal.specs.Refusals.{numberOf, placeOf};
+ghost use Rattle.plan.specs.Sizes.{neededPixels};
 ghost use Rattle.plan.specs.Lists.{listOf};
-ghost use Rattle.plan_reader.specs.Reading.{readPlan};
+ghost use Rattle.plan_reader.specs.Reading.{readPlan, readGiven};
 ghost use Rattle.report.specs.Report.{report};
-ghost use Rattle.smooth_job.specs.Program.{planLimit, pixelLimit, stripLimit, wordIn, planLength, signed32, heightsIn, job, asked, askedWith, refusedWith, reportedWith, answerTo, outputOf, cutLimit, cutLength};
+ghost use Rattle.smooth_job.specs.Program.{planLimit, pixelLimit, stripLimit, wordIn, planLength, signed32, heightsIn, job, asked, askedWith, refusedWith, reportedWith, answerTo, smoothGiven, outputOf, cutLimit, cutLength};
 
 // The most words of a plan: `planLimit` of specs/Program.antt is the same number, and so are the next two with theirs.
 pub const PLAN_LIMIT: usize = 11 + 4 * plan::ORDER_LIMIT;
@@ -38,7 +40,7 @@ pub struct Smoothed {
 
 // Does the whole job that the input asks for, its words in the output.
 pub fn smooth(input: &[u8], output: &mut [u64]) -> Smoothed
-    ensures answer { λ r. ⌜ r ≡ answerTo (asked (now (input .entry))) (now (output .entry)) ⌝ }
+    ensures answer { λ r. ⌜ smoothGiven r ≡ answerTo (asked (now (input .entry))) (now (output .entry)) ⌝ }
     ensures output { λ _. ⌜ now (output .exit) ≡ outputOf (asked (now (input .entry))) (now (output .entry)) ⌝ }
 {
     if input.len() % 4 != 0 {
@@ -69,7 +71,7 @@ pub fn cut_length(length: usize) -> usize
 }
 
 fn refused(refusal: Refusal) -> Smoothed
-    ensures { λ r. ⌜ r ≡ refusedWith refusal ⌝ }
+    ensures { λ r. ⌜ smoothGiven r ≡ refusedWith (numberOf refusal) (placeOf refusal) ⌝ }
 {
     Smoothed {
         outcome: Outcome::Refused(refusal),
@@ -90,7 +92,7 @@ fn byte_at(input: &[u8], at: usize) -> u32
 }
 
 // A word of the input, its lowest byte first.
-fn word_at(input: &[u8], i: usize) -> u32
+pub fn word_at(input: &[u8], i: usize) -> u32
     requires { ⌜ 4 * i + 3 < length (now input) ⌝ }
     ensures { λ r. ⌜ r ≡ wordIn (now (input .entry)) i ⌝ }
 {
@@ -101,7 +103,7 @@ fn word_at(input: &[u8], i: usize) -> u32
 }
 
 // How many words the plan has: up to its first word of kind 6, looking at the limit at most.
-fn plan_length(input: &[u8]) -> usize
+pub fn plan_length(input: &[u8]) -> usize
     ensures { λ r. ⌜ r ≡ planLength (now (input .entry)) ⌝ }
 {
     let most = tasks::smaller(input.len() / 4, PLAN_LIMIT);
@@ -118,7 +120,7 @@ fn plan_length(input: &[u8]) -> usize
 // The plan in the first words of the input.
 fn plan_in(input: &[u8], count: usize) -> PlanRead
     requires { ⌜ (count ≤ planLimit) × (count ≤ length (now input) / 4) ⌝ }
-    ensures { λ r. ⌜ r ≡ readPlan (listOf (wordIn (now (input .entry))) count) ⌝ }
+    ensures { λ r. ⌜ readGiven r ≡ readPlan (listOf (wordIn (now (input .entry))) count) ⌝ }
 {
     let mut words = [0; PLAN_LIMIT];
     let mut i = 0;
@@ -131,7 +133,7 @@ fn plan_in(input: &[u8], count: usize) -> PlanRead
 }
 
 // A word of 32 bits as a height, two's complement.
-fn decode_signed32(word: u32) -> i32
+pub fn decode_signed32(word: u32) -> i32
     ensures { λ r. ⌜ r ≡ signed32 word ⌝ }
 {
     if word < 2147483648 {
@@ -150,13 +152,31 @@ fn height_at(input: &[u8], i: usize) -> i32
 
 // ---- the job
 
-// With a plan that was read, its words the first of the input: the pixels, then the number of heights, then the job.
+// With a plan that was read, its words the first of the input.
 fn smooth_plan(plan: Plan, first: usize, input: &[u8], output: &mut [u64]) -> Smoothed
     requires { ⌜ (keepsRules plan ≡ true) × (first ≡ planLength (now input)) × (first ≤ planLimit) ⌝ }
-    ensures answer { λ r. ⌜ r ≡ answerTo (askedWith (now (input .entry)) Accepted plan) (now (output .entry)) ⌝ }
-    ensures output { λ _. ⌜ now (output .exit) ≡ outputOf (askedWith (now (input .entry)) Accepted plan) (now (output .entry)) ⌝ }
+    ensures answer { λ r. ⌜ smoothGiven r ≡ answerTo (askedWith (now (input .entry)) plan) (now (output .entry)) ⌝ }
+    ensures output { λ _. ⌜ now (output .exit) ≡ outputOf (askedWith (now (input .entry)) plan) (now (output .entry)) ⌝ }
 {
-    let pixels = plan.rows * plan.columns;
+    let known = plan.sizes();
+    match known {
+        PlanSizes::Known(sizes) => smooth_counted(plan, first, sizes.pixels, input, output),
+        PlanSizes::Refused(refusal) => refused(refusal),
+    }
+}
+
+// The pixels, then the number of heights, then the job.
+fn smooth_counted(
+    plan: Plan,
+    first: usize,
+    pixels: usize,
+    input: &[u8],
+    output: &mut [u64],
+) -> Smoothed
+    requires { ⌜ (pixels ≡ neededPixels plan) × (first ≡ planLength (now input)) × (first ≤ planLimit) ⌝ }
+    ensures answer { λ r. ⌜ smoothGiven r ≡ answerTo (askedWith (now (input .entry)) plan) (now (output .entry)) ⌝ }
+    ensures output { λ _. ⌜ now (output .exit) ≡ outputOf (askedWith (now (input .entry)) plan) (now (output .entry)) ⌝ }
+{
     if PIXEL_LIMIT < pixels {
         return refused(Refusal::InputUnfit);
     }
@@ -169,7 +189,7 @@ fn smooth_plan(plan: Plan, first: usize, input: &[u8], output: &mut [u64]) -> Sm
 // The job on the heights from a word of the input on.
 fn smooth_map(plan: Plan, first: usize, pixels: usize, input: &[u8], output: &mut [u64]) -> Smoothed
     requires { ⌜ (pixels ≤ pixelLimit) × (first + pixels ≤ length (now input) / 4) ⌝ }
-    ensures answer { λ r. ⌜ r ≡ answerTo (job plan (heightsIn (now (input .entry)) first pixels)) (now (output .entry)) ⌝ }
+    ensures answer { λ r. ⌜ smoothGiven r ≡ answerTo (job plan (heightsIn (now (input .entry)) first pixels)) (now (output .entry)) ⌝ }
     ensures output { λ _. ⌜ now (output .exit) ≡ outputOf (job plan (heightsIn (now (input .entry)) first pixels)) (now (output .entry)) ⌝ }
 {
     let mut heights = [0; PIXEL_LIMIT];
@@ -184,7 +204,7 @@ fn smooth_map(plan: Plan, first: usize, pixels: usize, input: &[u8], output: &mu
 
 // The whole job, with marks and strips of its own, and the report after it.
 fn smooth_heights(plan: Plan, map: &[i32], output: &mut [u64]) -> Smoothed
-    ensures answer { λ r. ⌜ r ≡ answerTo (job plan (now (map .entry))) (now (output .entry)) ⌝ }
+    ensures answer { λ r. ⌜ smoothGiven r ≡ answerTo (job plan (now (map .entry))) (now (output .entry)) ⌝ }
     ensures output { λ _. ⌜ now (output .exit) ≡ outputOf (job plan (now (map .entry))) (now (output .entry)) ⌝ }
 {
     let mut marks = fresh_marks();
@@ -210,7 +230,7 @@ fn fresh_strips() -> [u64; STRIP_LIMIT]
 
 // The size and what the report says of the marks.
 fn reported(plan: Plan, marks: &[u32]) -> Smoothed
-    ensures { λ r. ⌜ r ≡ reportedWith plan (report plan (now (marks .entry))) ⌝ }
+    ensures { λ r. ⌜ smoothGiven r ≡ reportedWith plan (report plan (now (marks .entry))) ⌝ }
 {
     let answer = report::report(plan, marks);
     match answer {

@@ -1,21 +1,19 @@
 -- What the marks say to a call: the least broken mark among those looked at, pass by pass; and on marks that show what is done
--- the verdict is the one by what is done, accepted exactly where the task is ready. Assumes nothing.
+-- the answer is the one by what is done, accepted exactly where the task is ready. Assumes nothing.
 use mathlib.Core.Path.{_≡_, refl, sym, _∙_}
 use mathlib.Core.Bool.{Bool, true, false, not, _&&_, cond, true≢false}
 use mathlib.Core.List.{List, [], _∷_, _++_}
 use Prim.Native.Nat.{ℕ, zero, suc, _+_, _*_, _^_, _<_, _≤_, min}
 use native.Mathlib.Omega.{arith}
 use native.Mathlib.Numerals.{add-one}
-use lib.Dec.{ltb}
 use lib.ListN.{getD}
-use borrow.Author.Tests.{le-ltb, ltb-false}
-use Rattle.refusal.specs.declared.Refusal.the-variants.{NoSuchTask, MarkBroken, AlreadyMarked, NeedUnmarked}
-use Rattle.refusal.specs.declared.Outcome.{Outcome}
-use Rattle.refusal.specs.declared.Outcome.the-variants.{Accepted, Refused}
+use borrow.Author.Tests.{le-ltb, ltb-false, not-false}
+use Rattle.refusal.specs.Table.{Answer, accepted, _at_when_, firstDue}
+use Rattle.refusal.proofs.Table.{not-due}
 use Rattle.tasks.specs.Tasks.{exists, BlockTask, needIf, needsOf, allDone, ready}
 use Rattle.tasks.specs.Neighbours.{hasNeighbour, neighbour}
 use Rattle.tasks.specs.Marks.{isMarked, markValidAt, Shows}
-use Rattle.tasks.specs.Verdict.{blocksOf, lookedAt, brokenAt, leastBrokenOf, leastBroken, brokenBeside, verdict, verdictOf}
+use Rattle.tasks.specs.Verdict.{blocksOf, lookedAt, brokenAt, leastBrokenOf, leastBroken, brokenBeside, verdictRows, doneRows}
 use Rattle.tasks.proofs.Places.{exists-block, exists-task, beside}
 use Rattle.tasks.proofs.Needs.{linkNeeds, needs-are, needs-collect, needs-same}
 use Rattle.tasks.proofs.Counting.{Only}
@@ -120,13 +118,13 @@ module _ (M N : ℕ) (marks : List ℕ) where
         by true l = refl
         by false l = absurd (omega arith)
 
--- On marks that show what is done, the verdict is the one by what is done.
+-- On marks that show what is done, the answer is the one by what is done.
 pub verdict-shown : (M N : ℕ) (done : ℕ → ℕ → Bool) (marks : List ℕ) → Shows M N done marks → Only M N done → (t k : ℕ)
-    → verdict M N marks t k ≡ verdictOf M N done t k
-unfolding verdict verdictOf
+    → firstDue (verdictRows M N marks t k) ≡ firstDue (doneRows M N done t k)
+unfolding verdictRows doneRows
 verdict-shown M N done marks shows only t k = by (exists M N t k) refl
   where
-    by : (x : Bool) → exists M N t k ≡ x → verdict M N marks t k ≡ verdictOf M N done t k
+    by : (x : Bool) → exists M N t k ≡ x → firstDue (verdictRows M N marks t k) ≡ firstDue (doneRows M N done t k)
     by true e =
         let l = exists-task M N t k e in
         let h = exists-block M N t k e in
@@ -140,24 +138,24 @@ verdict-shown M N done marks shows only t k = by (exists M N t k) refl
 
 -- Accepted exactly where ready.
 module _ (M N : ℕ) (done : ℕ → ℕ → Bool) (t k : ℕ) where
-  decided : Bool → Bool → Bool → Outcome
-  decided x d a = cond x (cond d (Refused AlreadyMarked) (cond a Accepted (Refused NeedUnmarked))) (Refused NoSuchTask)
+  decided : Bool → Bool → Bool → Answer
+  decided x d a = firstDue (8 at 0 when not x ∷ 10 at 0 when d ∷ 11 at 0 when not a ∷ [])
 
-  pub accepted-ready : verdictOf M N done t k ≡ Accepted → ready M N done t k ≡ true
-  unfolding verdictOf ready decided
+  pub accepted-ready : firstDue (doneRows M N done t k) ≡ accepted → ready M N done t k ≡ true
+  unfolding doneRows ready decided
   accepted-ready = by (exists M N t k) (done t k) (allDone done (needsOf M N t k))
     where
-      by : (x d a : Bool) → decided x d a ≡ Accepted → (x && (not d && a)) ≡ true
+      by : (x d a : Bool) → decided x d a ≡ accepted → (x && (not d && a)) ≡ true
       by true true a e = cc
       by true false true e = refl
       by true false false e = cc
       by false d a e = cc
 
-  pub ready-accepted : ready M N done t k ≡ true → verdictOf M N done t k ≡ Accepted
-  unfolding verdictOf ready decided
+  pub ready-accepted : ready M N done t k ≡ true → firstDue (doneRows M N done t k) ≡ accepted
+  unfolding doneRows ready decided
   ready-accepted = by (exists M N t k) (done t k) (allDone done (needsOf M N t k))
     where
-      by : (x d a : Bool) → (x && (not d && a)) ≡ true → decided x d a ≡ Accepted
+      by : (x d a : Bool) → (x && (not d && a)) ≡ true → decided x d a ≡ accepted
       by true true a e = absurd (true≢false (sym e))
       by true false true e = refl
       by true false false e = absurd (true≢false (sym e))
@@ -169,19 +167,14 @@ pub record Settable (M N : ℕ) (marks : List ℕ) (t k : ℕ) : Type 0 where
   pub block : k < M * N
   pub room : getD marks k 0 + 2 ^ t < 2 ^ 32
 
-pub accepted-settable : (M N : ℕ) (marks : List ℕ) (t k : ℕ) → verdict M N marks t k ≡ Accepted → Settable M N marks t k
-unfolding verdict
-accepted-settable M N marks t k e = by (exists M N t k) (ltb (leastBroken M N marks t k) (M * N)) refl refl e
-  where
-    rest : Outcome
-    rest = cond (isMarked marks t k) (Refused AlreadyMarked) (cond (allDone (isMarked marks) (needsOf M N t k)) Accepted (Refused NeedUnmarked))
-
-    by : (x y : Bool) → exists M N t k ≡ x → ltb (leastBroken M N marks t k) (M * N) ≡ y
-        → cond x (cond y (Refused (MarkBroken (leastBroken M N marks t k))) rest) (Refused NoSuchTask) ≡ Accepted → Settable M N marks t k
-    by true true p q e = let z : _≡_ {A = ℕ} 0 1 = cc in absurd (omega arith)
-    by true false p q e =
-        let l = exists-task M N t k p in
-        let h = exists-block M N t k p in
-        let valid = own-valid M N marks k h t (ltb-false (leastBroken M N marks t k) (M * N) q) in
-        record { task = l; block = h; room = valid-room M N k (getD marks k 0) valid t l }
-    by false y p q e = let z : _≡_ {A = ℕ} 0 1 = cc in absurd (omega arith)
+pub accepted-settable : (M N : ℕ) (marks : List ℕ) (t k : ℕ) → firstDue (verdictRows M N marks t k) ≡ accepted
+    → Settable M N marks t k
+unfolding verdictRows
+accepted-settable M N marks t k e =
+    let there = not-due _ _ _ _ e in
+    let whole = not-due _ _ _ _ (there .others) in
+    let exist = not-false (exists M N t k) (there .first) in
+    let l = exists-task M N t k exist in
+    let h = exists-block M N t k exist in
+    let valid = own-valid M N marks k h t (ltb-false (leastBroken M N marks t k) (M * N) (whole .first)) in
+    record { task = l; block = h; room = valid-room M N k (getD marks k 0) valid t l }

@@ -1,11 +1,9 @@
--- What the marks say to a call of task t at block k: refusals 8 to 11 in that order, or accepted.
-use mathlib.Core.Bool.{Bool, cond}
+-- What the marks say to a call of task t at block k: rows 8 to 11 of the table of refused calls.
+use mathlib.Core.Bool.{Bool, not, cond}
 use mathlib.Core.List.{List, [], _∷_}
 use Prim.Native.Nat.{ℕ, _*_, min}
 use lib.Dec.{ltb}
-use Rattle.refusal.specs.declared.Refusal.the-variants.{NoSuchTask, MarkBroken, AlreadyMarked, NeedUnmarked}
-use Rattle.refusal.specs.declared.Outcome.{Outcome}
-use Rattle.refusal.specs.declared.Outcome.the-variants.{Accepted, Refused}
+use Rattle.refusal.specs.Table.{Row, _at_when_}
 use Rattle.tasks.specs.Tasks.{BlockTask, exists, needsOf, allDone}
 use Rattle.tasks.specs.Neighbours.{hasNeighbour, neighbour}
 use Rattle.tasks.specs.Marks.{isMarked, markValidAt}
@@ -32,24 +30,23 @@ leastBrokenOf M N marks (k ∷ ks) = min (brokenAt M N marks k) (leastBrokenOf M
 unfoldable pub leastBroken : ℕ → ℕ → List ℕ → ℕ → ℕ → ℕ
 leastBroken M N marks t k = leastBrokenOf M N marks (lookedAt M N t k)
 
--- The outcome of the call, as far as the marks decide it.
-unfoldable pub verdict : ℕ → ℕ → List ℕ → ℕ → ℕ → Outcome
-verdict M N marks t k =
-    cond (exists M N t k)
-    (cond (ltb (leastBroken M N marks t k) (M * N)) (Refused (MarkBroken (leastBroken M N marks t k)))
-    (cond (isMarked marks t k) (Refused AlreadyMarked)
-    (cond (allDone (isMarked marks) (needsOf M N t k)) Accepted
-    (Refused NeedUnmarked))))
-    (Refused NoSuchTask)
+-- What the marks say to the call: 8 where there is no such block or task, 9 at the least broken mark that is looked at, 10 where the
+-- task is marked, 11 where a need of it is not.
+unfoldable pub verdictRows : ℕ → ℕ → List ℕ → ℕ → ℕ → List Row
+verdictRows M N marks t k =
+    8 at 0 when not (exists M N t k)
+    ∷ 9 at leastBroken M N marks t k when ltb (leastBroken M N marks t k) (M * N)
+    ∷ 10 at 0 when isMarked marks t k
+    ∷ 11 at 0 when not (allDone (isMarked marks) (needsOf M N t k))
+    ∷ []
 
--- The outcome of the call by what is done alone, with no look at marks.
-unfoldable pub verdictOf : ℕ → ℕ → (ℕ → ℕ → Bool) → ℕ → ℕ → Outcome
-verdictOf M N done t k =
-    cond (exists M N t k)
-    (cond (done t k) (Refused AlreadyMarked)
-    (cond (allDone done (needsOf M N t k)) Accepted
-    (Refused NeedUnmarked)))
-    (Refused NoSuchTask)
+-- The same by what is done alone, with no look at marks, so that no mark can be broken.
+unfoldable pub doneRows : ℕ → ℕ → (ℕ → ℕ → Bool) → ℕ → ℕ → List Row
+doneRows M N done t k =
+    8 at 0 when not (exists M N t k)
+    ∷ 10 at 0 when done t k
+    ∷ 11 at 0 when not (allDone done (needsOf M N t k))
+    ∷ []
 
 -- The neighbour that a pass comes from, where there is one and its mark has a wrong kind or a spare bit; M×N where not.
 unfoldable pub brokenBeside : ℕ → ℕ → List ℕ → ℕ → ℕ → ℕ

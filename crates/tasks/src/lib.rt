@@ -6,11 +6,12 @@ ghost use mathlib.Core.Path.{_≡_};
 ghost use mathlib.Core.Bool.{true};
 ghost use Prim.Native.Nat.{_<_, _≤_, _+_, _*_, _^_, min};
 ghost use lib.ListN.{length, getD};
+ghost use Rattle.refusal.specs.Table.{firstDue, answerOf};
 ghost use Rattle.plan.specs.Rules.{allBelow};
 ghost use Rattle.tasks.specs.Tasks.{hasTask, exists, needsOf, allDone, ready};
 ghost use Rattle.tasks.specs.Neighbours.{hasNeighbour, neighbour, linkDone};
 ghost use Rattle.tasks.specs.Marks.{hasBit, isMarked, spareClear, markValid, withBit};
-ghost use Rattle.tasks.specs.Verdict.{brokenAt, brokenBeside, leastBroken, verdict};
+ghost use Rattle.tasks.specs.Verdict.{brokenAt, brokenBeside, leastBroken, verdictRows};
 ghost use Rattle.tasks.specs.Grid.{Grid, Lent, LentAt};
 
 // Tasks 0 to 5: collect, the links down, up, right and left, finish.
@@ -315,7 +316,7 @@ pub fn verdict(
     block: usize,
 ) -> Outcome
     requires { ⌜ Lent «block_rows» «block_columns» (length (now marks)) ⌝ }
-    ensures { λ r. ⌜ r ≡ verdict «block_rows» «block_columns» (now (marks .entry)) task block ⌝ }
+    ensures { λ r. ⌜ answerOf r ≡ firstDue (verdictRows «block_rows» «block_columns» (now (marks .entry)) task block) ⌝ }
 {
     if !exists(block_rows, block_columns, task, block) {
         return Outcome::Refused(Refusal::NoSuchTask);

@@ -1,4 +1,5 @@
 -- A whole job leaves what the serial call leaves, and its table gives the heights' sums. Assumes nothing.
+use mathlib.Core.Path.{_∙_}
 use native.Mathlib.Omega.{arith}
 use lib.ListN.{length}
 use Rattle.plan.specs.Sizes.{neededPixels}
@@ -6,7 +7,7 @@ use Rattle.blocks.specs.Writes.{mapOf}
 use Rattle.blocks.proofs.Geometry.{pixel-below}
 use Rattle.calls.proofs.Demand.{start-accepts, demand3}
 use Rattle.serial.specs.Serial.{serialWords}
-use Rattle.serial.proofs.Answers.{long-enough, accepted}
+use Rattle.serial.proofs.Answers.{long-enough, output-of-accepted}
 use Rattle.serial.proofs.Lists.{first-words}
 use Rattle.rectangle.proofs.Heights.{sums-heights}
 use Rattle.totals.specs.Totals.{JobIsSerial, JobSumsHeights}
@@ -17,15 +18,14 @@ unfolding serialWords mapOf
 job-is-serial plan heights lent calls job =
     let claim = demand3 plan heights lent (job .start-accepts) (job .map-long) (job .output-long) calls in
     let kept = start-accepts plan (lent .marks) (lent .strips) (job .start-accepts) .rules in
-    accepted plan heights (lent .output) _
-    (long-enough plan (length heights) (length (lent .output)) kept (job .map-long) (job .output-long))
-    (first-words (neededPixels plan) _ (lent .output) _ (job .output-long) (claim .output-length)
+    first-words (neededPixels plan) _ (lent .output) _ (job .output-long) (claim .output-length)
     (claim .whole-job (job .all-done))
-    (λ q past. claim .other-output q (λ k y x finished a b e. omega (arith, pixel-below plan k y x a b))))
-    .1
+    (λ q past. claim .other-output q (λ k y x finished a b e. omega (arith, pixel-below plan k y x a b)))
+    ∙ output-of-accepted plan heights (lent .output)
+    (long-enough plan (length heights) (length (lent .output)) kept (job .map-long) (job .output-long))
 
 pub job-sums-heights : JobSumsHeights
-job-sums-heights plan heights lent calls job passes top left bottom right inside =
+job-sums-heights plan heights lent calls job passes top left bottom right rows columns bottom-in right-in =
     rw (job-is-serial plan heights lent calls job)
     (sums-heights plan (start-accepts plan (lent .marks) (lent .strips) (job .start-accepts) .rules) passes heights (lent .output)
-    (job .map-long) (job .output-long) top left bottom right inside)
+    (job .map-long) (job .output-long) top left bottom right rows columns bottom-in right-in)

@@ -1,29 +1,28 @@
 -- A whole job is done: its steps are a list of calls, each of which makes one more task done, and demand 3 holds of that list.
 -- Assumes nothing.
 use mathlib.Core.Path.{_≡_, refl, sym, ap, _∙_}
-use mathlib.Core.Bool.{Bool, true, false, _||_, cond}
+use mathlib.Core.Bool.{Bool, true}
 use mathlib.Core.List.{List, [], _∷_, _++_}
 use Prim.Native.Nat.{ℕ, zero, suc, _+_, _≤_, _<_}
 use native.Mathlib.Omega.{arith}
 use lib.IntN.{ℤ}
-use lib.Dec.{ltb}
 use lib.ListN.{length}
-use borrow.Author.Tests.{ltb-false, le-ltb}
-use Rattle.refusal.specs.declared.Refusal.the-variants.{RecordBreaksRule, BufferTooShort}
-use Rattle.refusal.specs.declared.Outcome.the-variants.{Accepted, Refused}
+use borrow.Author.Tests.{ltb-false, not-false}
+use Rattle.refusal.specs.Table.{accepted}
+use Rattle.refusal.proofs.Table.{not-due}
 use Rattle.plan.specs.declared.Plan.{Plan}
 use Rattle.plan.specs.Rules.{keepsRules}
-use Rattle.plan.specs.Sizes.{blockRows, blockColumns, neededMarks, neededStrips, neededPixels, taskCount}
+use Rattle.plan.specs.Sizes.{blockRows, blockColumns, neededMarks, neededStrips, neededPixels, taskCount, sizesOf}
 use Rattle.tasks.specs.Tasks.{BlockTask, ready, nothingDone}
 use Rattle.tasks.proofs.Counting.{count-nothing}
 use Rattle.tasks.proofs.Progress.{count-ready}
-use Rattle.report.specs.declared.ReportAnswer.the-variants.{Made}
-use Rattle.report.proofs.Claims.{found-ready}
+use Rattle.report.specs.Report.{report}
 use Rattle.blocks.proofs.Geometry.{pixel-below}
-use Rattle.calls.specs.Calls.{Buffers, startOutcome, started, tooShort, afterTask, afterCalls}
+use Rattle.calls.specs.Calls.{Buffers, startAnswer, started, lentRows, afterTask, afterCalls}
 use Rattle.calls.specs.Demand.{doneBy, doneFrom, doneAfter, countAfter}
-use Rattle.calls.proofs.Demand.{demand3}
-use Rattle.whole_job.specs.WholeJob.{afterStep, afterSteps, wholeOutcome, afterWholeJob, WholeJobDone}
+use Rattle.calls.proofs.Accepts.{start-accepted}
+use Rattle.calls.proofs.Demand.{demand3, next-ready}
+use Rattle.whole_job.specs.WholeJob.{afterStep, afterSteps, wholeAnswer, afterWholeJob, WholeJobDone}
 
 -- ---- one call more
 
@@ -59,7 +58,7 @@ record AsCalls (plan : Plan) (heights : List ℤ) (from : Buffers) (count : ℕ)
   same : afterSteps plan heights count from ≡ afterCalls plan heights calls from
   counted : countAfter plan calls ≡ count
 
-module _ (plan : Plan) (heights : List ℤ) (lent : Buffers) (accepted : startOutcome plan (lent .marks) (lent .strips) ≡ Accepted)
+module _ (plan : Plan) (heights : List ℤ) (lent : Buffers) (start : startAnswer plan (lent .marks) (lent .strips) ≡ accepted)
     (map-long : neededPixels plan ≤ length heights) (output-long : neededPixels plan ≤ length (lent .output)) where
   as-calls : (count : ℕ) → count ≤ taskCount plan → AsCalls plan heights (started plan lent) count
   unfolding afterSteps afterStep afterCalls doneAfter doneFrom
@@ -67,81 +66,58 @@ module _ (plan : Plan) (heights : List ℤ) (lent : Buffers) (accepted : startOu
   as-calls (suc count) h =
       let before = as-calls count (omega arith) in
       let calls = before .calls in
-      let claim = demand3 plan heights lent accepted map-long output-long calls in
+      let claim = demand3 plan heights lent start map-long output-long calls in
       let left : countAfter plan calls < taskCount plan = rw (before .counted) (omega arith) in
-      let (t, k, next-is, answer) = claim .names-next left in
-      let r = found-ready (blockRows plan) (blockColumns plan) (doneAfter plan calls) t k next-is in
+      let values = report plan (afterCalls plan heights calls (started plan lent) .marks) .value in
+      let (named, answer) = claim .names-next left in
+      let call : BlockTask = record { task = values .task; block = values .block } in
+      let r = next-ready plan heights lent start map-long output-long calls (values .task) (values .block) answer in
       record {
-        calls = calls ++ (record { task = t; block = k } ∷ []);
-        same =
-            rw (before .same, claim .report-made, next-is)
-            (sym (after-more plan (record { task = t; block = k }) heights calls (started plan lent)));
-        counted = count-more plan (record { task = t; block = k }) calls r ∙ ap (λ n. n + 1) (before .counted) ∙ omega arith;
+        calls = calls ++ (call ∷ []);
+        same = rw (before .same, named) (sym (after-more plan call heights calls (started plan lent)));
+        counted = count-more plan call calls r ∙ ap (λ n. n + 1) (before .counted) ∙ omega arith;
       }
 
 -- ---- what an accepted whole job tells
 
-record Enough (plan : Plan) (heights : List ℤ) (lent : Buffers) : Type 0 where
-  rules : keepsRules plan ≡ true
-  map-long : neededPixels plan ≤ length heights
-  marks-long : neededMarks plan ≤ length (lent .marks)
-  strips-long : neededStrips plan ≤ length (lent .strips)
-  output-long : neededPixels plan ≤ length (lent .output)
-
-enough : (plan : Plan) (heights : List ℤ) (lent : Buffers) → wholeOutcome plan heights lent ≡ Accepted
-    → Enough plan heights lent
-unfolding wholeOutcome tooShort
-enough plan heights lent =
-    by (keepsRules plan) (ltb (length heights) (neededPixels plan)) (ltb (length (lent .marks)) (neededMarks plan))
-    (ltb (length (lent .strips)) (neededStrips plan)) (ltb (length (lent .output)) (neededPixels plan)) refl refl refl refl refl
-  where
-    by : (a b c d e : Bool) → keepsRules plan ≡ a → ltb (length heights) (neededPixels plan) ≡ b
-        → ltb (length (lent .marks)) (neededMarks plan) ≡ c → ltb (length (lent .strips)) (neededStrips plan) ≡ d
-        → ltb (length (lent .output)) (neededPixels plan) ≡ e
-        → cond a (cond (b || (c || (d || e))) (Refused BufferTooShort) Accepted) (Refused RecordBreaksRule) ≡ Accepted
-        → Enough plan heights lent
-    by false b c d e p q r s u z = let w : _≡_ {A = ℕ} 0 1 = cc in absurd (omega arith)
-    by true true c d e p q r s u z = let w : _≡_ {A = ℕ} 0 1 = cc in absurd (omega arith)
-    by true false true d e p q r s u z = let w : _≡_ {A = ℕ} 0 1 = cc in absurd (omega arith)
-    by true false false true e p q r s u z = let w : _≡_ {A = ℕ} 0 1 = cc in absurd (omega arith)
-    by true false false false true p q r s u z = let w : _≡_ {A = ℕ} 0 1 = cc in absurd (omega arith)
-    by true false false false false p q r s u z =
-        record {
-          rules = p;
-          map-long = ltb-false _ _ q;
-          marks-long = ltb-false _ _ r;
-          strips-long = ltb-false _ _ s;
-          output-long = ltb-false _ _ u;
-        }
-
-start-accepted : (plan : Plan) (heights : List ℤ) (lent : Buffers) → Enough plan heights lent
-    → startOutcome plan (lent .marks) (lent .strips) ≡ Accepted
-unfolding startOutcome
-start-accepted plan heights lent given =
-    rw (
-      given .rules,
-      le-ltb (length (lent .marks)) (neededMarks plan) (given .marks-long),
-      le-ltb (length (lent .strips)) (neededStrips plan) (given .strips-long),
+-- Where all four lists are long enough, start accepts.
+pub start-of-whole : (plan : Plan) (heights : List ℤ) (lent : Buffers) → wholeAnswer plan heights lent ≡ accepted
+    → (startAnswer plan (lent .marks) (lent .strips) ≡ accepted)
+    × ((neededPixels plan ≤ length heights) × (neededPixels plan ≤ length (lent .output)))
+unfolding wholeAnswer lentRows sizesOf
+start-of-whole plan heights lent e =
+    let kept = not-due _ _ _ _ e in
+    let marks = not-due _ _ _ _ (kept .others) in
+    let strips = not-due _ _ _ _ (marks .others) in
+    let map = not-due _ _ _ _ (strips .others) in
+    let output = not-due _ _ _ _ (map .others) in (
+      start-accepted plan (lent .marks) (lent .strips) (not-false (keepsRules plan) (kept .first))
+          (ltb-false (length (lent .marks)) (neededMarks plan) (marks .first))
+          (ltb-false (length (lent .strips)) (neededStrips plan) (strips .first)),
+      (
+        ltb-false (length heights) (neededPixels plan) (map .first),
+        ltb-false (length (lent .output)) (neededPixels plan) (output .first),
+      ),
     )
 
 -- ---- the law
 
 pub whole-job-done : WholeJobDone
 unfolding afterWholeJob
-whole-job-done plan heights lent accepted =
-    let given = enough plan heights lent accepted in
-    let start = start-accepted plan heights lent given in
-    let steps = as-calls plan heights lent start (given .map-long) (given .output-long) (taskCount plan) (omega arith) in
-    let claim = demand3 plan heights lent start (given .map-long) (given .output-long) (steps .calls) in
-    rw (accepted, steps .same)
+whole-job-done plan heights lent whole =
+    let (start, (map-long, output-long)) = start-of-whole plan heights lent whole in
+    let steps = as-calls plan heights lent start map-long output-long (taskCount plan) (omega arith) in
+    let claim = demand3 plan heights lent start map-long output-long (steps .calls) in
+    rw (whole, steps .same)
     (record {
       serial-words = claim .whole-job (steps .counted);
       output-past = λ q h.
           claim .other-output q
           (λ k y x f a b e. omega (arith, pixel-below plan k y x a b));
       output-length = claim .output-length;
-      report-is =
-          claim .report-made
-          ∙ ap Made
-          (rw (steps .counted, claim .names-none (steps .counted), claim .whole-tally (steps .counted)));
+      marks-past = claim .marks-past;
+      strips-past = claim .strips-past;
+      marks-length = claim .marks-length;
+      strips-length = claim .strips-length;
+      report-is = cc (claim .report-is, claim .names-none (steps .counted));
     })

@@ -4,37 +4,26 @@ use mathlib.Core.Bool.{cond}
 use mathlib.Core.List.{List}
 use Prim.Native.Nat.{ℕ, zero, suc, _*_, _/_, _%_, _≤_, _<_}
 use lib.IntN.{ℤ}
+use lib.Dec.{eqb}
 use lib.ListN.{length}
-use Rattle.refusal.specs.declared.Refusal.the-variants.{RecordBreaksRule, BufferTooShort}
-use Rattle.refusal.specs.declared.Outcome.{Outcome}
-use Rattle.refusal.specs.declared.Outcome.the-variants.{Accepted, Refused}
-use Rattle.refusal.specs.Refusals.{ifAccepted}
+use Rattle.refusal.specs.Table.{Answer, accepted, firstDue, ifAccepted}
 use Rattle.plan.specs.declared.Plan.{Plan}
-use Rattle.plan.specs.Rules.{keepsRules}
-use Rattle.plan.specs.Sizes.{neededPixels, taskCount}
+use Rattle.plan.specs.Sizes.{neededMarks, neededStrips, neededPixels, taskCount}
 use Rattle.plan.specs.Lists.{wordAt}
-use Rattle.report.specs.declared.Next.{Next}
-use Rattle.report.specs.declared.Next.the-variants.{Ready, Nothing}
-use Rattle.report.specs.declared.ReportAnswer.{ReportAnswer}
-use Rattle.report.specs.declared.ReportAnswer.the-variants.{Refused as NoReport, Made}
+use Rattle.report.specs.Values.{Values}
 use Rattle.report.specs.Report.{report}
 use Rattle.blocks.specs.Writes.{mapOf}
 use Rattle.blocks.specs.Matching.{serialResult}
-use Rattle.calls.specs.Calls.{Buffers, started, tooShort, afterTask}
+use Rattle.calls.specs.Calls.{Buffers, started, lentRows, afterTask}
 
--- The lists after the task that is named; as they were where none is.
-abbrev pub afterNext : Plan → List ℤ → Next → Buffers → Buffers
-afterNext plan heights (Ready t k) buffers = afterTask plan heights t k buffers
-afterNext plan heights Nothing buffers = buffers
+-- The lists after the task that a report's values name; as they were where they name none.
+abbrev pub afterNamed : Plan → List ℤ → Values → Buffers → Buffers
+afterNamed plan heights values buffers =
+    cond (eqb (values .ready) 1) (afterTask plan heights (values .task) (values .block) buffers) buffers
 
--- The lists after the task that a report names.
-abbrev pub afterReport : Plan → List ℤ → ReportAnswer → Buffers → Buffers
-afterReport plan heights (NoReport refusal) buffers = buffers
-afterReport plan heights (Made progress) buffers = afterNext plan heights (progress .next) buffers
-
--- One step: the report is made, and what it names is performed.
+-- One step: the report is made, and what it names is performed. Beside a refusal its values are zeros, and name none.
 unfoldable pub afterStep : Plan → List ℤ → Buffers → Buffers
-afterStep plan heights buffers = afterReport plan heights (report plan (buffers .marks)) buffers
+afterStep plan heights buffers = afterNamed plan heights (report plan (buffers .marks) .value) buffers
 
 -- Steps one after another.
 unfoldable pub afterSteps : Plan → List ℤ → ℕ → Buffers → Buffers
@@ -42,14 +31,13 @@ afterSteps plan heights zero buffers = buffers
 afterSteps plan heights (suc count) buffers = afterStep plan heights (afterSteps plan heights count buffers)
 
 -- What a whole job answers: 6, and then 7 if one of the four lent lists is too short.
-unfoldable pub wholeOutcome : Plan → List ℤ → Buffers → Outcome
-wholeOutcome plan heights lent =
-    cond (keepsRules plan) (cond (tooShort plan heights lent) (Refused BufferTooShort) Accepted) (Refused RecordBreaksRule)
+unfoldable pub wholeAnswer : Plan → List ℤ → Buffers → Answer
+wholeAnswer plan heights lent = firstDue (lentRows plan heights lent)
 
 -- The lists after a whole job: a refused call leaves all as it was.
 unfoldable pub afterWholeJob : Plan → List ℤ → Buffers → Buffers
 afterWholeJob plan heights lent =
-    ifAccepted (wholeOutcome plan heights lent) (afterSteps plan heights (taskCount plan) (started plan lent)) lent
+    ifAccepted (wholeAnswer plan heights lent) (afterSteps plan heights (taskCount plan) (started plan lent)) lent
 
 -- What is claimed of an accepted whole job, `after` being the lists after it.
 pub record WholeClaim (plan : Plan) (heights : List ℤ) (lent after : Buffers) : Type 0 where
@@ -60,12 +48,20 @@ pub record WholeClaim (plan : Plan) (heights : List ℤ) (lent after : Buffers) 
   -- The output past h×w is as it was, and so is its length.
   pub output-past : (q : ℕ) → neededPixels plan ≤ q → wordAt (after .output) q ≡ wordAt (lent .output) q
   pub output-length : length (after .output) ≡ length (lent .output)
+  -- Marks and strips past the needed lengths are as they were, and so are their lengths.
+  pub marks-past : (k : ℕ) → neededMarks plan ≤ k → wordAt (after .marks) k ≡ wordAt (lent .marks) k
+  pub strips-past : (q : ℕ) → neededStrips plan ≤ q → wordAt (after .strips) q ≡ wordAt (lent .strips) q
+  pub marks-length : length (after .marks) ≡ length (lent .marks)
+  pub strips-length : length (after .strips) ≡ length (lent .strips)
   -- The report counts 6MN - 2M - 2N tasks and a tally of two for each pixel, and names none.
   pub report-is : report plan (after .marks)
-      ≡ Made (record { marked = taskCount plan; tally = 2 * neededPixels plan; next = Nothing })
+      ≡ record {
+        answer = accepted;
+        value = record { count = taskCount plan; tally = 2 * neededPixels plan; ready = 0; task = 0; block = 0 };
+      }
 
 -- The claim holds of every whole job that is accepted.
 abbrev pub WholeJobDone : Type 0
 WholeJobDone =
-    (plan : Plan) (heights : List ℤ) (lent : Buffers) → wholeOutcome plan heights lent ≡ Accepted
+    (plan : Plan) (heights : List ℤ) (lent : Buffers) → wholeAnswer plan heights lent ≡ accepted
     → WholeClaim plan heights lent (afterWholeJob plan heights lent)

@@ -2,12 +2,12 @@
 use plan::Plan;
 use plan::PlanSizes;
 use refusal::Outcome;
-use refusal::Refusal;
 use report::Next;
 use report::ReportAnswer;
 ghost use mathlib.Core.Path.{_≡_};
+ghost use Rattle.refusal.specs.Table.{answerOf};
 ghost use Rattle.calls.specs.Calls.{lists};
-ghost use Rattle.whole_job.specs.WholeJob.{afterStep, afterSteps, wholeOutcome, afterWholeJob};
+ghost use Rattle.whole_job.specs.WholeJob.{afterStep, afterSteps, wholeAnswer, afterWholeJob};
 
 // Starts a job and performs all its tasks, in the order in which the report names them.
 pub fn whole_job(
@@ -17,26 +17,19 @@ pub fn whole_job(
     strips: &mut [u64],
     output: &mut [u64],
 ) -> Outcome
-    ensures answer { λ r. ⌜ r ≡ wholeOutcome plan (now (map .entry)) (lists (now (marks .entry)) (now (strips .entry)) (now (output .entry))) ⌝ }
+    ensures answer { λ r. ⌜ answerOf r ≡ wholeAnswer plan (now (map .entry)) (lists (now (marks .entry)) (now (strips .entry)) (now (output .entry))) ⌝ }
     ensures buffers { λ _. ⌜ lists (now (marks .exit)) (now (strips .exit)) (now (output .exit)) ≡ afterWholeJob plan (now (map .entry)) (lists (now (marks .entry)) (now (strips .entry)) (now (output .entry))) ⌝ }
 {
     let known = plan.sizes();
     match known {
         PlanSizes::Known(sizes) => {
-            if map.len() < sizes.pixels {
-                return Outcome::Refused(Refusal::BufferTooShort);
+            let lengths = sizes.all_lent(marks.len(), strips.len(), map.len(), output.len());
+            if let Outcome::Refused(refusal) = lengths {
+                return Outcome::Refused(refusal);
             }
-            if output.len() < sizes.pixels {
-                return Outcome::Refused(Refusal::BufferTooShort);
-            }
-            let outcome = job::start(plan, marks, strips);
-            match outcome {
-                Outcome::Accepted => {
-                    perform_steps(plan, sizes.tasks, map, marks, strips, output);
-                    Outcome::Accepted
-                }
-                Outcome::Refused(refusal) => Outcome::Refused(refusal),
-            }
+            job::start(plan, marks, strips);
+            perform_steps(plan, sizes.tasks, map, marks, strips, output);
+            Outcome::Accepted
         }
         PlanSizes::Refused(refusal) => Outcome::Refused(refusal),
     }

@@ -1,36 +1,33 @@
--- The starred examples of document 01 in one list: those of the passes, and below them those of plan words, of a refused
--- rectangle and of a job.
+-- The starred examples of document 01 in one list, each through the definition that the contract of its call cites; and two jobs
+-- worked by hand, their strips word by word after the collects and after all tasks.
 use mathlib.Core.Path.{_≡_}
 use mathlib.Core.List.{List, [], _∷_, _++_, map}
 use Prim.Native.Nat.{ℕ}
-use lib.IntN.{ℤ, pos, negsuc}
+use lib.IntN.{ℤ, pos}
+use lib.ListN.{replicate}
 use Rattle.word.specs.Word.{residue}
-use Rattle.refusal.specs.declared.Refusal.{Refusal}
-use Rattle.refusal.specs.declared.Outcome.{Outcome}
-use Rattle.refusal.specs.Refusals.{numberOf, placeOf, outcomeNumber, outcomePlace}
+use Rattle.refusal.specs.Table.{Answer, numberIn, placeIn}
 use Rattle.plan.specs.declared.Pass.{Pass}
 use Rattle.plan.specs.declared.Plan.{Plan}
+use Rattle.plan.specs.Sizes.{neededMarks, neededStrips, neededPixels}
 use Rattle.plan_reader.specs.Reading.{readPlan}
-use Rattle.rectangle.specs.declared.RectangleSum.{RectangleSum}
-use Rattle.rectangle.specs.declared.RectangleSum.the-variants.{Sum, Refused as RectangleRefused}
-use Rattle.rectangle.specs.Rectangle.{rectangleAnswer}
-use Rattle.passes.specs.Examples.{Example, passesExamples}
+use Rattle.passes.specs.Examples.{Example, minus}
+use Rattle.serial.specs.Serial.{serialOutput}
+use Rattle.rectangle.specs.Heights.{summedAreaPasses}
+use Rattle.rectangle.specs.Rectangle.{rectangleCall}
 use Rattle.tasks.specs.Tasks.{BlockTask}
+use Rattle.blocks.specs.Examples.{WorkedJob, passOf, unchanged, runningSum, columnJob, rowJob}
 use Rattle.calls.specs.Calls.{Buffers, started, afterCalls}
 
 -- ---- plan words
 
--- A refusal as document 01's number and place.
-abbrev pub refusalNumbers : Refusal → List ℕ
-refusalNumbers refusal = numberOf refusal ∷ placeOf refusal ∷ []
-
--- An answer as a number and a place.
-abbrev pub numberAndPlace : Outcome → List ℕ
-numberAndPlace outcome = outcomeNumber outcome ∷ outcomePlace outcome ∷ []
+-- An answer as document 01's number and place.
+abbrev pub numberAndPlace : Answer → List ℕ
+numberAndPlace answer = numberIn answer ∷ placeIn answer ∷ []
 
 -- What the plan's reader answers to a list of words.
 abbrev pub readingExample : List ℕ → List ℕ → Example
-readingExample words answer = record { computed = numberAndPlace (readPlan words .outcome); expected = answer }
+readingExample words answer = record { computed = numberAndPlace (readPlan words .answer); expected = answer }
 
 -- The words of a plan of one pixel with a block word, a pass word for down and its coefficients; the other passes have order
 -- 0, and all gains are 1.
@@ -46,97 +43,134 @@ fourCoefficients = 0x50000001 ∷ 0x50000001 ∷ 0x50000001 ∷ 0x50000001 ∷ [
 
 -- ---- plan records
 
--- A pass of order 0 and gain 1.
-abbrev unchangedPass : Pass
-unchangedPass = record { order = 0; gain = pos 1; coefficients = pos 0 ∷ pos 0 ∷ pos 0 ∷ pos 0 ∷ [] }
-
--- A pass of order 1 with a gain and d1.
-abbrev firstOrder : ℤ → ℤ → Pass
-firstOrder gain d = record { order = 1; gain = gain; coefficients = d ∷ pos 0 ∷ pos 0 ∷ pos 0 ∷ [] }
+-- A plan of a size with these passes, of order 0 or 1, and block side 1.
+abbrev planOf : (rows columns : ℕ) (down up right left : Pass) → Plan
+planOf rows columns down up right left =
+    record { rows = rows; columns = columns; side = 1; passes = down ∷ up ∷ right ∷ left ∷ [] }
 
 -- The summed-area table of two rows and three columns.
 abbrev tablePlan : Plan
-tablePlan =
+tablePlan = record { rows = 2; columns = 3; side = 2; passes = summedAreaPasses }
+
+-- Order 0 and a gain.
+abbrev gainAlone : ℤ → Pass
+gainAlone gain = passOf gain []
+
+-- ---- the serial passes
+
+-- The output of the serial passes over a map, begun on words of 7.
+unfoldable pub serialExample : Plan → List ℤ → List ℤ → Example
+serialExample plan heights words =
     record {
-      rows = 2;
-      columns = 3;
-      side = 2;
-      passes = firstOrder (pos 1) (negsuc 0) ∷ unchangedPass ∷ firstOrder (pos 1) (negsuc 0) ∷ unchangedPass ∷ [];
+      computed = serialOutput plan heights (replicate (neededPixels plan) 7);
+      expected = map residue words;
     }
+
+-- 1 2 3 / 4 5 6
+abbrev oneToSix : List ℤ
+oneToSix = pos 1 ∷ pos 2 ∷ pos 3 ∷ pos 4 ∷ pos 5 ∷ pos 6 ∷ []
+
+-- 1, 0, 0
+abbrev oneThenZeros : List ℤ
+oneThenZeros = pos 1 ∷ pos 0 ∷ pos 0 ∷ []
+
+-- Down gain 6, d1 = 2,
+abbrev down : Pass
+down = passOf (pos 6) (pos 2 ∷ [])
+
+-- then up gain -1, d1 = 2.
+abbrev up : Pass
+up = passOf (minus 1) (pos 2 ∷ [])
 
 -- ---- a rectangle
 
--- The number and the place of a rectangle's refusal; of a sum, the sum.
-abbrev pub rectangleNumbers : RectangleSum → List ℕ
-rectangleNumbers (Sum sum) = sum ∷ []
-rectangleNumbers (RectangleRefused refusal) = refusalNumbers refusal
-
--- What the rectangle sum answers on a table of two rows and three columns.
-abbrev pub rectangleCall : (top left bottom right : ℕ) → List ℕ → Example
-rectangleCall top left bottom right answer =
+-- What the rectangle sum answers on the table that the serial passes leave of 1 2 3 / 4 5 6: number, place and sum.
+unfoldable pub rectangleExample : (top left bottom right : ℕ) → (number place sum : ℕ) → Example
+rectangleExample top left bottom right number place sum =
+    let given = rectangleCall tablePlan (serialOutput tablePlan oneToSix (replicate 6 7)) top left bottom right in
     record {
-      computed =
-          rectangleNumbers
-          (rectangleAnswer tablePlan (1 ∷ 3 ∷ 6 ∷ 5 ∷ 12 ∷ 21 ∷ []) top left bottom right);
-      expected = answer;
+      computed = numberIn (given .answer) ∷ placeIn (given .answer) ∷ given .value ∷ [];
+      expected = number ∷ place ∷ sum ∷ [];
     }
 
--- ---- a job
+-- ---- jobs
 
--- The output after a list of calls on started buffers.
-unfoldable pub jobExample : Plan → List ℤ → Buffers → List BlockTask → List ℤ → Example
-jobExample plan heights lent calls words =
-    record { computed = afterCalls plan heights calls (started plan lent) .output; expected = map residue words }
-
--- Three rows and one column in two blocks, b = 2: down gain 6, d1 = 2, then up gain -1, d1 = 2.
-abbrev columnPlan : Plan
-columnPlan =
+-- Buffers of just the needed lengths, of words of 7.
+abbrev lentFor : Plan → Buffers
+lentFor plan =
     record {
-      rows = 3;
-      columns = 1;
-      side = 2;
-      passes = firstOrder (pos 6) (pos 2) ∷ firstOrder (negsuc 0) (pos 2) ∷ unchangedPass ∷ unchangedPass ∷ [];
+      marks = replicate (neededMarks plan) 7;
+      strips = replicate (neededStrips plan) 7;
+      output = replicate (neededPixels plan) 7;
     }
 
--- Buffers of the needed lengths that hold anything.
-abbrev columnBuffers : Buffers
-columnBuffers =
-    record {
-      marks = 1 ∷ 2 ∷ [];
-      strips = 3 ∷ 4 ∷ 5 ∷ 6 ∷ 7 ∷ 8 ∷ 9 ∷ 10 ∷ [];
-      output = 11 ∷ 12 ∷ 13 ∷ [];
-    }
+-- The lists after a list of calls on started buffers.
+unfoldable pub afterJob : Plan → List ℤ → List BlockTask → Buffers
+afterJob plan heights calls = afterCalls plan heights calls (started plan (lentFor plan))
 
--- The six tasks of two blocks, one above the other: collect both, the down link of the upper, the up link of the lower, finish
--- both.
-abbrev columnCalls : List BlockTask
-columnCalls =
-    record { task = 0; block = 0 }
-    ∷ record { task = 0; block = 1 }
-    ∷ record { task = 1; block = 0 }
-    ∷ record { task = 2; block = 1 }
+-- Collect both of two blocks.
+abbrev collectBoth : List BlockTask
+collectBoth = record { task = 0; block = 0 } ∷ record { task = 0; block = 1 } ∷ []
+
+-- All tasks of two blocks: collect both, a link forth of the first and a link back of the second, finish both.
+abbrev twoBlocks : (forth back : ℕ) → List BlockTask
+twoBlocks forth back =
+    collectBoth
+    ++ (record { task = forth; block = 0 }
+    ∷ record { task = back; block = 1 }
     ∷ record { task = 5; block = 0 }
     ∷ record { task = 5; block = 1 }
+    ∷ [])
+
+-- The output after a list of calls.
+unfoldable pub outputExample : Plan → List ℤ → List BlockTask → List ℤ → Example
+outputExample plan heights calls words =
+    record { computed = afterJob plan heights calls .output; expected = map residue words }
+
+-- The strips after a list of calls.
+unfoldable pub stripsExample : Plan → List ℤ → List BlockTask → List ℤ → Example
+stripsExample plan heights calls words =
+    record { computed = afterJob plan heights calls .strips; expected = map residue words }
+
+-- A job of two blocks worked by hand: the strips after the collects, and the strips and the output after all tasks.
+unfoldable pub jobExamples : WorkedJob → (forth back : ℕ) → List Example
+jobExamples job forth back =
+    stripsExample (job .plan) (job .heights) collectBoth (job .stripsCollected)
+    ∷ stripsExample (job .plan) (job .heights) (twoBlocks forth back) (job .stripsLinked)
+    ∷ outputExample (job .plan) (job .heights) (twoBlocks forth back) (job .outputFinished)
     ∷ []
+
+-- Three rows and one column in two blocks, b = 2.
+abbrev columnPlan : Plan
+columnPlan = record { rows = 3; columns = 1; side = 2; passes = down ∷ up ∷ unchanged ∷ unchanged ∷ [] }
 
 -- ---- the list
 
--- Order 4 is accepted with b = 4, refused 4 with b = 3; order 5 is refused 3, at the place of its word; the rectangle (0,0,0,3)
--- is refused 12; the column 1, 0, 0 with b = 2 gives -126, 60, -24.
-unfoldable pub otherExamples : List Example
-otherExamples =
-    readingExample (planWords 0x20000004 0x30000004 fourCoefficients) (0 ∷ 0 ∷ [])
+-- The starred examples, in the document's order.
+unfoldable pub starred : List Example
+starred =
+    serialExample tablePlan oneToSix (pos 1 ∷ pos 3 ∷ pos 6 ∷ pos 5 ∷ pos 12 ∷ pos 21 ∷ [])
+    ∷ rectangleExample 0 1 2 3 0 0 16
+    ∷ rectangleExample 1 0 2 1 0 0 4
+    ∷ rectangleExample 0 0 0 3 12 0 0
+    ∷ serialExample (planOf 3 1 down unchanged unchanged unchanged) oneThenZeros (pos 6 ∷ minus 12 ∷ pos 24 ∷ [])
+    ∷ serialExample (planOf 3 1 down up unchanged unchanged) oneThenZeros (minus 126 ∷ pos 60 ∷ minus 24 ∷ [])
+    ∷ outputExample columnPlan oneThenZeros (twoBlocks 1 2) (minus 126 ∷ pos 60 ∷ minus 24 ∷ [])
+    ∷ serialExample (planOf 1 3 unchanged unchanged runningSum runningSum) oneThenZeros (pos 3 ∷ pos 2 ∷ pos 1 ∷ [])
+    ∷ serialExample (planOf 1 1 unchanged unchanged unchanged unchanged) (minus 1 ∷ []) (pos 18446744073709551615 ∷ [])
+    ∷ serialExample (planOf 1 1 (gainAlone (pos 65536)) (gainAlone (pos 65536)) (gainAlone (pos 65536)) (gainAlone (pos 65536)))
+    (pos 1 ∷ []) (pos 0 ∷ [])
+    ∷ serialExample (planOf 1 1 (gainAlone (minus 134217728)) unchanged unchanged unchanged) (minus 2147483648 ∷ [])
+    (pos 288230376151711744 ∷ [])
+    ∷ readingExample (planWords 0x20000004 0x30000004 fourCoefficients) (0 ∷ 0 ∷ [])
     ∷ readingExample (planWords 0x20000003 0x30000004 fourCoefficients) (4 ∷ 1 ∷ [])
     ∷ readingExample (planWords 0x20000004 0x30000005 fourCoefficients) (3 ∷ 2 ∷ [])
-    ∷ rectangleCall 0 0 0 3 (12 ∷ 0 ∷ [])
-    ∷ jobExample columnPlan (pos 1 ∷ pos 0 ∷ pos 0 ∷ []) columnBuffers columnCalls
-    (negsuc 125 ∷ pos 60 ∷ negsuc 23 ∷ [])
     ∷ []
 
--- All of them.
+-- The starred examples, and the strips and outputs of two jobs of order 2 whose last block is short.
 abbrev pub examples : List Example
-examples = passesExamples ++ otherExamples
+examples = starred ++ (jobExamples columnJob 1 2 ++ jobExamples rowJob 3 4)
 
--- The definitions compute what the document gives, in every example.
+-- The definitions compute what is given, in every example.
 abbrev pub ExamplesHold : Type 0
 ExamplesHold = map (λ e. e .computed) examples ≡ map (λ e. e .expected) examples

@@ -59,7 +59,7 @@ loop-again : tie.Need-loop-again Inv-loop μ-loop
 loop-again c =
     let inv = c .before .before .before .before .before .before .before .before .before .before .before .before .before .before .loop .inv in
     let called = c .before .before .before .before .before .before .before .task .ensures in (
-      running-next _ _ _ _ _ _ _ _ _ (inv .0) (omega arith) _ (called .0) _ (c .one-if-accepted .ensures) _ (called .1),
+      running-next _ _ _ _ _ _ _ _ _ (inv .0) (omega arith) (c .before .before .before .before .before .before .before .task .result) (called .0) _ (c .one-if-accepted .ensures) _ (called .1),
       c .before .before .before .before .before .before .marks .given ∙ inv .1,
       c .before .before .before .before .strips .given ∙ inv .2,
       c .before .before .output .given ∙ inv .3,

@@ -1,5 +1,5 @@
 -- Accepted or refused: one law of `Tasking` each.
-use mathlib.Core.Path.{sym, _∙_}
+use mathlib.Core.Path.{sym}
 use Rattle.job.proofs.Tasking.{task-accepted, task-refused}
 use borrow.Author.Needs.{needs}
 use Rattle.job.proofs.task.Statement.{statement}
@@ -12,7 +12,8 @@ enum-told : tie.Need-enum-told
 enum-told c = search needs
 
 perform-requires : tie.Need-perform-requires
-perform-requires c κs = sym (c .before .before .before .before .before .task-outcome .ensures) ∙ c .before .before .before .enum-told .given .1
+perform-requires c κs =
+    sym (rw (c .before .before .before .enum-told .given .1) at (c .before .before .before .before .before .task-outcome .ensures))
 
 enum-known-outcome : tie.Need-enum-known-outcome
 enum-known-outcome c = search needs

@@ -10,20 +10,38 @@ sizes-requires c κs = search needs
 enum-known-known : tie.Need-enum-known-known
 enum-known-known c = search needs
 
-too-short-requires : tie.Need-too-short-requires
-too-short-requires c κs = search needs
+all-lent-requires : tie.Need-all-lent-requires
+all-lent-requires c κs = search needs
+
+enum-known-lengths : tie.Need-enum-known-lengths
+enum-known-lengths c = search needs
 
 returns : tie.Need-returns
-returns c = answer-short _ _ _ _ _ _ _ _ (c .before .before .before .before .before .sizes .ensures) _ (c .before .before .before .known .given .1) _ (c .before .too-short .ensures) (c .if1 .taken)
+returns c =
+    let lent = c .before .before .before in
+    let sizes = lent .before .before .before .before in
+    answer-short _ _ _ _ _ _ _ _ (sizes .sizes .ensures) _ (lent .before .before .known .given .1) _ (lent .all-lent .ensures) _ (c .before .lengths .given .1)
+
+enum-told : tie.Need-enum-told
+enum-told c = search needs
 
 verdict-requires : tie.Need-verdict-requires
-verdict-requires c κs = let a = c .before .before .before .before .before .before .before .before .before .args in marks-lent (a .plan) (a .map .now) (a .marks .now) (a .strips .now) (a .output .now) (a .task) (a .block) _ (c .before .before .before .before .before .sizes .ensures) _ (c .before .before .before .known .given .1) _ (c .before .too-short .ensures) (c .if1 .left)
+verdict-requires c κs =
+    let lent = c .before .before in
+    let sizes = lent .before .before .before .before in
+    let a = sizes .before .before .before .before .args in
+    marks-lent (a .plan) (a .map .now) (a .marks .now) (a .strips .now) (a .output .now) (a .task) (a .block) _ (sizes .sizes .ensures) _
+    (lent .before .before .known .given .1) _ (lent .all-lent .ensures) (c .enum-told .given .1)
 
 enum-known-known-2 : tie.Need-enum-known-known-2
 enum-known-known-2 c = search needs
 
 returns-2 : tie.Need-returns-2
-returns-2 c = answer-marks _ _ _ _ _ _ _ _ (c .before .before .before .before .before .before .sizes .ensures) _ (c .before .before .before .before .known .given .1) _ (c .before .before .too-short .ensures) (c .before .if1 .left) _ (c .verdict .ensures)
+returns-2 c =
+    let lent = c .before .before .before in
+    let sizes = lent .before .before .before .before in
+    answer-marks _ _ _ _ _ _ _ _ (sizes .sizes .ensures) _ (lent .before .before .known .given .1) _ (lent .all-lent .ensures)
+    (c .before .enum-told .given .1) (c .verdict .result) (c .verdict .ensures)
 
 returns-3 : tie.Need-returns-3
 returns-3 c = answer-broken _ _ _ _ _ _ _ _ (c .before .before .before .sizes .ensures) _ (c .before .known2 .given .1)
@@ -34,8 +52,10 @@ task-outcome-spec =
     (tie.spec
     sizes-requires
     enum-known-known
-    too-short-requires
+    all-lent-requires
+    enum-known-lengths
     returns
+    enum-told
     verdict-requires
     enum-known-known-2
     returns-2

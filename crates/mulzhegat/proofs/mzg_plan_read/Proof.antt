@@ -1,4 +1,7 @@
 -- `mzg_plan_read` meets its contract: the answer of `read_plan` as a number and as a record. Assumes nothing.
+use mathlib.Core.Path.{ap}
+use Rattle.refusal.specs.Table.{Given}
+use Rattle.plan.specs.declared.Plan.{Plan}
 use Rattle.mulzhegat.proofs.Places.{read-place}
 use borrow.Author.Needs.{needs}
 use Rattle.mulzhegat.proofs.mzg_plan_read.Statement.{statement}
@@ -11,7 +14,7 @@ record-of-plan-requires : tie.Need-record-of-plan-requires
 record-of-plan-requires c κs = search needs
 
 outcome-code-requires : tie.Need-outcome-code-requires
-outcome-code-requires c κs = rw (c .before .before .read-plan .ensures) (read-place _)
+outcome-code-requires c κs = rw (ap (λ (g : Given Plan). g .answer) (c .before .before .read-plan .ensures)) (read-place _)
 
 returns : tie.Need-returns
 returns c =

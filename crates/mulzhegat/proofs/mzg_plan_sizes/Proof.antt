@@ -1,6 +1,6 @@
 -- `mzg_plan_sizes` meets its contract: the answer of `sizes` as a number and as a record. Assumes nothing.
-use mathlib.Core.Path.{refl, sym, _∙_}
-use Rattle.mulzhegat.proofs.Places.{sizes-place}
+use mathlib.Core.Path.{refl}
+use Rattle.mulzhegat.proofs.Places.{sizes-refused}
 use borrow.Author.Needs.{needs}
 use Rattle.mulzhegat.proofs.mzg_plan_sizes.Statement.{statement}
 use Rattle.mulzhegat.proofs.mzg_plan_sizes.Tie as tie
@@ -23,7 +23,7 @@ enum-known-answer-2 c = search needs
 refusal-code-requires : tie.Need-refusal-code-requires
 refusal-code-requires c κs =
     let m = c .before .before .before .before in
-    sizes-place _ _ (sym (m .sizes .ensures) ∙ c .before .before .answer2 .given .1)
+    sizes-refused _ _ _ (m .sizes .ensures) (c .before .before .answer2 .given .1)
 
 returns : tie.Need-returns
 returns c =

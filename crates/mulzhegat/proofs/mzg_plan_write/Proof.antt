@@ -1,6 +1,6 @@
 -- `mzg_plan_write` meets its contract: the answer of `write_plan` as a number, and the words that it leaves. Assumes nothing.
-use mathlib.Core.Path.{refl, sym, _∙_}
-use Rattle.mulzhegat.proofs.Places.{written-place}
+use mathlib.Core.Path.{refl}
+use Rattle.mulzhegat.proofs.Places.{written-refused}
 use borrow.Author.Needs.{needs}
 use Rattle.mulzhegat.proofs.mzg_plan_write.Statement.{statement}
 use Rattle.mulzhegat.proofs.mzg_plan_write.Tie as tie
@@ -19,7 +19,7 @@ enum-known-answer c = search needs
 
 refusal-code-requires : tie.Need-refusal-code-requires
 refusal-code-requires c κs =
-    written-place _ _ _ (sym (c .before .before .before .before .before .write-plan .ensures .0) ∙ c .before .answer .given .1)
+    written-refused _ _ _ _ (c .before .before .before .before .before .write-plan .ensures .0) (c .before .answer .given .1)
 
 same-length : tie.Need-same-length
 same-length c = search needs

@@ -1,7 +1,6 @@
 -- `mzg_rectangle` meets its contract: the answer of `rectangle_sum` as a number and as a word. Assumes nothing.
-use mathlib.Core.Path.{sym, _∙_}
-use Rattle.mulzhegat.proofs.Places.{rectangle-place}
-use Rattle.mulzhegat.proofs.Answers.{rectangle-summed, rectangle-refused}
+use mathlib.Core.Path.{refl}
+use Rattle.mulzhegat.proofs.Places.{rectangle-refused}
 use borrow.Author.Needs.{needs}
 use Rattle.mulzhegat.proofs.mzg_rectangle.Statement.{statement}
 use Rattle.mulzhegat.proofs.mzg_rectangle.Tie as tie
@@ -20,18 +19,18 @@ enum-known-answer-2 c = search needs
 
 refusal-code-requires : tie.Need-refusal-code-requires
 refusal-code-requires c κs =
-    rectangle-place _ _ _ _ _ _ _ (sym (c .before .before .before .rectangle-sum .ensures) ∙ c .before .answer2 .given .1)
+    rectangle-refused _ _ _ _ _ _ _ _ (c .before .before .before .rectangle-sum .ensures) (c .before .answer2 .given .1)
 
 returns : tie.Need-returns
 returns c =
     let m = c .before .before .before in
-    rectangle-summed (rw (m .before .plan-of-record .ensures) at (m .rectangle-sum .ensures)) _ (c .before .answer .given .1)
+    rw (← (m .before .plan-of-record .ensures), ← (m .rectangle-sum .ensures), c .before .answer .given .1) (refl, refl)
 
 returns-2 : tie.Need-returns-2
 returns-2 c =
     let m = c .before .before .before .before in
-    rectangle-refused (rw (m .before .plan-of-record .ensures) at (m .rectangle-sum .ensures)) _ (c .before .before .answer2 .given .1)
-    (c .refusal-code .ensures)
+    rw (← (m .before .plan-of-record .ensures), ← (m .rectangle-sum .ensures), c .before .before .answer2 .given .1)
+    (c .refusal-code .ensures, refl)
 
 pub mzg-rectangle-spec : {M : Type 1} → statement M
 mzg-rectangle-spec =

@@ -1,8 +1,6 @@
 -- `mzg_report` meets its contract: the answer of `report` as a number and as a record. Assumes nothing.
-use mathlib.Core.Path.{refl, sym, ap, _∙_}
-use Rattle.mulzhegat.specs.Codes.{progressRecord}
-use Rattle.mulzhegat.proofs.Places.{report-place}
-use Rattle.mulzhegat.proofs.Progress.{made-code}
+use mathlib.Core.Path.{refl}
+use Rattle.mulzhegat.proofs.Places.{report-refused}
 use borrow.Author.Needs.{needs}
 use Rattle.mulzhegat.proofs.mzg_report.Statement.{statement}
 use Rattle.mulzhegat.proofs.mzg_report.Tie as tie
@@ -25,14 +23,13 @@ enum-known-answer-2 c = search needs
 refusal-code-requires : tie.Need-refusal-code-requires
 refusal-code-requires c κs =
     let m = c .before .before .before .before in
-    report-place _ _ _ (sym (m .report .ensures) ∙ c .before .before .answer2 .given .1)
+    report-refused _ _ _ _ (m .report .ensures) (c .before .before .answer2 .given .1)
 
 returns : tie.Need-returns
 returns c =
     let m = c .before .before .before .before in
-    let made = c .before .before .answer .given .1 in
-    rw (← (m .before .plan-of-record .ensures), ← (m .report .ensures))
-    (made-code _ _ made, c .progress-record .ensures ∙ sym (ap progressRecord made))
+    rw (← (m .before .plan-of-record .ensures), ← (m .report .ensures), c .before .before .answer .given .1)
+    (refl, c .progress-record .ensures)
 
 returns-2 : tie.Need-returns-2
 returns-2 c =

@@ -1,6 +1,6 @@
 -- `mzg_serial` meets its contract: the answer of `serial_passes` as a number, and the output that it leaves. Assumes nothing.
 use mathlib.Core.Path.{ap, _∙_}
-use Rattle.mulzhegat.specs.Codes.{outcomeCode}
+use Rattle.mulzhegat.specs.Codes.{codeOf}
 use Rattle.mulzhegat.proofs.Places.{serial-place}
 use borrow.Author.Needs.{needs}
 use Rattle.mulzhegat.proofs.mzg_serial.Statement.{statement}
@@ -22,7 +22,7 @@ returns : tie.Need-returns
 returns c =
     let s = c .before .before .before in
     let told = rw (s .before .before .plan-of-record .ensures) at (s .serial-passes .ensures) in
-    (c .outcome-code .ensures ∙ ap outcomeCode (told .0), told .1)
+    (c .outcome-code .ensures ∙ ap codeOf (told .0), told .1)
 
 pub mzg-serial-spec : {M : Type 1} → statement M
 mzg-serial-spec =

@@ -1,21 +1,22 @@
--- `plan_reader::coefficients_outcome` meets its contract: `outcome` is that of the first j words. Assumes nothing.
-use mathlib.Core.Path.{_≡_, sym, _∙_}
+-- `plan_reader::coefficients_outcome` meets its contract: `outcome` is that of the rows of the first j words. Assumes nothing.
+use mathlib.Core.Path.{_≡_}
 use Prim.Native.Nat.{_-_, _≤_}
 use native.Mathlib.Omega.{arith}
 use borrow.Author.Needs.{needs}
-use Rattle.plan_reader.specs.Reading.{coefficientsOutcome}
-use Rattle.plan_reader.proofs.Outcomes.{first-of, coefficients-none, coefficients-more}
+use Rattle.refusal.specs.Table.{firstDue, answerOf}
+use Rattle.plan_reader.specs.Reading.{coefficientRows}
+use Rattle.plan_reader.proofs.Rows.{coefficients-none, coefficients-more}
 use Rattle.plan_reader.proofs.coefficients_outcome.Statement.{statement}
 use Rattle.plan_reader.proofs.coefficients_outcome.Tie as tie
 
 abbrev Inv-loop : tie.InvT-loop
-Inv-loop words place count outcome₀ j₀ outcome j = (j ≤ count) × (outcome ≡ coefficientsOutcome words place j)
+Inv-loop words place count outcome₀ j₀ outcome j = (j ≤ count) × (answerOf outcome ≡ firstDue (coefficientRows words place j))
 
 abbrev μ-loop : tie.MeasureT-loop
 μ-loop words place count outcome₀ j₀ outcome j = count - j
 
 loop-holds : tie.Need-loop-holds Inv-loop μ-loop
-loop-holds c = (omega arith, sym (coefficients-none _ _))
+loop-holds c = (omega arith, coefficients-none _ _)
 
 add-word-outcome : tie.Need-add-word-outcome Inv-loop μ-loop
 add-word-outcome c = search needs
@@ -34,11 +35,8 @@ loop-less c = search needs
 
 loop-again : tie.Need-loop-again Inv-loop μ-loop
 loop-again c =
-    let next = c .before in (
-      omega arith,
-      first-of (c .or-first .ensures) (next .before .before .loop .inv .1) (next .word-outcome .ensures)
-          ∙ sym (coefficients-more _ _ _),
-    )
+    let next = c .before in
+    (omega arith, coefficients-more _ (c .or-first .ensures) _ _ (next .before .before .loop .inv .1) (next .word-outcome .ensures))
 
 returns : tie.Need-returns Inv-loop μ-loop
 returns c =

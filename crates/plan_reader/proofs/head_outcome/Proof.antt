@@ -2,8 +2,7 @@
 use mathlib.Core.Path.{ap, _∙_}
 use borrow.Author.Needs.{needs}
 use Rattle.plan_reader.specs.Layout.{sizeAllowed, sideAllowed}
-use Rattle.plan_reader.specs.Reading.{wordOutcome, headOutcome}
-use Rattle.plan_reader.proofs.Outcomes.{first-of}
+use Rattle.plan_reader.proofs.Rows.{head-rows}
 use Rattle.plan_reader.proofs.head_outcome.Statement.{statement}
 use Rattle.plan_reader.proofs.head_outcome.Tie as tie
 
@@ -32,15 +31,12 @@ or-first-requires : tie.Need-or-first-requires
 or-first-requires c κs = search needs
 
 returns : tie.Need-returns
-unfolding headOutcome
 returns c =
     let block = c .before in
     let size = block .before .before .before in
-    first-of (c .or-first .ensures)
-    (size .word-outcome .ensures
-    ∙ ap (wordOutcome _ 0 1) (size .before .size-allowed .ensures ∙ ap sizeAllowed (size .before .before .payload-at .ensures)))
-    (block .word-outcome2 .ensures
-    ∙ ap (wordOutcome _ 1 2) (block .before .within .ensures ∙ ap sideAllowed (block .before .before .payload-at2 .ensures)))
+    head-rows _ (c .or-first .ensures)
+    (rw (size .before .size-allowed .ensures ∙ ap sizeAllowed (size .before .before .payload-at .ensures)) at (size .word-outcome .ensures))
+    (rw (block .before .within .ensures ∙ ap sideAllowed (block .before .before .payload-at2 .ensures)) at (block .word-outcome2 .ensures))
 
 pub head-outcome-spec : {M : Type 1} → statement M
 head-outcome-spec =

@@ -2,8 +2,7 @@
 use mathlib.Core.Path.{ap, _∙_}
 use borrow.Author.Needs.{needs}
 use Rattle.plan_reader.specs.Layout.{passAllowed}
-use Rattle.plan_reader.specs.Reading.{wordOutcome, coefficientsOutcome, passOutcome}
-use Rattle.plan_reader.proofs.Outcomes.{first-of}
+use Rattle.plan_reader.proofs.Rows.{pass-rows}
 use Rattle.plan_reader.proofs.pass_outcome.Statement.{statement}
 use Rattle.plan_reader.proofs.pass_outcome.Tie as tie
 
@@ -38,16 +37,13 @@ or-first-requires-2 : tie.Need-or-first-requires-2
 or-first-requires-2 c κs = search needs
 
 returns : tie.Need-returns
-unfolding passOutcome
 returns c =
     let coefficients = c .before .before in
     let gain = coefficients .before .before in
     let head = gain .before in
-    first-of (c .or-first2 .ensures)
-    (head .word-outcome .ensures
-    ∙ ap (wordOutcome _ _ 3) (head .before .pass-allowed .ensures ∙ ap (passAllowed _) (head .before .before .payload-at .ensures)))
-    (first-of (c .before .or-first .ensures) (gain .word-outcome2 .ensures)
-    (coefficients .coefficients-outcome .ensures ∙ ap (coefficientsOutcome _ _) (coefficients .before .order-at .ensures)))
+    pass-rows _ (c .or-first2 .ensures) _ _ (c .before .or-first .ensures)
+    (rw (head .before .pass-allowed .ensures ∙ ap (passAllowed _) (head .before .before .payload-at .ensures)) at (head .word-outcome .ensures))
+    (gain .word-outcome2 .ensures) (rw (coefficients .before .order-at .ensures) at (coefficients .coefficients-outcome .ensures))
 
 pub pass-outcome-spec : {M : Type 1} → statement M
 pass-outcome-spec =

@@ -1,22 +1,23 @@
--- `plan_reader::passes_outcome` meets its contract: `outcome` is that of the first i passes. Assumes nothing.
-use mathlib.Core.Path.{_≡_, sym, ap, _∙_}
+-- `plan_reader::passes_outcome` meets its contract: `outcome` is that of the rows of the first i passes. Assumes nothing.
+use mathlib.Core.Path.{_≡_}
 use Prim.Native.Nat.{_-_, _≤_}
 use native.Mathlib.Omega.{arith}
 use borrow.Author.Needs.{needs}
-use Rattle.plan_reader.specs.Reading.{passOutcome, passesOutcome}
+use Rattle.refusal.specs.Table.{firstDue, answerOf}
+use Rattle.plan_reader.specs.Reading.{passesRows}
 use Rattle.plan_reader.proofs.Places.{pass-place-bounded}
-use Rattle.plan_reader.proofs.Outcomes.{first-of, passes-none, passes-more}
+use Rattle.plan_reader.proofs.Rows.{passes-none, passes-more}
 use Rattle.plan_reader.proofs.passes_outcome.Statement.{statement}
 use Rattle.plan_reader.proofs.passes_outcome.Tie as tie
 
 abbrev Inv-loop : tie.InvT-loop
-Inv-loop words outcome₀ i₀ outcome i = (i ≤ 4) × (outcome ≡ passesOutcome words i)
+Inv-loop words outcome₀ i₀ outcome i = (i ≤ 4) × (answerOf outcome ≡ firstDue (passesRows words i))
 
 abbrev μ-loop : tie.MeasureT-loop
 μ-loop words outcome₀ i₀ outcome i = 4 - i
 
 loop-holds : tie.Need-loop-holds Inv-loop μ-loop
-loop-holds c = (omega arith, sym (passes-none _))
+loop-holds c = (omega arith, passes-none _)
 
 pass-place-requires : tie.Need-pass-place-requires Inv-loop μ-loop
 pass-place-requires c κs = search needs
@@ -38,9 +39,8 @@ loop-again c =
     let pass = c .before in
     let place = pass .before in (
       omega arith,
-      first-of (c .or-first .ensures) (place .before .before .loop .inv .1)
-          (pass .pass-outcome .ensures ∙ ap (passOutcome _ _) (place .pass-place .ensures))
-          ∙ sym (passes-more _ _),
+      passes-more _ (c .or-first .ensures) _ (place .before .before .loop .inv .1)
+          (rw (place .pass-place .ensures) at (pass .pass-outcome .ensures)),
     )
 
 returns : tie.Need-returns Inv-loop μ-loop

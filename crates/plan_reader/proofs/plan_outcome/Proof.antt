@@ -1,10 +1,8 @@
 -- `plan_reader::plan_outcome` meets its contract: the words from left to right, then the block side. Assumes nothing.
-use mathlib.Core.Path.{ap, _∙_}
 use native.Mathlib.Omega.{arith}
 use borrow.Author.Needs.{needs}
-use Rattle.plan_reader.specs.Reading.{endOutcome, planOutcome}
 use Rattle.plan_reader.proofs.Places.{pass-place-bounded}
-use Rattle.plan_reader.proofs.Outcomes.{first-of}
+use Rattle.plan_reader.proofs.Rows.{plan-rows}
 use Rattle.plan_reader.proofs.plan_outcome.Statement.{statement}
 use Rattle.plan_reader.proofs.plan_outcome.Tie as tie
 
@@ -33,16 +31,13 @@ or-first-requires-3 : tie.Need-or-first-requires-3
 or-first-requires-3 c κs = search needs
 
 returns : tie.Need-returns
-unfolding planOutcome
 returns c =
     let last = c .before .before in
     let side = last .before in
     let end = side .before in
     let passes = end .before .before in
-    first-of (c .or-first3 .ensures) (passes .before .head-outcome .ensures)
-    (first-of (c .before .or-first2 .ensures) (passes .passes-outcome .ensures)
-    (first-of (last .or-first .ensures) (end .end-outcome .ensures ∙ ap (endOutcome _) (end .before .pass-place .ensures))
-    (side .side-outcome .ensures)))
+    plan-rows _ (c .or-first3 .ensures) (c .before .or-first2 .ensures) (last .or-first .ensures) (passes .before .head-outcome .ensures)
+    (passes .passes-outcome .ensures) (rw (end .before .pass-place .ensures) at (end .end-outcome .ensures)) (side .side-outcome .ensures)
 
 pub plan-outcome-spec : {M : Type 1} → statement M
 plan-outcome-spec =

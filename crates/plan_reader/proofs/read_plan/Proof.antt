@@ -1,6 +1,7 @@
 -- `plan_reader::read_plan` meets its contract: the record where the words are accepted, zeros beside a refusal. Assumes nothing.
-use mathlib.Core.Path.{sym, _∙_}
+use mathlib.Core.Path.{sym, ap, _∙_}
 use borrow.Author.Needs.{needs}
+use Rattle.refusal.specs.Table.{answerOf}
 use Rattle.plan_reader.proofs.Answers.{read-accepted, read-refused}
 use Rattle.plan_reader.proofs.read_plan.Statement.{statement}
 use Rattle.plan_reader.proofs.read_plan.Tie as tie
@@ -23,12 +24,12 @@ zero-plan-requires c κs = search needs
 returns : tie.Need-returns
 returns c =
     let t = c .before in
-    read-accepted _ (sym (t .before .before .plan-outcome .ensures) ∙ t .enum-told .given .1) (c .plan-from .ensures)
+    read-accepted _ (sym (t .before .before .plan-outcome .ensures) ∙ ap answerOf (t .enum-told .given .1)) (c .plan-from .ensures)
 
 returns-2 : tie.Need-returns-2
 returns-2 c =
     let t = c .before .before in
-    read-refused _ _ (sym (t .before .before .plan-outcome .ensures) ∙ t .outcome .given .1) (c .zero-plan .ensures)
+    read-refused _ (sym (t .before .before .plan-outcome .ensures) ∙ ap answerOf (t .outcome .given .1)) (c .zero-plan .ensures)
 
 pub read-plan-spec : {M : Type 1} → statement M
 read-plan-spec =

@@ -1,8 +1,8 @@
--- `plan_reader::word_outcome` meets its contract: each answer is a law of Outcomes. Assumes nothing.
+-- `plan_reader::word_outcome` meets its contract: each answer is a law of Rows. Assumes nothing.
 use mathlib.Core.Path.{sym}
 use borrow.Author.Needs.{needs}
 use borrow.Author.Tests.{not-true, not-false}
-use Rattle.plan_reader.proofs.Outcomes.{
+use Rattle.plan_reader.proofs.Rows.{
   word-missing,
   word-of-another-kind,
   word-out-of-range,

@@ -11,14 +11,28 @@ returns-2 c = simp (lt-leb _ _ (c .before .if1 .left), le-leb _ _ (c .if2 .taken
 
 returns-3 : tie.Need-returns-3
 returns-3 c =
-    simp (lt-leb _ _ (c .before .before .before .if1 .left), lt-leb _ _ (c .before .before .if2 .left), lt-ltb _ _ (c .if3 .taken))
+    let e = c .before .before in
+    simp (lt-leb _ _ (e .before .if1 .left), lt-leb _ _ (e .if2 .left), lt-ltb _ _ (c .if3 .taken))
 
 returns-4 : tie.Need-returns-4
 returns-4 c =
-    let a = lt-leb _ _ (c .before .before .before .before .if1 .left) in
-    let b = lt-leb _ _ (c .before .before .before .if2 .left) in
-    let d = le-ltb _ _ (c .before .if3 .left) in
-    rw (a, b, d)
+    let f = c .before .before in
+    let e = f .before .before in
+    let p = e .before .if1 .left in
+    let q = e .if2 .left in
+    let r = f .if3 .left in
+    let s = c .if4 .taken in
+    simp (lt-leb, le-ltb, lt-ltb)
+
+returns-5 : tie.Need-returns-5
+returns-5 c =
+    let f = c .before .before in
+    let e = f .before .before in
+    let p = e .before .if1 .left in
+    let q = e .if2 .left in
+    let r = f .if3 .left in
+    let s = c .if4 .left in
+    simp (lt-leb, le-ltb)
 
 pub outside-spec : {M : Type 1} → statement M
-outside-spec = tie.close (tie.spec returns returns-2 returns-3 returns-4)
+outside-spec = tie.close (tie.spec returns returns-2 returns-3 returns-4 returns-5)

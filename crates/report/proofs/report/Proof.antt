@@ -1,42 +1,43 @@
--- Refusal 6 by the check of the record, else the report on its sizes.
+-- Refusal 6 where the record breaks a rule, else the report on its sizes.
 use borrow.Author.Needs.{needs}
-use Rattle.plan.proofs.Tests.{failed, passed}
-use Rattle.report.proofs.Answers.{sized}
-use Rattle.report.specs.Report.{report}
+use Rattle.report.proofs.Answers.{broken-record, known-sized, known-report}
 use Rattle.report.proofs.report.Statement.{statement}
 use Rattle.report.proofs.report.Tie as tie
 
-check-requires : tie.Need-check-requires
-check-requires c κs = search needs
+sizes-requires : tie.Need-sizes-requires
+sizes-requires c κs = search needs
 
-returns : tie.Need-returns
-unfolding report
-returns c = rw (failed (c .before .check .ensures) (c .if1 .taken))
-
-block-rows-requires : tie.Need-block-rows-requires
-block-rows-requires c κs = search needs
-
-block-columns-requires : tie.Need-block-columns-requires
-block-columns-requires c κs = search needs
+enum-known-known : tie.Need-enum-known-known
+enum-known-known c = search needs
 
 report-on-requires : tie.Need-report-on-requires
 report-on-requires c κs =
-    let kept = passed (c .before .before .before .check .ensures) (c .before .before .if1 .left) in
-    rw (c .before .block-rows .ensures, c .block-columns .ensures) (sized _ kept)
+    let sizes = c .before .before .before in
+    let a = sizes .before .before .args in
+    known-sized (a .plan) (a .marks .now) _ (sizes .sizes .ensures) _ (c .before .known .given .1)
+
+enum-known-known-2 : tie.Need-enum-known-known-2
+enum-known-known-2 c = search needs
+
+returns : tie.Need-returns
+returns c =
+    let sizes = c .before .before .before .before in
+    let a = sizes .before .before .args in
+    known-report (a .plan) (a .marks .now) _ (sizes .sizes .ensures) _ (c .before .before .known .given .1) (c .report-on .result) (c .report-on .ensures)
 
 returns-2 : tie.Need-returns-2
-unfolding report
 returns-2 c =
-    let kept = passed (c .before .before .before .before .check .ensures) (c .before .before .before .if1 .left) in
-    rw (kept, ← (c .before .before .block-rows .ensures), ← (c .before .block-columns .ensures)) (c .report-on .ensures)
+    let sizes = c .before .before .before in
+    let a = sizes .before .before .args in
+    broken-record (a .plan) (a .marks .now) _ (sizes .sizes .ensures) _ (c .before .known2 .given .1)
 
 pub report-spec : {M : Type 1} → statement M
 report-spec =
     tie.close
     (tie.spec
-    check-requires
-    returns
-    block-rows-requires
-    block-columns-requires
+    sizes-requires
+    enum-known-known
     report-on-requires
+    enum-known-known-2
+    returns
     returns-2)

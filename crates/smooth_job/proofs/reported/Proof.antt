@@ -24,7 +24,7 @@ returns c =
 returns-2 : tie.Need-returns-2
 returns-2 c =
     let a = c .before .before in
-    reported-refused _ _ _ (a .before .before .report .ensures) _ (a .answer2 .given .1) (c .refused .ensures)
+    reported-refused _ _ _ (a .before .before .report .ensures) _ (a .answer2 .given .1) (c .refused .result) (c .refused .ensures)
 
 pub reported-spec : {M : Type 1} → statement M
 reported-spec =

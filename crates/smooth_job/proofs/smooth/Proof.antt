@@ -10,7 +10,7 @@ refused-requires : tie.Need-refused-requires
 refused-requires c κs = search needs
 
 returns : tie.Need-returns
-returns c = not-whole _ (c .before .if1 .taken) _ _ (c .refused .ensures)
+returns c = not-whole _ (c .before .if1 .taken) (c .refused .result) _ (c .refused .ensures)
 
 plan-length-requires : tie.Need-plan-length-requires
 plan-length-requires c κs = search needs
@@ -52,7 +52,7 @@ returns-2 c =
     let i = t .before .before in
     let n = i .before in
     rw
-    (by-plan _ (n .before .if1 .left) _ (n .plan-length .ensures) _ (i .plan-in .ensures) _ (t .enum-told .given .1))
+    (by-plan _ (n .before .if1 .left) _ (n .plan-length .ensures) _ (i .plan-in .ensures) (t .enum-told .given .1))
     at (p .smooth-plan .ensures)
 
 returns-3 : tie.Need-returns-3
@@ -60,7 +60,7 @@ returns-3 c =
     let o = c .before .before in
     let i = o .before .before in
     let n = i .before in
-    plan-refused _ (n .before .if1 .left) _ (n .plan-length .ensures) _ (i .plan-in .ensures) _ (o .outcome .given .1) _ _
+    plan-refused _ (n .before .if1 .left) _ (n .plan-length .ensures) _ (i .plan-in .ensures) _ (o .outcome .given .1) (c .refused2 .result) _
     (c .refused2 .ensures)
 
 pub smooth-spec : {M : Type 1} → statement M

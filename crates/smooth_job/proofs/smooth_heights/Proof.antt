@@ -44,7 +44,7 @@ returns c =
     let w = a .before .before .before .before .before .before in
     let s = w .before .before .before .before in
     job-accepted _ _ _ _ (s .before .fresh-marks .ensures) _ (s .fresh-strips .ensures) _ (w .whole-job .ensures .0) _ _ _
-    (w .whole-job .ensures .1) (a .enum-told .given .1) _ (c .reported .ensures)
+    (w .whole-job .ensures .1) (a .enum-told .given .1) (c .reported .result) (c .reported .ensures)
 
 same-length-2 : tie.Need-same-length-2
 same-length-2 c = search needs
@@ -55,7 +55,7 @@ returns-2 c =
     let w = a .before .before .before .before .before .before in
     let s = w .before .before .before .before in
     job-refused _ _ _ _ (s .before .fresh-marks .ensures) _ (s .fresh-strips .ensures) _ (w .whole-job .ensures .0) _ _ _
-    (w .whole-job .ensures .1) _ (a .outcome .given .1) _ (c .refused .ensures)
+    (w .whole-job .ensures .1) _ (a .outcome .given .1) (c .refused .result) (c .refused .ensures)
 
 pub smooth-heights-spec : {M : Type 1} → statement M
 smooth-heights-spec =

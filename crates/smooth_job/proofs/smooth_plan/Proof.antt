@@ -1,59 +1,56 @@
--- `smooth_job::smooth_plan` meets its contract: the pixels are few, so that their product fits, and each test is the
--- definition's. Assumes nothing.
-use native.Mathlib.Omega.{arith}
-use Rattle.plan.proofs.Needed.{bounds}
-use Rattle.smooth_job.proofs.Answers.{too-many-pixels, wrong-heights, right-heights}
+-- `smooth_job::smooth_plan` meets its contract: a plan that keeps the rules has sizes. Assumes nothing.
+use mathlib.Core.Path.{ap}
+use Rattle.plan.specs.declared.Sizes.{Sizes}
+use Rattle.plan.specs.Sizes.{sizesOf}
+use Rattle.plan.proofs.Known.{sizes-known}
+use Rattle.smooth_job.proofs.Answers.{kept-refused}
 use borrow.Author.Needs.{needs}
 use Rattle.smooth_job.proofs.smooth_plan.Statement.{statement}
 use Rattle.smooth_job.proofs.smooth_plan.Tie as tie
 
-mul-pixels : tie.Need-mul-pixels
-mul-pixels c = omega (arith, bounds _ (c .before .before .before .pre .0) .pixels-high)
+sizes-requires : tie.Need-sizes-requires
+sizes-requires c κs = search needs
+
+enum-known-known : tie.Need-enum-known-known
+enum-known-known c = search needs
+
+smooth-counted-requires : tie.Need-smooth-counted-requires
+unfolding sizesOf
+smooth-counted-requires c κs =
+    let known = c .before .before in
+    let sizes = known .before .before in
+    let s = sizes .before .before .before in
+    let are = sizes-known (s .args .plan) _ (sizes .sizes .ensures) _ (known .known .given .1) .1 in
+    (ap (λ (z : Sizes). z .pixels) are, s .pre .1, s .pre .2)
+
+enum-known-known-2 : tie.Need-enum-known-known-2
+enum-known-known-2 c = search needs
 
 refused-requires : tie.Need-refused-requires
 refused-requires c κs = search needs
 
-returns : tie.Need-returns
-returns c =
-    let s = c .before .before .before .before .before in
-    too-many-pixels (s .args .plan) (s .args .input .now) (c .before .if1 .taken) _ _ (c .refused .ensures)
-
-add-if2 : tie.Need-add-if2
-add-if2 c = search needs
-
-refused-requires-2 : tie.Need-refused-requires-2
-refused-requires-2 c κs = search needs
-
-returns-2 : tie.Need-returns-2
-returns-2 c =
-    let e = c .before .before in
-    let s = e .before .before .before .before in
-    wrong-heights (s .args .plan) (s .args .input .now) (e .if1 .left) _ (s .pre .1) (c .before .if2 .taken) _ _ (c .refused2 .ensures)
-
-smooth-map-requires : tie.Need-smooth-map-requires
-smooth-map-requires c κs = search needs
-
 same-length : tie.Need-same-length
 same-length c = search needs
 
-returns-3 : tie.Need-returns-3
-returns-3 c =
-    let m = c .before .before in
-    let f = m .before .before in
-    let e = f .before in
-    let s = e .before .before .before .before in
-    rw (right-heights (s .args .plan) (s .args .input .now) (e .if1 .left) _ (s .pre .1) (f .if2 .left)) at (m .smooth-map .ensures)
+returns : tie.Need-returns
+returns c = search needs
+
+returns-2 : tie.Need-returns-2
+returns-2 c =
+    let known = c .before .before in
+    let sizes = known .before .before in
+    let s = sizes .before .before .before in
+    kept-refused (s .args .plan) (s .args .input .now) (s .pre .0) _ (sizes .sizes .ensures) _ (known .known2 .given .1)
 
 pub smooth-plan-spec : {M : Type 1} → statement M
 smooth-plan-spec =
     tie.close
     (tie.spec
-    mul-pixels
+    sizes-requires
+    enum-known-known
+    smooth-counted-requires
+    enum-known-known-2
     refused-requires
-    returns
-    add-if2
-    refused-requires-2
-    returns-2
-    smooth-map-requires
     same-length
-    returns-3)
+    returns
+    returns-2)

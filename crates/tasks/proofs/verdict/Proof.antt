@@ -5,7 +5,7 @@ use borrow.Author.Needs.{needs}
 use borrow.Author.Tests.{le-ltb, lt-ltb}
 use Rattle.plan.proofs.Tests.{failed, passed}
 use Rattle.tasks.proofs.Places.{exists-block, exists-task}
-use Rattle.tasks.specs.Verdict.{verdict}
+use Rattle.tasks.specs.Verdict.{verdictRows}
 use Rattle.tasks.proofs.verdict.Statement.{statement}
 use Rattle.tasks.proofs.verdict.Tie as tie
 
@@ -13,7 +13,7 @@ exists-requires : tie.Need-exists-requires
 exists-requires c κs = c .before .pre .grid
 
 returns : tie.Need-returns
-unfolding verdict
+unfolding verdictRows
 returns c = rw (failed (c .before .exists .ensures) (c .if1 .taken))
 
 least-broken-requires : tie.Need-least-broken-requires
@@ -25,7 +25,7 @@ mul-if2 : tie.Need-mul-if2
 mul-if2 c = search needs
 
 returns-2 : tie.Need-returns-2
-unfolding verdict
+unfolding verdictRows
 returns-2 c =
     let there = passed (c .before .before .before .exists .ensures) (c .before .before .if1 .left) in
     rw (there, ← (c .before .least-broken .ensures), lt-ltb _ _ (c .if2 .taken))
@@ -36,7 +36,7 @@ is-marked-requires c κs =
     (exists-task _ _ _ _ there, omega (arith, exists-block _ _ _ _ there, c .before .before .before .before .before .pre .enough))
 
 returns-3 : tie.Need-returns-3
-unfolding verdict
+unfolding verdictRows
 returns-3 c =
     let there = passed (c .before .before .before .before .before .exists .ensures) (c .before .before .before .before .if1 .left) in
     let marked = sym (c .before .is-marked .ensures) ∙ c .if3 .taken in
@@ -48,14 +48,14 @@ needs-met-requires c κs =
     (record { lent = c .before .before .before .before .before .before .before .pre; inside = exists-block _ _ _ _ there }, exists-task _ _ _ _ there)
 
 returns-4 : tie.Need-returns-4
-unfolding verdict
+unfolding verdictRows
 returns-4 c =
     let there = passed (c .before .before .before .before .before .before .before .exists .ensures) (c .before .before .before .before .before .before .if1 .left) in
     let marked = sym (c .before .before .before .is-marked .ensures) ∙ c .before .before .if3 .left in
     rw (there, ← (c .before .before .before .before .before .least-broken .ensures), le-ltb _ _ (c .before .before .before .before .if2 .left), marked, failed (c .before .needs-met .ensures) (c .if4 .taken))
 
 returns-5 : tie.Need-returns-5
-unfolding verdict
+unfolding verdictRows
 returns-5 c =
     let there = passed (c .before .before .before .before .before .before .before .exists .ensures) (c .before .before .before .before .before .before .if1 .left) in
     let marked = sym (c .before .before .before .is-marked .ensures) ∙ c .before .before .if3 .left in

@@ -1,13 +1,7 @@
 -- `whole_job::whole_job` meets its contract: each way through its tests is one of the definition's.
 -- Assumes nothing.
 use borrow.Author.Needs.{needs}
-use Rattle.whole_job.proofs.Performed.{
-  whole-broken,
-  whole-map-short,
-  whole-output-short,
-  whole-start-refused,
-  whole-accepted,
-}
+use Rattle.whole_job.proofs.Performed.{whole-broken, whole-short, whole-accepted}
 use Rattle.whole_job.proofs.whole_job.Statement.{statement}
 use Rattle.whole_job.proofs.whole_job.Tie as tie
 
@@ -17,28 +11,26 @@ sizes-requires c κs = search needs
 enum-known-known : tie.Need-enum-known-known
 enum-known-known c = search needs
 
+all-lent-requires : tie.Need-all-lent-requires
+all-lent-requires c κs = search needs
+
+enum-known-lengths : tie.Need-enum-known-lengths
+enum-known-lengths c = search needs
+
 returns : tie.Need-returns
 returns c =
-    let k = c .before .before .before in
-    whole-map-short _ _ _ _ (k .before .before .sizes .ensures) _ (k .known .given .1) (c .if1 .taken)
-
-returns-2 : tie.Need-returns-2
-returns-2 c =
-    let e = c .before .before in
-    let k = e .before .before .before in
-    whole-output-short _ _ _ _ (k .before .before .sizes .ensures) _ (k .known .given .1) (e .if1 .left) (c .if2 .taken)
-
-start-requires : tie.Need-start-requires
-start-requires c κs = search needs
+    let lent = c .before .before .before in
+    let sizes = lent .before .before .before .before in
+    whole-short _ _ _ _ (sizes .sizes .ensures) _ (lent .before .before .known .given .1) _ (lent .all-lent .ensures) _ (c .before .lengths .given .1)
 
 enum-told : tie.Need-enum-told
 enum-told c = search needs
 
+start-requires : tie.Need-start-requires
+start-requires c κs = search needs
+
 perform-steps-requires : tie.Need-perform-steps-requires
 perform-steps-requires c κs = search needs
-
-enum-known-outcome : tie.Need-enum-known-outcome
-enum-known-outcome c = search needs
 
 enum-known-known-2 : tie.Need-enum-known-known-2
 enum-known-known-2 c = search needs
@@ -52,35 +44,18 @@ same-length-2 c = search needs
 same-length-3 : tie.Need-same-length-3
 same-length-3 c = search needs
 
+returns-2 : tie.Need-returns-2
+returns-2 c =
+    let steps = c .before .before .before .before .before .before in
+    let start = steps .before .before .before .before .before .before .before .before in
+    let told = start .before .before .before in
+    let lent = told .before .before in
+    let sizes = lent .before .before .before .before in
+    whole-accepted _ _ _ _ (sizes .sizes .ensures) _ (lent .before .before .known .given .1) _ (lent .all-lent .ensures)
+    (told .enum-told .given .1) _ _ (start .start .ensures .1 .0) (start .start .ensures .1 .1) _ (steps .perform-steps .ensures)
+
 returns-3 : tie.Need-returns-3
 returns-3 c =
-    let p = c .before .before .before .before .before .before in
-    let a = p .before .before .before .before in
-    let s = a .before .before .before .before .before .before in
-    let f = s .before .before .before in
-    let e = f .before .before in
-    let k = e .before .before .before in
-    whole-accepted _ _ _ _ (k .before .before .sizes .ensures) _ (k .known .given .1) (e .if1 .left) (f .if2 .left) _
-    (s .start .ensures .0) _ _ (s .start .ensures .1 .0) (s .start .ensures .1 .1) (a .enum-told .given .1) _
-    (p .perform-steps .ensures)
-
-same-length-4 : tie.Need-same-length-4
-same-length-4 c = search needs
-
-same-length-5 : tie.Need-same-length-5
-same-length-5 c = search needs
-
-returns-4 : tie.Need-returns-4
-returns-4 c =
-    let s = c .before .before .before .before .before .before .before in
-    let f = s .before .before .before in
-    let e = f .before .before in
-    let k = e .before .before .before in
-    whole-start-refused _ _ _ _ (k .before .before .sizes .ensures) _ (k .known .given .1) (e .if1 .left) (f .if2 .left) _
-    (s .start .ensures .0) _ _ (s .start .ensures .1 .0) (s .start .ensures .1 .1) _ (c .before .outcome .given .1)
-
-returns-5 : tie.Need-returns-5
-returns-5 c =
     whole-broken _ _ _ _ (c .before .before .before .sizes .ensures) _ (c .before .known2 .given .1)
 
 pub whole-job-spec : {M : Type 1} → statement M
@@ -89,18 +64,15 @@ whole-job-spec =
     (tie.spec
     sizes-requires
     enum-known-known
+    all-lent-requires
+    enum-known-lengths
     returns
-    returns-2
-    start-requires
     enum-told
+    start-requires
     perform-steps-requires
-    enum-known-outcome
     enum-known-known-2
     same-length
     same-length-2
     same-length-3
-    returns-3
-    same-length-4
-    same-length-5
-    returns-4
-    returns-5)
+    returns-2
+    returns-3)

@@ -1,7 +1,6 @@
 -- `plan::Plan::sizes` meets its contract: the sizes where the check passes, the refusal where it does not. Assumes nothing.
-use mathlib.Core.Path.{sym, ap, _∙_}
+use mathlib.Core.Path.{sym, _∙_}
 use borrow.Author.Needs.{needs}
-use Rattle.plan.specs.declared.PlanSizes.the-variants.{Known}
 use Rattle.plan.specs.Sizes.{planSizes}
 use Rattle.plan.proofs.Plan.sizes.Statement.{statement}
 use Rattle.plan.proofs.Plan.sizes.Tie as tie
@@ -14,11 +13,11 @@ kept-sizes-requires c κs = sym (c .before .check .ensures) ∙ c .if1 .taken
 
 returns : tie.Need-returns
 unfolding planSizes
-returns c = simp (sym (c .before .before .check .ensures) ∙ c .before .if1 .taken) (ap Known (c .kept-sizes .ensures))
+returns c = rw (sym (c .before .before .check .ensures) ∙ c .before .if1 .taken, c .kept-sizes .ensures)
 
 returns-2 : tie.Need-returns-2
 unfolding planSizes
-returns-2 c = simp (sym (c .before .check .ensures) ∙ c .if1 .left)
+returns-2 c = rw (sym (c .before .check .ensures) ∙ c .if1 .left)
 
 pub sizes-spec : {M : Type 1} → statement M
 sizes-spec = tie.close (tie.spec check-requires kept-sizes-requires returns returns-2)

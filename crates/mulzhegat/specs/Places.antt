@@ -1,0 +1,29 @@
+-- The place of every refusal that a call can answer fits the lower half of its code.
+use mathlib.Core.List.{List}
+use Prim.Native.Nat.{ℕ, _<_}
+use lib.IntN.{ℤ}
+use Rattle.refusal.specs.Table.{Answer, placeIn}
+use Rattle.plan.specs.declared.Plan.{Plan}
+use Rattle.plan.specs.Sizes.{planSizes}
+use Rattle.plan_reader.specs.Reading.{readPlan}
+use Rattle.plan_writer.specs.Writing.{writePlan}
+use Rattle.serial.specs.Serial.{serialAnswer}
+use Rattle.rectangle.specs.Rectangle.{rectangleCall}
+use Rattle.calls.specs.Calls.{Buffers, startAnswer, taskAnswer}
+use Rattle.report.specs.Report.{report}
+
+-- A place is below 2^32.
+abbrev pub Fits : Answer → Type 0
+Fits answer = placeIn answer < 4294967296
+
+-- So it is in the answer of each call.
+pub record PlacesFit : Type 0 where
+  pub plan-read : (words : List ℕ) → Fits (readPlan words .answer)
+  pub plan-write : (plan : Plan) (room : ℕ) → Fits (writePlan plan room .answer)
+  pub plan-sizes : (plan : Plan) → Fits (planSizes plan .answer)
+  pub start : (plan : Plan) (marks strips : List ℕ) → Fits (startAnswer plan marks strips)
+  pub task : (plan : Plan) (heights : List ℤ) (buffers : Buffers) (t k : ℕ) → Fits (taskAnswer plan heights buffers t k)
+  pub report-on : (plan : Plan) (marks : List ℕ) → Fits (report plan marks .answer)
+  pub serial : (plan : Plan) (mapLength outputLength : ℕ) → Fits (serialAnswer plan mapLength outputLength)
+  pub rectangle : (plan : Plan) (table : List ℕ) (top left bottom right : ℕ)
+      → Fits (rectangleCall plan table top left bottom right .answer)

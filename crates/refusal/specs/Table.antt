@@ -1,0 +1,63 @@
+-- What a call answers: the rows of document 01's table of refused calls that it can be refused by, in the document's order. The
+-- first row that is due decides.
+use mathlib.Core.Bool.{Bool, cond}
+use mathlib.Core.List.{List, [], _∷_}
+use Prim.Native.Nat.{ℕ}
+use Rattle.refusal.specs.declared.Outcome.{Outcome}
+use Rattle.refusal.specs.declared.Outcome.the-variants.{Accepted, Refused}
+use Rattle.refusal.specs.Refusals.{numberOf, placeOf}
+
+infix 68 _at_when_
+-- An answer in document 01's numbers: accepted, or refused by a number with a place.
+pub data Answer : Type 0 where
+  accepted : Answer
+  refused : (number place : ℕ) → Answer
+
+-- Of two answers, one after the other, the first that refuses decides.
+abbrev pub firstOf : Answer → Answer → Answer
+firstOf accepted later = later
+firstOf (refused number place) later = refused number place
+
+-- A row of the table: the number and the place that are returned, and whether the cause is there.
+pub record Row : Type 0 where
+  pub number : ℕ
+  pub place : ℕ
+  pub due : Bool
+
+-- `7 at 0 when cause` is a row.
+abbrev pub _at_when_ : ℕ → ℕ → Bool → Row
+number at place when cause = record { number = number; place = place; due = cause }
+
+-- The answer that rows give: the first that is due, and accepted where none is.
+abbrev pub firstDue : List Row → Answer
+firstDue [] = accepted
+firstDue (row ∷ rows) = cond (row .due) (refused (row .number) (row .place)) (firstDue rows)
+
+-- The answer that an outcome stands for.
+abbrev pub answerOf : Outcome → Answer
+answerOf Accepted = accepted
+answerOf (Refused refusal) = refused (numberOf refusal) (placeOf refusal)
+
+-- The number of an answer, 0 where the call is accepted;
+abbrev pub numberIn : Answer → ℕ
+numberIn accepted = 0
+numberIn (refused number place) = number
+
+-- and the place beside it.
+abbrev pub placeIn : Answer → ℕ
+placeIn accepted = 0
+placeIn (refused number place) = place
+
+-- Of two values, that of an accepted call or that of a refused one.
+abbrev pub ifAccepted : {A : Type 0} → Answer → A → A → A
+ifAccepted accepted value otherwise = value
+ifAccepted (refused number place) value otherwise = otherwise
+
+-- An answer and the value beside it.
+pub record Given (A : Type 0) : Type 0 where
+  pub answer : Answer
+  pub value : A
+
+-- The value of an accepted call; beside a refusal it is all zeros.
+abbrev pub given : {A : Type 0} → Answer → A → A → Given A
+given answer value zeros = record { answer = answer; value = ifAccepted answer value zeros }
