@@ -14,8 +14,9 @@ library:
 bench: library
 	@cd rust && cargo run --release --offline --quiet --bin bench -- --svg ../docs/benchmarks.svg
 
-# The random tests for longer than the gate does.
+# The random tests for longer than the gate does; one of them runs the program calls_run.
 soak: library
+	@rt check calls_run
 	@cd rust && MULZHEGAT_ROUNDS=$${MULZHEGAT_ROUNDS:-50} cargo test --release --offline -- --nocapture
 
 clean:

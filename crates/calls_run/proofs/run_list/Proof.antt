@@ -1,0 +1,80 @@
+-- `calls_run::run_list` is safe: half of the tasks is no more than there are blocks. Assumes nothing.
+use mathlib.Core.Path.{sym}
+use native.Mathlib.Omega.{arith}
+use lib.Seq.{length-take-le}
+use borrow.Author.Needs.{needs}
+use mathlib.Core.Path.{sym}
+use native.Mathlib.Omega.{arith}
+use lib.Seq.{length-take-le}
+use borrow.Author.Needs.{needs}
+use Rattle.calls_run.proofs.run_list.Statement.{statement}
+use Rattle.calls_run.proofs.run_list.Tie as tie
+
+slice-aggregate-run-calls : tie.Need-slice-aggregate-run-calls
+slice-aggregate-run-calls c = sym (length-take-le _ _ (omega arith))
+
+run-calls-requires : tie.Need-run-calls-requires
+run-calls-requires c κs = search needs
+
+mul-run-calls : tie.Need-mul-run-calls
+mul-run-calls c = search needs
+
+sub-run-calls : tie.Need-sub-run-calls
+sub-run-calls c = search needs
+
+part-run-calls-start : tie.Need-part-run-calls-start
+part-run-calls-start c = search needs
+
+part-run-calls-end : tie.Need-part-run-calls-end
+part-run-calls-end c = search needs
+
+mul-run-calls-2 : tie.Need-mul-run-calls-2
+mul-run-calls-2 c = search needs
+
+sub-run-calls-2 : tie.Need-sub-run-calls-2
+sub-run-calls-2 c = search needs
+
+part-run-calls-start-2 : tie.Need-part-run-calls-start-2
+part-run-calls-start-2 c = search needs
+
+part-run-calls-end-2 : tie.Need-part-run-calls-end-2
+part-run-calls-end-2 c = search needs
+
+run-calls-requires-2 : tie.Need-run-calls-requires-2
+run-calls-requires-2 c κs = search needs
+
+print-job-requires : tie.Need-print-job-requires
+print-job-requires c κs = search needs
+
+same-length : tie.Need-same-length
+same-length c = search needs
+
+same-length-2 : tie.Need-same-length-2
+same-length-2 c = search needs
+
+same-length-3 : tie.Need-same-length-3
+same-length-3 c = search needs
+
+returns : tie.Need-returns
+returns c = search needs
+
+pub run-list-spec : {M : Type 1} → statement M
+run-list-spec =
+    tie.close
+    (tie.spec
+    slice-aggregate-run-calls
+    run-calls-requires
+    mul-run-calls
+    sub-run-calls
+    part-run-calls-start
+    part-run-calls-end
+    mul-run-calls-2
+    sub-run-calls-2
+    part-run-calls-start-2
+    part-run-calls-end-2
+    run-calls-requires-2
+    print-job-requires
+    same-length
+    same-length-2
+    same-length-3
+    returns)
