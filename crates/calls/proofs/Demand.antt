@@ -332,9 +332,14 @@ short-lists : (plan : Plan) (heights : List ℤ) (lent : Buffers) → startAnswe
 unfolding lentRows sizesOf started
 short-lists plan heights lent e =
     let rules = start-accepts plan (lent .marks) (lent .strips) e .rules in
-    ⊎-elim (λ (h : length heights < neededPixels plan). rw (rules, lt-ltb (length heights) (neededPixels plan) h) (first-two (ltb (length (started plan lent .marks)) (neededMarks plan)) (ltb (length (started plan lent .strips)) (neededStrips plan))))
+    let marks = ltb (length (started plan lent .marks)) (neededMarks plan) in
+    let strips = ltb (length (started plan lent .strips)) (neededStrips plan) in
+    ⊎-elim
+    (λ (h : length heights < neededPixels plan).
+    rw (rules, lt-ltb (length heights) (neededPixels plan) h) (first-two marks strips))
     (λ (h : length (lent .output) < neededPixels plan).
-    rw (rules, lt-ltb (length (lent .output)) (neededPixels plan) h) (first-three (ltb (length (started plan lent .marks)) (neededMarks plan)) (ltb (length (started plan lent .strips)) (neededStrips plan)) (ltb (length heights) (neededPixels plan))))
+    rw (rules, lt-ltb (length (lent .output)) (neededPixels plan) h)
+    (first-three marks strips (ltb (length heights) (neededPixels plan))))
   where
     first-two : (a b : Bool) → firstDue (7 at 0 when a ∷ 7 at 0 when b ∷ 7 at 0 when true ∷ []) ≡ refused 7 0
     first-two true b = refl

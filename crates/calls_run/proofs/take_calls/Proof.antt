@@ -8,7 +8,9 @@ use Rattle.calls_run.proofs.take_calls.Statement.{statement}
 use Rattle.calls_run.proofs.take_calls.Tie as tie
 
 abbrev Inv-loop : tie.InvT-loop
-Inv-loop words tasks₀ blocks₀ count i₀ tasks blocks i = (length tasks ≡ length tasks₀) × (length blocks ≡ length blocks₀) × (count ≤ length tasks₀) × (count ≤ length blocks₀) × (2 * count ≤ length words)
+Inv-loop words tasks₀ blocks₀ count i₀ tasks blocks i =
+    (length tasks ≡ length tasks₀) × (length blocks ≡ length blocks₀) × (count ≤ length tasks₀) × (count ≤ length blocks₀)
+    × (2 * count ≤ length words)
 
 abbrev μ-loop : tie.MeasureT-loop
 μ-loop words tasks₀ blocks₀ count i₀ tasks blocks i = count - i

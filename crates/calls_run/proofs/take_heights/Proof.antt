@@ -8,7 +8,8 @@ use Rattle.calls_run.proofs.take_heights.Statement.{statement}
 use Rattle.calls_run.proofs.take_heights.Tie as tie
 
 abbrev Inv-loop : tie.InvT-loop
-Inv-loop words wanted heights₀ count i₀ heights i = (length heights ≡ length heights₀) × (count ≤ length heights₀) × (count ≤ length words)
+Inv-loop words wanted heights₀ count i₀ heights i =
+    (length heights ≡ length heights₀) × (count ≤ length heights₀) × (count ≤ length words)
 
 abbrev μ-loop : tie.MeasureT-loop
 μ-loop words wanted heights₀ count i₀ heights i = count - i
