@@ -11,7 +11,7 @@ use Rattle.refusal.specs.declared.Outcome.the-variants.{Accepted, Refused}
 use Rattle.refusal.specs.Table.{answerOf, ifAccepted}
 use Rattle.plan.specs.declared.Plan.{Plan}
 use Rattle.tasks.specs.Tasks.{BlockTask}
-use Rattle.calls.specs.Calls.{
+use Rattle.job_spec.specs.Calls.{
   Buffers,
   taskAnswer,
   afterTask,
@@ -20,8 +20,8 @@ use Rattle.calls.specs.Calls.{
   acceptedCount,
   callsFrom,
 }
-use Rattle.calls.proofs.Demand.{demand3}
-use Rattle.job.specs.Demand.{Ran}
+use Rattle.job_spec.proofs.Demand3.{demand3}
+use Rattle.job.specs.RunCalls.{Ran}
 
 -- A call adds at most one accepted call.
 pub one-most : (outcome : Outcome) → ifAccepted (answerOf outcome) 1 0 ≤ 1

@@ -19,7 +19,7 @@ use Rattle.plan.specs.Sizes.{sizesOf, planSizes, sizesGiven}
 use Rattle.plan.proofs.Known.{sizes-known, sizes-refused}
 use Rattle.tasks.proofs.Marking.{mark-nothing}
 use Rattle.filter.proofs.Written.{written-none, written-next}
-use Rattle.calls.specs.Calls.{startAnswer, unmarked, cleared, marksAfterStart, stripsAfterStart}
+use Rattle.job_spec.specs.Calls.{startAnswer, unmarked, cleared, marksAfterStart, stripsAfterStart}
 
 module _ (words : List ℕ) where
   pub cleared-none : cleared 0 words ≡ words

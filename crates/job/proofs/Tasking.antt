@@ -25,8 +25,8 @@ use Rattle.tasks.specs.Grid.{Lent}
 use Rattle.tasks.specs.Marks.{withBit}
 use Rattle.tasks.specs.Verdict.{verdictRows}
 use Rattle.tasks.proofs.Verdicts.{accepted-settable}
-use Rattle.blocks.specs.Writes.{mapOf, collected, linked, finished}
-use Rattle.calls.specs.Calls.{Buffers, lists, lentRows, taskAnswer, stripsAfter, outputAfter, performed, afterTask}
+use Rattle.task_words.specs.Writes.{mapOf, collected, linked, finished}
+use Rattle.job_spec.specs.Calls.{Buffers, lists, lentRows, taskAnswer, stripsAfter, outputAfter, performed, afterTask}
 use Rattle.job.specs.Fits.{Fits}
 
 -- ---- the answer

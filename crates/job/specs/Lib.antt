@@ -1,2 +1,2 @@
 pub mod Fits
-pub mod Demand
+pub mod RunCalls

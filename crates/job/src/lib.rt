@@ -6,10 +6,10 @@ ghost use mathlib.Core.Path.{_≡_};
 ghost use Prim.Native.Nat.{_≤_};
 ghost use lib.ListN.{length};
 ghost use Rattle.refusal.specs.Table.{accepted, answerOf, ifAccepted};
-ghost use Rattle.calls.specs.Calls.{lists, startAnswer, unmarked, cleared, marksAfterStart, stripsAfterStart};
-ghost use Rattle.calls.specs.Calls.{taskAnswer, stripsAfter, outputAfter, performed, afterTask, callsOf};
+ghost use Rattle.job_spec.specs.Calls.{lists, startAnswer, unmarked, cleared, marksAfterStart, stripsAfterStart};
+ghost use Rattle.job_spec.specs.Calls.{taskAnswer, stripsAfter, outputAfter, performed, afterTask, callsOf};
 ghost use Rattle.job.specs.Fits.{Fits};
-ghost use Rattle.job.specs.Demand.{Ran};
+ghost use Rattle.job.specs.RunCalls.{Ran};
 
 // The mark of a block with no task done: kind 7 in the top four bits.
 const UNMARKED: u32 = 0x7000_0000;
@@ -138,8 +138,8 @@ fn write_block(
     ensures words { λ _. ⌜ now (output .exit) ≡ outputAfter plan (now (map .entry)) task block (now (strips .entry)) (now (output .entry)) ⌝ }
 {
     match task {
-        0 => block::collect(plan, block, map, strips),
-        5 => block::finish(plan, block, map, strips, output),
+        0 => collect_finish::collect(plan, block, map, strips),
+        5 => collect_finish::finish(plan, block, map, strips, output),
         _ => link::link(plan, block, task - 1, strips),
     }
 }

@@ -14,7 +14,7 @@ use Rattle.passes.specs.Passes.{Direction}
 use Rattle.filter.proofs.Written.{written-next, written-length, written-other, written-at}
 use Rattle.filter.specs.Windows.{beyond}
 use Rattle.filter.specs.Written.{written}
-use Rattle.blocks.specs.Strips.{fromEdge}
+use Rattle.task_words.specs.Strips.{fromEdge}
 use Rattle.strips.specs.declared.Strip.{Strip}
 use Rattle.squares.specs.Lines.{rowWords}
 use Rattle.link.specs.Words.{rowsWritten, stripLine, stripLines, scaled, copied, endsCopied}

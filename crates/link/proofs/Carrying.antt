@@ -17,7 +17,7 @@ use Rattle.passes.specs.Square.{weightedSum}
 use Rattle.filter.proofs.RowMajor.{same-row-column}
 use Rattle.filter.proofs.Written.{written-length, written-other, written-at}
 use Rattle.filter.specs.declared.FilterWords.{FilterWords}
-use Rattle.strips.specs.Reading.{stripBefore, stripRead}
+use Rattle.strips.specs.StripRecord.{stripBefore, stripRead}
 use Rattle.strips.specs.declared.Strip.{Strip}
 use Rattle.squares.specs.LinePasses.{passSquare, withHistories, crossed, response}
 use Rattle.squares.specs.Lines.{rowWords, rowsBefore, filterAt}
@@ -26,7 +26,7 @@ use Rattle.link.specs.Words.{responseWords, LinesReady, responsePlace, l
 use Rattle.link.specs.declared.Course.{Course}
 use Rattle.link.proofs.Buffers.{written-more}
 use Rattle.link.proofs.Courses.{link-orders, scaled-edges}
-use Rattle.link.proofs.Reading.{read-inside, read-outside}
+use Rattle.link.proofs.EdgeReads.{read-inside, read-outside}
 use Rattle.link.proofs.Weights.{sum-reads}
 
 -- ---- multiples of words that lie apart

@@ -17,11 +17,11 @@ use Rattle.filter.proofs.Filters.{filterWords-filter}
 use Rattle.filter.specs.Filters.{filterOf, filtersOf}
 use Rattle.filter.specs.Windows.{isBackward, ifForward}
 use Rattle.filter.specs.declared.FilterWords.{FilterWords}
-use Rattle.blocks.proofs.Geometry.{block-row-below, block-column-below}
-use Rattle.blocks.specs.Geometry.{blockRow, blockColumn, rowsOf, columnsOf}
-use Rattle.blocks.specs.Strips.{orderOf, fromEdge}
-use Rattle.strips.proofs.Reading.{before-fits, past-edges-read}
-use Rattle.strips.specs.Reading.{stripBefore, stripRead, StripFits}
+use Rattle.task_words.proofs.Geometry.{block-row-below, block-column-below}
+use Rattle.task_words.specs.Geometry.{blockRow, blockColumn, rowsOf, columnsOf}
+use Rattle.task_words.specs.Strips.{orderOf, fromEdge}
+use Rattle.strips.proofs.StripRecords.{before-fits, past-edges-read}
+use Rattle.strips.specs.StripRecord.{stripBefore, stripRead, StripFits}
 use Rattle.strips.specs.Shapes.{shapeOf}
 use Rattle.strips.specs.declared.BlockShape.{BlockShape}
 use Rattle.strips.specs.declared.Strip.{Strip}

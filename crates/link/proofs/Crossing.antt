@@ -24,8 +24,8 @@ use Rattle.filter.proofs.RowMajor.{same-row-column}
 use Rattle.filter.proofs.Windows.{Passed, windowPass-passed}
 use Rattle.filter.specs.Windows.{pixelPlace, windowOf, beyond, wordsBesideWindow, windowPass, WindowFits}
 use Rattle.filter.specs.declared.Window.{Window}
-use Rattle.blocks.specs.Strips.{fromEdge}
-use Rattle.strips.specs.Reading.{stripRead}
+use Rattle.task_words.specs.Strips.{fromEdge}
+use Rattle.strips.specs.StripRecord.{stripRead}
 use Rattle.strips.specs.declared.Strip.{Strip}
 use Rattle.squares.proofs.Lines.{margin-below, beside-lines, passed-along}
 use Rattle.squares.proofs.Rows.{row-passed, rows-next, rows-in}
@@ -37,7 +37,7 @@ use Rattle.link.specs.Courses.{indexAt, CourseFits}
 use Rattle.link.specs.Words.{linesInside, stripLines, rowHistory, rowInput, LinesFilled, LinesReady, responseWords, endsCopied, responsePlace, Crossed, Held}
 use Rattle.link.specs.declared.Course.{Course}
 use Rattle.link.proofs.Buffers.{rows-length, rows-other, rows-at}
-use Rattle.link.proofs.Reading.{lines-few, read-outside}
+use Rattle.link.proofs.EdgeReads.{lines-few, read-outside}
 
 -- ---- the lines of a strip in rows of zeros
 

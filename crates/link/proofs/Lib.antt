@@ -1,7 +1,7 @@
 pub mod Gains
 pub mod Courses
 pub mod Buffers
-pub mod Reading
+pub mod EdgeReads
 pub mod Weights
 pub mod Crossing
 pub mod Carrying

@@ -26,11 +26,11 @@ use Rattle.filter.proofs.Written.{written-none, written-length, written-same-wo
 use Rattle.filter.specs.Filters.{filterOf, filtersOf}
 use Rattle.filter.specs.Written.{written}
 use Rattle.filter.specs.declared.FilterWords.{FilterWords}
-use Rattle.blocks.proofs.Geometry.{lines-in-side}
-use Rattle.blocks.proofs.Strips.{place-of-place, in-strip, line-below, line-place-below, strip-in-list}
-use Rattle.blocks.specs.Geometry.{rowsOf, columnsOf}
-use Rattle.blocks.specs.Strips.{orderOf, stripStart, placeInStrip, lineInStrip, placeInLine, stripPlace, placeInside, indexOfPlace, insideBlock, edgeWord, stripWord, pastEdges, stripWrittenTo}
-use Rattle.blocks.specs.Writes.{blockPasses, linkWord, linked}
+use Rattle.task_words.proofs.Geometry.{lines-in-side}
+use Rattle.task_words.proofs.Strips.{place-of-place, in-strip, line-below, line-place-below, strip-in-list}
+use Rattle.task_words.specs.Geometry.{rowsOf, columnsOf}
+use Rattle.task_words.specs.Strips.{orderOf, stripStart, placeInStrip, lineInStrip, placeInLine, stripPlace, placeInside, indexOfPlace, insideBlock, edgeWord, stripWord, pastEdges, stripWrittenTo}
+use Rattle.task_words.specs.Writes.{blockPasses, linkWord, linked}
 use Rattle.squares.proofs.Response.{response-is}
 use Rattle.squares.specs.LinePasses.{response}
 use Rattle.squares.specs.Lines.{filterAt}

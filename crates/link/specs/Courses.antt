@@ -11,8 +11,8 @@ use Rattle.passes.specs.Gains.{gainsFrom}
 use Rattle.passes.specs.Passes.{Direction, forward, backward, axisOf, directionOf, along, across}
 use Rattle.filter.specs.Filters.{filtersOf, filterWords, withGain}
 use Rattle.filter.specs.declared.FilterWords.{FilterWords}
-use Rattle.blocks.specs.Geometry.{rowsOf, columnsOf}
-use Rattle.blocks.specs.Strips.{orderOf, pastEdges}
+use Rattle.task_words.specs.Geometry.{rowsOf, columnsOf}
+use Rattle.task_words.specs.Strips.{orderOf, pastEdges}
 use Rattle.squares.specs.LinePasses.{axisStart, axisPasses}
 use Rattle.link.specs.declared.Course.{Course}
 

@@ -14,8 +14,8 @@ use Rattle.passes.specs.Passes.{Direction, axisOf, directionOf, filterLine}
 use Rattle.passes.specs.Square.{unitHistory, weightedSum}
 use Rattle.filter.specs.Windows.{pixelPlace, beyond}
 use Rattle.filter.specs.Written.{written}
-use Rattle.blocks.specs.Strips.{fromEdge, lineInStrip, placeInLine}
-use Rattle.strips.specs.Reading.{stripRead}
+use Rattle.task_words.specs.Strips.{fromEdge, lineInStrip, placeInLine}
+use Rattle.strips.specs.StripRecord.{stripRead}
 use Rattle.strips.specs.declared.Strip.{Strip}
 use Rattle.squares.specs.LinePasses.{onlyAt, passSquare, rowEnd}
 use Rattle.squares.specs.Lines.{rowWords, lineWords, rowsBefore}

@@ -17,8 +17,8 @@ use Rattle.plan.specs.declared.PlanSizes.the-variants as sizes
 use Rattle.plan.specs.Rules.{keepsRules}
 use Rattle.plan.specs.Sizes.{wordCount, blockRows, blockColumns, neededMarks, neededStrips, neededPixels, sizesOf, planSizes, sizesGiven}
 use Rattle.plan.proofs.Needed.{bounds}
-use Rattle.plan_reader.specs.Layout.{sizeAllowed, sideAllowed, passAllowed, endAllowed}
-use Rattle.plan_reader.specs.Reading.{
+use Rattle.plan_reader.specs.PlanWords.{sizeAllowed, sideAllowed, passAllowed, endAllowed}
+use Rattle.plan_reader.specs.ReadPlan.{
   payloadAt,
   orderAt,
   passPlace,
@@ -35,13 +35,13 @@ use Rattle.plan_reader.specs.Reading.{
 use Rattle.plan_reader.proofs.Places.{order-bounded, pass-place-bounded}
 use Rattle.plan_writer.specs.declared.PlanWritten.{PlanWritten}
 use Rattle.plan_writer.specs.declared.PlanWritten.the-variants as written
-use Rattle.plan_writer.specs.Writing.{writePlan, writtenGiven}
+use Rattle.plan_writer.specs.WritePlan.{writePlan, writtenGiven}
 use Rattle.serial.specs.Serial.{serialAnswer}
 use Rattle.rectangle.specs.declared.RectangleSum.{RectangleSum}
 use Rattle.rectangle.specs.declared.RectangleSum.the-variants as rectangle
 use Rattle.rectangle.specs.Rectangle.{outside, rectangleCall, sumGiven}
 use Rattle.tasks.specs.Verdict.{verdictRows}
-use Rattle.calls.specs.Calls.{Buffers, startAnswer, lentRows, taskAnswer}
+use Rattle.job_spec.specs.Calls.{Buffers, startAnswer, lentRows, taskAnswer}
 use Rattle.report.specs.declared.ReportAnswer.{ReportAnswer}
 use Rattle.report.specs.declared.ReportAnswer.the-variants as reported
 use Rattle.report.specs.Values.{reportGiven}

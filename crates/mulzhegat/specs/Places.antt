@@ -5,11 +5,11 @@ use lib.IntN.{ℤ}
 use Rattle.refusal.specs.Table.{Answer, placeIn}
 use Rattle.plan.specs.declared.Plan.{Plan}
 use Rattle.plan.specs.Sizes.{planSizes}
-use Rattle.plan_reader.specs.Reading.{readPlan}
-use Rattle.plan_writer.specs.Writing.{writePlan}
+use Rattle.plan_reader.specs.ReadPlan.{readPlan}
+use Rattle.plan_writer.specs.WritePlan.{writePlan}
 use Rattle.serial.specs.Serial.{serialAnswer}
 use Rattle.rectangle.specs.Rectangle.{rectangleCall}
-use Rattle.calls.specs.Calls.{Buffers, startAnswer, taskAnswer}
+use Rattle.job_spec.specs.Calls.{Buffers, startAnswer, taskAnswer}
 use Rattle.report.specs.Report.{report}
 
 -- A place is below 2^32.

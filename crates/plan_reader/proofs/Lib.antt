@@ -3,4 +3,4 @@ pub mod Signed
 pub mod Places
 pub mod Rows
 pub mod Record
-pub mod Answers
+pub mod ReadAnswers

@@ -4,7 +4,7 @@ use mathlib.Core.List.{List}
 use Prim.Native.Nat.{ℕ, zero, suc, _+_, _*_, _≤_}
 use native.Mathlib.Omega.{arith}
 use native.Mathlib.Numerals.{add-one}
-use Rattle.plan_reader.specs.Reading.{orderAt, afterPass, passPlace}
+use Rattle.plan_reader.specs.ReadPlan.{orderAt, afterPass, passPlace}
 
 module _ (words : List ℕ) where
   pub order-bounded : (place : ℕ) → orderAt words place ≤ 15

@@ -7,8 +7,8 @@ use lib.IntN.{ℤ, pos}
 use borrow.Author.Tests.{lt-ltb, le-ltb}
 use Rattle.plan.specs.declared.Pass.{Pass}
 use Rattle.plan.specs.declared.Plan.{Plan}
-use Rattle.plan_reader.specs.Layout.{signed28}
-use Rattle.plan_reader.specs.Reading.{payloadAt, orderAt, coefficientIn}
+use Rattle.plan_reader.specs.PlanWords.{signed28}
+use Rattle.plan_reader.specs.ReadPlan.{payloadAt, orderAt, coefficientIn}
 
 module _ (words : List ℕ) (place j : ℕ) where
   pub coefficient-read : j < orderAt words place → coefficientIn words place j ≡ signed28 (payloadAt words (place + 2 + j))

@@ -12,8 +12,8 @@ use Rattle.refusal.proofs.Table.{first-append}
 use Rattle.plan.specs.Rules.{allBelow}
 use Rattle.plan.specs.Lists.{wordAt}
 use Rattle.plan.proofs.Tests.{all-fails}
-use Rattle.plan_reader.specs.Layout.{kindOf, sizeAllowed, sideAllowed, passAllowed, endAllowed}
-use Rattle.plan_reader.specs.Reading.{
+use Rattle.plan_reader.specs.PlanWords.{kindOf, sizeAllowed, sideAllowed, passAllowed, endAllowed}
+use Rattle.plan_reader.specs.ReadPlan.{
   payloadAt,
   orderAt,
   passPlace,

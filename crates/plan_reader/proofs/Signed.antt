@@ -7,7 +7,7 @@ use mir.Syntax.{w64}
 use mir.Val.{SFits, toZ, ofZ}
 use mir.ValLaws.{toZ-pos, toZ-ofZ}
 use borrow.Author.Tests.{lt-ltb, le-ltb}
-use Rattle.plan_reader.specs.Layout.{signed28}
+use Rattle.plan_reader.specs.PlanWords.{signed28}
 
 -- A signed answer, as the machine reads it back from its bits.
 pub read-back : {z answer : ℤ} → SFits w64 z → z ≡ answer → toZ w64 (ofZ w64 z) ≡ answer

@@ -1,2 +1,2 @@
-pub mod Layout
-pub mod Reading
+pub mod PlanWords
+pub mod ReadPlan

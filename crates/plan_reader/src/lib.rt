@@ -8,8 +8,8 @@ ghost use Prim.Native.Nat.{_+_, _<_, _≤_, _%_};
 ghost use Rattle.refusal.specs.Table.{firstDue, answerOf};
 ghost use Rattle.plan.specs.Rules.{orderLimit};
 ghost use Rattle.plan.specs.Lists.{wordAt, listOf};
-ghost use Rattle.plan_reader.specs.Layout.{sizeAllowed, passAllowed, signed28};
-ghost use Rattle.plan_reader.specs.Reading.{payloadAt, orderAt, passPlace, wordRows, headRows, coefficientRows, passRows, passesRows, endRows, sideRows, planRows, coefficientIn, passFrom, planFrom, zeroPass, zeroPlan, readPlan, readGiven};
+ghost use Rattle.plan_reader.specs.PlanWords.{sizeAllowed, passAllowed, signed28};
+ghost use Rattle.plan_reader.specs.ReadPlan.{payloadAt, orderAt, passPlace, wordRows, headRows, coefficientRows, passRows, passesRows, endRows, sideRows, planRows, coefficientIn, passFrom, planFrom, zeroPass, zeroPlan, readPlan, readGiven};
 
 // The plan that was read, or a plan of zeros beside a refusal.
 pub struct PlanRead {

@@ -11,7 +11,7 @@ use borrow.Author.Tests.{lt-ltb, le-ltb}
 use Rattle.plan.specs.declared.Pass.{Pass}
 use Rattle.plan.specs.declared.Plan.{Plan}
 use Rattle.plan.specs.Rules.{orderLimit, passAt}
-use Rattle.plan_reader.specs.Reading.{zeroPlan}
+use Rattle.plan_reader.specs.ReadPlan.{zeroPlan}
 use Rattle.plan_record.specs.Records.{
   passLength,
   recordLength,

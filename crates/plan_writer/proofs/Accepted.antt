@@ -11,10 +11,10 @@ use Rattle.refusal.specs.Table.{accepted, firstDue}
 use Rattle.refusal.proofs.Table.{none-of}
 use Rattle.plan.specs.Rules.{allBelow}
 use Rattle.plan.specs.Lists.{wordAt}
-use Rattle.plan_reader.specs.Layout.{kindOf}
-use Rattle.plan_reader.specs.Reading.{payloadAt, wordRows}
+use Rattle.plan_reader.specs.PlanWords.{kindOf}
+use Rattle.plan_reader.specs.ReadPlan.{payloadAt, wordRows}
 use Rattle.plan_reader.proofs.Rows.{word-accepted}
-use Rattle.plan_writer.specs.Writing.{wordOf}
+use Rattle.plan_writer.specs.WritePlan.{wordOf}
 
 -- ---- tests
 

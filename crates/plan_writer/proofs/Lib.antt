@@ -1,7 +1,7 @@
 pub mod Payload
 pub mod Words
-pub mod Answers
+pub mod WriteAnswers
 pub mod Accepted
 pub mod RoundTripWritten
 pub mod RoundTripRead
-pub mod Demand
+pub mod Demand2

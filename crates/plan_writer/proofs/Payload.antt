@@ -13,9 +13,9 @@ use mir.ValLaws.{toZ-ofZ}
 use borrow.Author.Tests.{lt-ltb, le-ltb, ltb-true}
 use Rattle.plan.specs.Rules.{inSigned28}
 use Rattle.plan.proofs.Tests.{lt-or-ge}
-use Rattle.plan_reader.specs.Layout.{signed28}
+use Rattle.plan_reader.specs.PlanWords.{signed28}
 use Rattle.plan_reader.proofs.Signed.{signed-low, signed-high}
-use Rattle.plan_writer.specs.Writing.{payload28}
+use Rattle.plan_writer.specs.WritePlan.{payload28}
 
 pub payload-below : (value : ℤ) → inSigned28 value ≡ true → payload28 value < 268435456
 unfolding payload28

@@ -30,8 +30,8 @@ use Rattle.plan.specs.Rules.{
 }
 use Rattle.plan.proofs.Tests.{and-left, and-right, all-at, lt-or-ge}
 use Rattle.plan.proofs.Listed.{listed-at}
-use Rattle.plan_reader.specs.Layout.{rowsIn, columnsIn, passIn, passAllowed, sizeAllowed, sideAllowed, endAllowed, signed28}
-use Rattle.plan_reader.specs.Reading.{
+use Rattle.plan_reader.specs.PlanWords.{rowsIn, columnsIn, passIn, passAllowed, sizeAllowed, sideAllowed, endAllowed, signed28}
+use Rattle.plan_reader.specs.ReadPlan.{
   payloadAt,
   orderAt,
   afterPass,
@@ -51,7 +51,7 @@ use Rattle.plan_reader.specs.Reading.{
 }
 use Rattle.plan_reader.proofs.Record.{coefficient-read, coefficient-zero}
 use Rattle.plan_reader.proofs.Rows.{sideReaches}
-use Rattle.plan_writer.specs.Writing.{wordOf, payload28, coefficientWords, passWords, passesWords, wordsOf}
+use Rattle.plan_writer.specs.WritePlan.{wordOf, payload28, coefficientWords, passWords, passesWords, wordsOf}
 use Rattle.plan_writer.proofs.Payload.{payload-signed, signed-kept}
 use Rattle.plan_writer.proofs.Accepted.{and-both, all-of, word-due, word-first}
 

@@ -21,8 +21,8 @@ use Rattle.plan.specs.Lists.{wordAt}
 use Rattle.plan.proofs.Tests.{lt-or-ge}
 use Rattle.plan.proofs.Record.{PassRules, rules}
 use Rattle.plan.proofs.Listed.{listed-only}
-use Rattle.plan_reader.specs.Layout.{signed28, passAllowed, sizeAllowed}
-use Rattle.plan_reader.specs.Reading.{
+use Rattle.plan_reader.specs.PlanWords.{signed28, passAllowed, sizeAllowed}
+use Rattle.plan_reader.specs.ReadPlan.{
   payloadAt,
   orderAt,
   passPlace,
@@ -41,7 +41,7 @@ use Rattle.plan_reader.specs.Reading.{
 use Rattle.plan_reader.proofs.Record.{coefficient-read, coefficient-zero, same-pass, same-plan}
 use Rattle.plan_reader.proofs.Rows.{side-accepted, sideReaches}
 use Rattle.plan_writer.specs.Shape.{WellShaped}
-use Rattle.plan_writer.specs.Writing.{wordOf, payload28, coefficientWords, passWords, passesWords, sizePayload, wordsOf}
+use Rattle.plan_writer.specs.WritePlan.{wordOf, payload28, coefficientWords, passWords, passesWords, sizePayload, wordsOf}
 use Rattle.plan_writer.proofs.Payload.{payload-below, signed-payload}
 use Rattle.plan_writer.proofs.Words.{
   length-coefficients,

@@ -27,7 +27,7 @@ use Rattle.plan.specs.Rules.{
 }
 use Rattle.plan.specs.Sizes.{orderSum, wordCount}
 use Rattle.plan.proofs.Tests.{and-right, all-at}
-use Rattle.plan_writer.specs.Writing.{wordOf, payload28, coefficientWords, passWords, passesWords, sizePayload, wordsOf}
+use Rattle.plan_writer.specs.WritePlan.{wordOf, payload28, coefficientWords, passWords, passesWords, sizePayload, wordsOf}
 
 sets-append : (a b l : List ℕ) (i : ℕ) → sets l i (a ++ b) ≡ sets (sets l i a) (i + length a) b
 sets-append [] b l i = rw (add-zero i)

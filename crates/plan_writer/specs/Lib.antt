@@ -1,3 +1,3 @@
-pub mod Writing
+pub mod WritePlan
 pub mod Shape
-pub mod Demand
+pub mod Demand2

@@ -12,7 +12,7 @@ ghost use lib.ListN.{length};
 ghost use lib.Seq.{sets};
 ghost use Rattle.plan.specs.Rules.{keepsRules, passKept, coefficientsKept, inSigned28, orderLimit};
 ghost use Rattle.plan.specs.Sizes.{orderSum, wordCount};
-ghost use Rattle.plan_writer.specs.Writing.{wordOf, payload28, coefficientWords, passWords, passesWords, wordsOf, writePlan, writtenGiven, writtenWords};
+ghost use Rattle.plan_writer.specs.WritePlan.{wordOf, payload28, coefficientWords, passWords, passesWords, wordsOf, writePlan, writtenGiven, writtenWords};
 
 // How many words were written, or why none was.
 pub enum PlanWritten {

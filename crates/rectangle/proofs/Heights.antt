@@ -20,10 +20,10 @@ use Rattle.passes.proofs.Table.{rectangle-heights}
 use Rattle.filter.specs.Filters.{filterOf, filtersOf}
 use Rattle.filter.proofs.RowMajor.{row-of, column-of, place-below}
 use Rattle.serial.specs.Serial.{serialWords, serialOutput}
-use Rattle.serial.proofs.Answers.{long-enough, output-of-accepted}
+use Rattle.serial.proofs.SerialAnswers.{long-enough, output-of-accepted}
 use Rattle.rectangle.specs.Rectangle.{tableOf}
 use Rattle.rectangle.specs.Heights.{runningSumPass, unchangedPass, summedAreaPasses, heightAt, SumsHeights}
-use Rattle.rectangle.proofs.Answers.{accepted-when, given-accepted}
+use Rattle.rectangle.proofs.SumAnswers.{accepted-when, given-accepted}
 
 -- ---- the filters
 

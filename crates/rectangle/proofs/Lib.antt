@@ -1,3 +1,3 @@
 pub mod Places
-pub mod Answers
+pub mod SumAnswers
 pub mod Heights

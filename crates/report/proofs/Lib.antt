@@ -1,4 +1,4 @@
 pub mod Search
 pub mod Tallies
-pub mod Answers
+pub mod ReportAnswers
 pub mod Claims

@@ -2,4 +2,4 @@ pub mod Stages
 pub mod Lists
 pub mod Rows
 pub mod Serial
-pub mod Answers
+pub mod SerialAnswers

@@ -16,7 +16,7 @@ use Rattle.plan.specs.declared.Plan.{Plan}
 use Rattle.plan.specs.Sizes.{neededPixels}
 use Rattle.plan.specs.Lists.{listOf}
 use Rattle.plan.proofs.Listed.{listed-length, listed-at, listed-only}
-use Rattle.plan_reader.specs.Reading.{planRows}
+use Rattle.plan_reader.specs.ReadPlan.{planRows}
 use Rattle.smooth_job.specs.Promises.{CutAsksTheSame}
 use Rattle.smooth_job.specs.Program.{
   planLimit,

@@ -9,7 +9,7 @@ use native.Mathlib.Omega.{arith}
 use lib.Dec.{eqb}
 use lib.ListN.{length}
 use borrow.Author.Tests.{eq-eqb, ne-eqb, le-leb, lt-leb}
-use Rattle.plan_reader.specs.Layout.{kindOf}
+use Rattle.plan_reader.specs.PlanWords.{kindOf}
 use Rattle.smooth_job.specs.Program.{planLimit, wordIn, afterEnd, planLength, inputLimit, cutLength}
 
 module _ (word : ℕ → ℕ) where

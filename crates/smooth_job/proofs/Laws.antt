@@ -19,11 +19,11 @@ use Rattle.plan.proofs.Record.{rules}
 use Rattle.plan.proofs.Blocks.{count-bounded}
 use Rattle.plan.proofs.Needed.{bounds}
 use Rattle.plan.proofs.Listed.{listed-length}
-use Rattle.plan_reader.specs.Reading.{planRows, readPlan}
+use Rattle.plan_reader.specs.ReadPlan.{planRows, readPlan}
 use Rattle.plan_writer.proofs.RoundTripRead.{read-keeps-rules}
 use Rattle.report.specs.Values.{Values}
 use Rattle.report.specs.Report.{report}
-use Rattle.calls.specs.Calls.{lentRows}
+use Rattle.job_spec.specs.Calls.{lentRows}
 use Rattle.whole_job.specs.WholeJob.{wholeAnswer}
 use Rattle.whole_job.proofs.Steps.{whole-job-done}
 use Rattle.smooth_job.specs.declared.Smoothed.{Smoothed}

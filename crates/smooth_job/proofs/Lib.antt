@@ -1,5 +1,5 @@
 pub mod Signed
 pub mod Input
-pub mod Answers
+pub mod SmoothAnswers
 pub mod Laws
 pub mod Cut

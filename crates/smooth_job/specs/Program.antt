@@ -20,11 +20,11 @@ use Rattle.plan.specs.declared.Plan.{Plan}
 use Rattle.plan.specs.Rules.{orderLimit}
 use Rattle.plan.specs.Sizes.{neededPixels}
 use Rattle.plan.specs.Lists.{listOf}
-use Rattle.plan_reader.specs.Layout.{kindOf}
-use Rattle.plan_reader.specs.Reading.{planRows, planFrom}
+use Rattle.plan_reader.specs.PlanWords.{kindOf}
+use Rattle.plan_reader.specs.ReadPlan.{planRows, planFrom}
 use Rattle.report.specs.Values.{Values}
 use Rattle.report.specs.Report.{report}
-use Rattle.calls.specs.Calls.{Buffers, lists}
+use Rattle.job_spec.specs.Calls.{Buffers, lists}
 use Rattle.whole_job.specs.WholeJob.{wholeAnswer, afterWholeJob}
 use Rattle.smooth_job.specs.declared.Smoothed.{Smoothed}
 

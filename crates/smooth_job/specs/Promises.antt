@@ -9,8 +9,8 @@ use Rattle.refusal.specs.Table.{accepted, _at_when_, firstDue}
 use Rattle.plan.specs.declared.Plan.{Plan}
 use Rattle.plan.specs.Sizes.{neededPixels, taskCount}
 use Rattle.plan.specs.Lists.{wordAt}
-use Rattle.blocks.specs.Writes.{mapOf}
-use Rattle.blocks.specs.Matching.{serialResult}
+use Rattle.task_words.specs.Writes.{mapOf}
+use Rattle.task_words.specs.Matching.{serialResult}
 use Rattle.smooth_job.specs.Program.{
   planIn,
   inputRows,

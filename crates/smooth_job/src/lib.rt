@@ -13,7 +13,7 @@ ghost use Rattle.plan.specs.Rules.{keepsRules};
 ghost use Rattle.refusal.specs.Refusals.{numberOf, placeOf};
 ghost use Rattle.plan.specs.Sizes.{neededPixels};
 ghost use Rattle.plan.specs.Lists.{listOf};
-ghost use Rattle.plan_reader.specs.Reading.{readPlan, readGiven};
+ghost use Rattle.plan_reader.specs.ReadPlan.{readPlan, readGiven};
 ghost use Rattle.report.specs.Report.{report};
 ghost use Rattle.smooth_job.specs.Program.{planLimit, pixelLimit, stripLimit, wordIn, planLength, signed32, heightsIn, job, asked, askedWith, refusedWith, reportedWith, answerTo, smoothGiven, outputOf, cutLimit, cutLength};
 

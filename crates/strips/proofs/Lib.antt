@@ -1,4 +1,4 @@
 pub mod Passes
 pub mod Positions
 pub mod Slots
-pub mod Reading
+pub mod StripRecords

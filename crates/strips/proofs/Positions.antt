@@ -14,8 +14,8 @@ use Rattle.plan.specs.Sizes.{blockRows, blockColumns, blockHeight, blockWidth, 
 use Rattle.plan.proofs.Record.{rules}
 use Rattle.plan.proofs.Needed.{bounds}
 use Rattle.passes.specs.Passes.{Axis, columns, rows, Direction, forward, backward, axisOf, directionOf, along}
-use Rattle.blocks.specs.Geometry.{blockRow, blockColumn, firstRow, firstColumn, neighbour, stripNeeded}
-use Rattle.blocks.proofs.Geometry.{block-row-below, block-column-below, goesOn, needed-goes-on}
+use Rattle.task_words.specs.Geometry.{blockRow, blockColumn, firstRow, firstColumn, neighbour, stripNeeded}
+use Rattle.task_words.proofs.Geometry.{block-row-below, block-column-below, goesOn, needed-goes-on}
 use Rattle.strips.specs.declared.BlockLine.{BlockLine}
 use Rattle.strips.specs.declared.Neighbour.the-variants.{Block, Beyond}
 use Rattle.strips.specs.Shapes.{shapeOf, blockLine, foundNeighbour}

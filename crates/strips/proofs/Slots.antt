@@ -7,8 +7,8 @@ use Rattle.plan.specs.declared.Plan.{Plan}
 use Rattle.plan.specs.Rules.{keepsRules}
 use Rattle.plan.specs.Sizes.{orderSum, neededMarks}
 use Rattle.plan.proofs.Needed.{bounds}
-use Rattle.blocks.specs.Strips.{slotWords, slotStart, stripStart}
-use Rattle.blocks.proofs.Strips.{slot-in-list, strip-in-list}
+use Rattle.task_words.specs.Strips.{slotWords, slotStart, stripStart}
+use Rattle.task_words.proofs.Strips.{slot-in-list, strip-in-list}
 
 -- What the arithmetic on the start of a strip wants.
 pub record StartFits (plan : Plan) (k pass : ℕ) : Type 0 where

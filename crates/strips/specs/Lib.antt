@@ -1,2 +1,2 @@
 pub mod Shapes
-pub mod Reading
+pub mod StripRecord

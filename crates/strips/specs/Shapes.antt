@@ -4,7 +4,7 @@ use Prim.Native.Nat.{ℕ}
 use Rattle.plan.specs.declared.Plan.{Plan}
 use Rattle.plan.specs.Sizes.{blockRows, blockColumns}
 use Rattle.passes.specs.Passes.{axisOf, along}
-use Rattle.blocks.specs.Geometry.{blockRow, blockColumn, firstRow, firstColumn, rowsOf, columnsOf}
+use Rattle.task_words.specs.Geometry.{blockRow, blockColumn, firstRow, firstColumn, rowsOf, columnsOf}
 use Rattle.strips.specs.declared.BlockShape.{BlockShape}
 use Rattle.strips.specs.declared.BlockLine.{BlockLine}
 use Rattle.strips.specs.declared.Neighbour.{Neighbour}

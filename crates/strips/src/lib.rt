@@ -7,10 +7,10 @@ ghost use Prim.Native.Nat.{_<_, _≤_};
 ghost use Rattle.plan.specs.Rules.{keepsRules};
 ghost use Rattle.plan.specs.Sizes.{neededMarks, orderSum};
 ghost use Rattle.passes.specs.Passes.{directionOf};
-ghost use Rattle.blocks.specs.Geometry.{neighbour, stripNeeded};
-ghost use Rattle.blocks.specs.Strips.{stripStart};
+ghost use Rattle.task_words.specs.Geometry.{neighbour, stripNeeded};
+ghost use Rattle.task_words.specs.Strips.{stripStart};
 ghost use Rattle.strips.specs.Shapes.{shapeOf, blockLine, foundNeighbour};
-ghost use Rattle.strips.specs.Reading.{stripWith, stripOf, stripBefore};
+ghost use Rattle.strips.specs.StripRecord.{stripWith, stripOf, stripBefore};
 
 // Where a block lies in the map, and its extent.
 pub struct BlockShape {

@@ -3,11 +3,11 @@ use mathlib.Core.Path.{_∙_}
 use native.Mathlib.Omega.{arith}
 use lib.ListN.{length}
 use Rattle.plan.specs.Sizes.{neededPixels}
-use Rattle.blocks.specs.Writes.{mapOf}
-use Rattle.blocks.proofs.Geometry.{pixel-below}
-use Rattle.calls.proofs.Demand.{start-accepts, demand3}
+use Rattle.task_words.specs.Writes.{mapOf}
+use Rattle.task_words.proofs.Geometry.{pixel-below}
+use Rattle.job_spec.proofs.Demand3.{start-accepts, demand3}
 use Rattle.serial.specs.Serial.{serialWords}
-use Rattle.serial.proofs.Answers.{long-enough, output-of-accepted}
+use Rattle.serial.proofs.SerialAnswers.{long-enough, output-of-accepted}
 use Rattle.serial.proofs.Lists.{first-words}
 use Rattle.rectangle.proofs.Heights.{sums-heights}
 use Rattle.totals.specs.Totals.{JobIsSerial, JobSumsHeights}

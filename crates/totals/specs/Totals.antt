@@ -11,8 +11,8 @@ use Rattle.plan.specs.declared.Plan.{Plan}
 use Rattle.plan.specs.Sizes.{neededPixels, taskCount}
 use Rattle.passes.specs.Table.{heightsInside}
 use Rattle.tasks.specs.Tasks.{BlockTask}
-use Rattle.calls.specs.Calls.{Buffers, startAnswer, started, afterCalls}
-use Rattle.calls.specs.Demand.{countAfter}
+use Rattle.job_spec.specs.Calls.{Buffers, startAnswer, started, afterCalls}
+use Rattle.job_spec.specs.Demand3.{countAfter}
 use Rattle.serial.specs.Serial.{serialOutput}
 use Rattle.rectangle.specs.Rectangle.{rectangleCall}
 use Rattle.rectangle.specs.Heights.{summedAreaPasses, heightAt}

@@ -23,7 +23,7 @@ use Rattle.report.specs.declared.ReportAnswer.{ReportAnswer}
 use Rattle.report.specs.declared.ReportAnswer.the-variants.{Refused as NoReport, Made}
 use Rattle.report.specs.Values.{reportGiven}
 use Rattle.report.specs.Report.{report}
-use Rattle.calls.specs.Calls.{Buffers, lists, marksAfterStart, stripsAfterStart, started, lentRows, afterTask}
+use Rattle.job_spec.specs.Calls.{Buffers, lists, marksAfterStart, stripsAfterStart, started, lentRows, afterTask}
 use Rattle.whole_job.specs.WholeJob.{afterStep, afterSteps, wholeAnswer, afterWholeJob}
 
 -- ---- one step

@@ -17,11 +17,11 @@ use Rattle.tasks.specs.Tasks.{BlockTask, ready, nothingDone}
 use Rattle.tasks.proofs.Counting.{count-nothing}
 use Rattle.tasks.proofs.Progress.{count-ready}
 use Rattle.report.specs.Report.{report}
-use Rattle.blocks.proofs.Geometry.{pixel-below}
-use Rattle.calls.specs.Calls.{Buffers, startAnswer, started, lentRows, afterTask, afterCalls}
-use Rattle.calls.specs.Demand.{doneBy, doneFrom, doneAfter, countAfter}
-use Rattle.calls.proofs.Accepts.{start-accepted}
-use Rattle.calls.proofs.Demand.{demand3, next-ready}
+use Rattle.task_words.proofs.Geometry.{pixel-below}
+use Rattle.job_spec.specs.Calls.{Buffers, startAnswer, started, lentRows, afterTask, afterCalls}
+use Rattle.job_spec.specs.Demand3.{doneBy, doneFrom, doneAfter, countAfter}
+use Rattle.job_spec.proofs.Accepts.{start-accepted}
+use Rattle.job_spec.proofs.Demand3.{demand3, next-ready}
 use Rattle.whole_job.specs.WholeJob.{afterStep, afterSteps, wholeAnswer, afterWholeJob, WholeJobDone}
 
 -- ---- one call more

@@ -12,9 +12,9 @@ use Rattle.plan.specs.Sizes.{neededMarks, neededStrips, neededPixels, taskCount
 use Rattle.plan.specs.Lists.{wordAt}
 use Rattle.report.specs.Values.{Values}
 use Rattle.report.specs.Report.{report}
-use Rattle.blocks.specs.Writes.{mapOf}
-use Rattle.blocks.specs.Matching.{serialResult}
-use Rattle.calls.specs.Calls.{Buffers, started, lentRows, afterTask}
+use Rattle.task_words.specs.Writes.{mapOf}
+use Rattle.task_words.specs.Matching.{serialResult}
+use Rattle.job_spec.specs.Calls.{Buffers, started, lentRows, afterTask}
 
 -- The lists after the task that a report's values name; as they were where they name none.
 abbrev pub afterNamed : Plan → List ℤ → Values → Buffers → Buffers

@@ -6,7 +6,7 @@ use report::Next;
 use report::ReportAnswer;
 ghost use mathlib.Core.Path.{_≡_};
 ghost use Rattle.refusal.specs.Table.{answerOf};
-ghost use Rattle.calls.specs.Calls.{lists};
+ghost use Rattle.job_spec.specs.Calls.{lists};
 ghost use Rattle.whole_job.specs.WholeJob.{afterStep, afterSteps, wholeAnswer, afterWholeJob};
 
 // Starts a job and performs all its tasks, in the order in which the report names them.

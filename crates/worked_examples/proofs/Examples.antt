@@ -5,7 +5,7 @@ use Rattle.word.specs.Word.{modulus, minusOne, _⊕_, _⊖_, _⊗_, residue}
 use Rattle.plan.specs.Rules.{allBelow, coefficientsKept, passKept, passesKept, keepsRules}
 use Rattle.plan.specs.Sizes.{blockCount, blockExtent, orderSum, sizesOf}
 use Rattle.plan.specs.Lists.{listOf}
-use Rattle.plan_reader.specs.Reading.{
+use Rattle.plan_reader.specs.ReadPlan.{
   passPlace,
   wordRows,
   headRows,
@@ -30,8 +30,8 @@ use Rattle.tasks.specs.Tasks.{hasTask, exists, needsOf, allDone}
 use Rattle.tasks.specs.Counts.{total}
 use Rattle.tasks.specs.Marks.{hasBit, isMarked, spareClear, markValid, markOf, withBit}
 use Rattle.tasks.specs.Verdict.{blocksOf, lookedAt, leastBrokenOf, leastBroken, verdictRows}
-use Rattle.blocks.specs.Geometry.{blockRow, blockColumn, blockPixelPlace, neighbour, stripNeeded}
-use Rattle.blocks.specs.Strips.{
+use Rattle.task_words.specs.Geometry.{blockRow, blockColumn, blockPixelPlace, neighbour, stripNeeded}
+use Rattle.task_words.specs.Strips.{
   stripPlace,
   insideBlock,
   edgeWord,
@@ -41,8 +41,8 @@ use Rattle.blocks.specs.Strips.{
   stripWrittenTo,
   slotWritten,
 }
-use Rattle.blocks.specs.Writes.{mapOf, aloneWord, collected, linkWord, linked, finishWord, blockWrittenTo, finished}
-use Rattle.calls.specs.Calls.{
+use Rattle.task_words.specs.Writes.{mapOf, aloneWord, collected, linkWord, linked, finishWord, blockWrittenTo, finished}
+use Rattle.job_spec.specs.Calls.{
   startAnswer,
   unmarked,
   cleared,

@@ -10,14 +10,14 @@ use Rattle.refusal.specs.Table.{Answer, numberIn, placeIn}
 use Rattle.plan.specs.declared.Pass.{Pass}
 use Rattle.plan.specs.declared.Plan.{Plan}
 use Rattle.plan.specs.Sizes.{neededMarks, neededStrips, neededPixels}
-use Rattle.plan_reader.specs.Reading.{readPlan}
+use Rattle.plan_reader.specs.ReadPlan.{readPlan}
 use Rattle.passes.specs.Examples.{Example, minus}
 use Rattle.serial.specs.Serial.{serialOutput}
 use Rattle.rectangle.specs.Heights.{summedAreaPasses}
 use Rattle.rectangle.specs.Rectangle.{rectangleCall}
 use Rattle.tasks.specs.Tasks.{BlockTask}
-use Rattle.blocks.specs.Examples.{WorkedJob, passOf, unchanged, runningSum, columnJob, rowJob}
-use Rattle.calls.specs.Calls.{Buffers, started, afterCalls}
+use Rattle.task_words.specs.Examples.{WorkedJob, passOf, unchanged, runningSum, columnJob, rowJob}
+use Rattle.job_spec.specs.Calls.{Buffers, started, afterCalls}
 
 -- ---- plan words
 

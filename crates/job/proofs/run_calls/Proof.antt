@@ -3,7 +3,7 @@ use native.Mathlib.Omega.{arith}
 use Prim.Native.Nat.{_-_}
 use mathlib.Core.Path.{_≡_, refl, _∙_}
 use lib.ListN.{length}
-use Rattle.calls.specs.Calls.{lists}
+use Rattle.job_spec.specs.Calls.{lists}
 use Rattle.job.proofs.Running.{Running, running-start, running-next, running-end, one-most}
 use borrow.Author.Needs.{needs}
 use Rattle.job.proofs.run_calls.Statement.{statement}

@@ -3,7 +3,7 @@ use native.Mathlib.Omega.{arith}
 use Prim.Native.Nat.{_-_, _≤_}
 use mathlib.Core.Path.{_≡_, refl, sym, ap, _∙_}
 use lib.ListN.{set, length, length-set}
-use Rattle.calls.specs.Calls.{unmarked}
+use Rattle.job_spec.specs.Calls.{unmarked}
 use Rattle.job.proofs.Starting.{unmarked-none, unmarked-next}
 use borrow.Author.Needs.{needs}
 use Rattle.job.proofs.unmark.Statement.{statement}

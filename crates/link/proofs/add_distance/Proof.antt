@@ -4,7 +4,7 @@ use native.Mathlib.Omega.{arith}
 use borrow.Author.Needs.{needs}
 use lib.ListN.{length}
 use Rattle.link.proofs.Carrying.{distance-some, distance-none}
-use Rattle.link.proofs.Reading.{lines-few, words-fit, first-word}
+use Rattle.link.proofs.EdgeReads.{lines-few, words-fit, first-word}
 use Rattle.link.proofs.add_distance.Statement.{statement}
 use Rattle.link.proofs.add_distance.Tie as tie
 

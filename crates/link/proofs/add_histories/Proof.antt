@@ -5,7 +5,7 @@ use native.Mathlib.Omega.{arith}
 use borrow.Author.Needs.{needs}
 use Rattle.word.specs.Word.{_⊗_}
 use Rattle.passes.specs.Passes.{directionOf}
-use Rattle.strips.specs.Reading.{stripRead}
+use Rattle.strips.specs.StripRecord.{stripRead}
 use Rattle.link.specs.Words.{historyWord, HistoriesAdded}
 use Rattle.link.proofs.Carrying.{histories-none, histories-more}
 use Rattle.link.proofs.add_histories.Statement.{statement}

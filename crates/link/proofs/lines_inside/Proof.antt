@@ -1,7 +1,7 @@
 -- `lines_inside` counts the lines that have a word in the block at a place.
 use native.Mathlib.Omega.{arith}
 use borrow.Author.Needs.{needs}
-use Rattle.link.proofs.Reading.{lines-read, lines-low, lines-high}
+use Rattle.link.proofs.EdgeReads.{lines-read, lines-low, lines-high}
 use Rattle.link.proofs.lines_inside.Statement.{statement}
 use Rattle.link.proofs.lines_inside.Tie as tie
 

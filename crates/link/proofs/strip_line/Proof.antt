@@ -3,7 +3,7 @@ use Prim.Native.Nat.{_+_, _*_, _<_}
 use native.Mathlib.Omega.{arith}
 use borrow.Author.Needs.{needs}
 use lib.ListN.{length}
-use Rattle.link.proofs.Reading.{lines-few, words-fit, first-word, line-some, line-none}
+use Rattle.link.proofs.EdgeReads.{lines-few, words-fit, first-word, line-some, line-none}
 use Rattle.link.proofs.strip_line.Statement.{statement}
 use Rattle.link.proofs.strip_line.Tie as tie
 

@@ -2,7 +2,7 @@
 use mathlib.Core.Path.{sym, ap, _∙_}
 use native.Mathlib.Omega.{arith}
 use borrow.Author.Needs.{needs}
-use Rattle.plan_reader.specs.Layout.{signed28}
+use Rattle.plan_reader.specs.PlanWords.{signed28}
 use Rattle.plan_reader.proofs.Signed.{read-back}
 use Rattle.plan_reader.proofs.Record.{coefficient-read, coefficient-zero}
 use Rattle.plan_reader.proofs.coefficient_in.Statement.{statement}

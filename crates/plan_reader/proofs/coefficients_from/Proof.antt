@@ -7,7 +7,7 @@ use lib.ListN.{length, take, length-set}
 use Rattle.plan.specs.Rules.{orderLimit}
 use Rattle.plan.specs.Lists.{listOf}
 use Rattle.plan.proofs.Listed.{listed-none, filled-more, filled-all}
-use Rattle.plan_reader.specs.Reading.{coefficientIn}
+use Rattle.plan_reader.specs.ReadPlan.{coefficientIn}
 use Rattle.plan_reader.proofs.Signed.{read-back}
 use Rattle.plan_reader.proofs.coefficients_from.Statement.{statement}
 use Rattle.plan_reader.proofs.coefficients_from.Tie as tie

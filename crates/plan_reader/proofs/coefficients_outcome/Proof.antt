@@ -4,7 +4,7 @@ use Prim.Native.Nat.{_-_, _≤_}
 use native.Mathlib.Omega.{arith}
 use borrow.Author.Needs.{needs}
 use Rattle.refusal.specs.Table.{firstDue, answerOf}
-use Rattle.plan_reader.specs.Reading.{coefficientRows}
+use Rattle.plan_reader.specs.ReadPlan.{coefficientRows}
 use Rattle.plan_reader.proofs.Rows.{coefficients-none, coefficients-more}
 use Rattle.plan_reader.proofs.coefficients_outcome.Statement.{statement}
 use Rattle.plan_reader.proofs.coefficients_outcome.Tie as tie

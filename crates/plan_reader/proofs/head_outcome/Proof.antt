@@ -1,7 +1,7 @@
 -- `plan_reader::head_outcome` meets its contract: the size word, then the block word. Assumes nothing.
 use mathlib.Core.Path.{ap, _∙_}
 use borrow.Author.Needs.{needs}
-use Rattle.plan_reader.specs.Layout.{sizeAllowed, sideAllowed}
+use Rattle.plan_reader.specs.PlanWords.{sizeAllowed, sideAllowed}
 use Rattle.plan_reader.proofs.Rows.{head-rows}
 use Rattle.plan_reader.proofs.head_outcome.Statement.{statement}
 use Rattle.plan_reader.proofs.head_outcome.Tie as tie

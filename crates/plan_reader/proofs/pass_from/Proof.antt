@@ -1,8 +1,8 @@
 -- `plan_reader::pass_from` meets its contract, field by field. Assumes nothing.
 use mathlib.Core.Path.{ap, _∙_}
 use borrow.Author.Needs.{needs}
-use Rattle.plan_reader.specs.Layout.{signed28}
-use Rattle.plan_reader.specs.Reading.{passFrom}
+use Rattle.plan_reader.specs.PlanWords.{signed28}
+use Rattle.plan_reader.specs.ReadPlan.{passFrom}
 use Rattle.plan_reader.proofs.Signed.{read-back}
 use Rattle.plan_reader.proofs.Record.{same-pass}
 use Rattle.plan_reader.proofs.pass_from.Statement.{statement}

@@ -1,7 +1,7 @@
 -- `plan_reader::pass_outcome` meets its contract: pass word, gain word, coefficient words. Assumes nothing.
 use mathlib.Core.Path.{ap, _∙_}
 use borrow.Author.Needs.{needs}
-use Rattle.plan_reader.specs.Layout.{passAllowed}
+use Rattle.plan_reader.specs.PlanWords.{passAllowed}
 use Rattle.plan_reader.proofs.Rows.{pass-rows}
 use Rattle.plan_reader.proofs.pass_outcome.Statement.{statement}
 use Rattle.plan_reader.proofs.pass_outcome.Tie as tie

@@ -3,7 +3,7 @@ use mathlib.Core.Path.{_≡_, sym}
 use Prim.Native.Nat.{_-_, _≤_}
 use native.Mathlib.Omega.{arith}
 use borrow.Author.Needs.{needs}
-use Rattle.plan_reader.specs.Reading.{passPlace}
+use Rattle.plan_reader.specs.ReadPlan.{passPlace}
 use Rattle.plan_reader.proofs.Places.{pass-place-first, pass-place-next, pass-place-bounded}
 use Rattle.plan_reader.proofs.pass_place.Statement.{statement}
 use Rattle.plan_reader.proofs.pass_place.Tie as tie

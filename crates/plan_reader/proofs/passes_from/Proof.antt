@@ -6,7 +6,7 @@ use borrow.Author.Needs.{needs}
 use lib.ListN.{length, take, length-set}
 use Rattle.plan.specs.Lists.{listOf}
 use Rattle.plan.proofs.Listed.{listed-none, filled-more, filled-all}
-use Rattle.plan_reader.specs.Reading.{passPlace, passFrom}
+use Rattle.plan_reader.specs.ReadPlan.{passPlace, passFrom}
 use Rattle.plan_reader.proofs.Places.{pass-place-bounded}
 use Rattle.plan_reader.proofs.passes_from.Statement.{statement}
 use Rattle.plan_reader.proofs.passes_from.Tie as tie

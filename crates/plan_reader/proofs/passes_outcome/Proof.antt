@@ -4,7 +4,7 @@ use Prim.Native.Nat.{_-_, _≤_}
 use native.Mathlib.Omega.{arith}
 use borrow.Author.Needs.{needs}
 use Rattle.refusal.specs.Table.{firstDue, answerOf}
-use Rattle.plan_reader.specs.Reading.{passesRows}
+use Rattle.plan_reader.specs.ReadPlan.{passesRows}
 use Rattle.plan_reader.proofs.Places.{pass-place-bounded}
 use Rattle.plan_reader.proofs.Rows.{passes-none, passes-more}
 use Rattle.plan_reader.proofs.passes_outcome.Statement.{statement}

@@ -1,8 +1,8 @@
 -- `plan_reader::plan_from` meets its contract, field by field. Assumes nothing.
 use mathlib.Core.Path.{ap}
 use borrow.Author.Needs.{needs}
-use Rattle.plan_reader.specs.Layout.{rowsIn, columnsIn}
-use Rattle.plan_reader.specs.Reading.{planFrom}
+use Rattle.plan_reader.specs.PlanWords.{rowsIn, columnsIn}
+use Rattle.plan_reader.specs.ReadPlan.{planFrom}
 use Rattle.plan_reader.proofs.Record.{same-plan}
 use Rattle.plan_reader.proofs.plan_from.Statement.{statement}
 use Rattle.plan_reader.proofs.plan_from.Tie as tie

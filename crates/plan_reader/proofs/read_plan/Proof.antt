@@ -2,7 +2,7 @@
 use mathlib.Core.Path.{sym, ap, _∙_}
 use borrow.Author.Needs.{needs}
 use Rattle.refusal.specs.Table.{answerOf}
-use Rattle.plan_reader.proofs.Answers.{read-accepted, read-refused}
+use Rattle.plan_reader.proofs.ReadAnswers.{read-accepted, read-refused}
 use Rattle.plan_reader.proofs.read_plan.Statement.{statement}
 use Rattle.plan_reader.proofs.read_plan.Tie as tie
 

@@ -7,7 +7,7 @@ use borrow.Author.Needs.{needs}
 use borrow.Author.Tests.{le-leb}
 use Rattle.plan.specs.Rules.{allBelow}
 use Rattle.plan.proofs.Tests.{all-none, all-more}
-use Rattle.plan_reader.specs.Reading.{payloadAt, orderAt, passPlace}
+use Rattle.plan_reader.specs.ReadPlan.{payloadAt, orderAt, passPlace}
 use Rattle.plan_reader.proofs.Rows.{sideReaches, side-below, side-accepted}
 use Rattle.plan_reader.proofs.side_outcome.Statement.{statement}
 use Rattle.plan_reader.proofs.side_outcome.Tie as tie

@@ -4,7 +4,7 @@ use mathlib.Core.Bool.{true}
 use borrow.Author.Needs.{needs}
 use Rattle.plan.specs.Rules.{within}
 use Rattle.plan.proofs.Tests.{failed, passed}
-use Rattle.plan_reader.specs.Layout.{rowsIn}
+use Rattle.plan_reader.specs.PlanWords.{rowsIn}
 use Rattle.plan_reader.proofs.Conjunction.{first-fails, first-passes}
 use Rattle.plan_reader.proofs.size_allowed.Statement.{statement}
 use Rattle.plan_reader.proofs.size_allowed.Tie as tie

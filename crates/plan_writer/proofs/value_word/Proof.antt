@@ -5,7 +5,7 @@ use native.Mathlib.Omega.{arith}
 use mir.Syntax.{w64}
 use mir.ValLaws.{toZ-ofZ}
 use borrow.Author.Needs.{needs}
-use Rattle.plan_writer.specs.Writing.{payload28}
+use Rattle.plan_writer.specs.WritePlan.{payload28}
 use Rattle.plan_writer.proofs.Payload.{payload-below}
 use Rattle.plan_writer.proofs.value_word.Statement.{statement}
 use Rattle.plan_writer.proofs.value_word.Tie as tie

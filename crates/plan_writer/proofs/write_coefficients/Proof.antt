@@ -10,7 +10,7 @@ use mir.Val.{toZ, ofZ}
 use mir.ValLaws.{toZ-ofZ}
 use borrow.Author.Needs.{needs, sfits-of}
 use Rattle.plan.specs.Rules.{inSigned28, coefficientAt}
-use Rattle.plan_writer.specs.Writing.{wordOf, payload28, coefficientWords}
+use Rattle.plan_writer.specs.WritePlan.{wordOf, payload28, coefficientWords}
 use Rattle.plan_writer.proofs.Words.{coefficient-signed, no-coefficients, more-coefficients}
 use Rattle.plan_writer.proofs.write_coefficients.Statement.{statement}
 use Rattle.plan_writer.proofs.write_coefficients.Tie as tie

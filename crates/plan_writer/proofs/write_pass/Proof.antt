@@ -8,7 +8,7 @@ use mir.ValLaws.{toZ-ofZ}
 use borrow.Author.Needs.{needs}
 use Rattle.plan.specs.Rules.{inSigned28}
 use Rattle.plan.proofs.Record.{pass-rules}
-use Rattle.plan_writer.specs.Writing.{wordOf, payload28}
+use Rattle.plan_writer.specs.WritePlan.{wordOf, payload28}
 use Rattle.plan_writer.proofs.Words.{coefficients-kept, pass-parts}
 use Rattle.plan_writer.proofs.write_pass.Statement.{statement}
 use Rattle.plan_writer.proofs.write_pass.Tie as tie

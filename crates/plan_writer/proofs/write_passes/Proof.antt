@@ -6,7 +6,7 @@ use lib.ListN.{length}
 use lib.Seq.{sets, length-sets}
 use borrow.Author.Needs.{needs}
 use Rattle.plan.specs.Sizes.{orderSum}
-use Rattle.plan_writer.specs.Writing.{passesWords}
+use Rattle.plan_writer.specs.WritePlan.{passesWords}
 use Rattle.plan_writer.proofs.Words.{pass-kept, no-orders, more-orders, orders-grow, no-passes, more-passes}
 use Rattle.plan_writer.proofs.write_passes.Statement.{statement}
 use Rattle.plan_writer.proofs.write_passes.Tie as tie

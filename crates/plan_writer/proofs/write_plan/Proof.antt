@@ -1,7 +1,7 @@
 -- `write_plan` meets its contract: each of its three answers is a law of Answers. Assumes nothing.
 use mathlib.Core.Path.{_∙_}
 use borrow.Author.Needs.{needs}
-use Rattle.plan_writer.proofs.Answers.{rules-kept, record-call, short-call, room-enough, written-call}
+use Rattle.plan_writer.proofs.WriteAnswers.{rules-kept, record-call, short-call, room-enough, written-call}
 use Rattle.plan_writer.proofs.write_plan.Statement.{statement}
 use Rattle.plan_writer.proofs.write_plan.Tie as tie
 

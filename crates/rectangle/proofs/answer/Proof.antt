@@ -1,6 +1,6 @@
 -- `rectangle::answer` is that of the record, then of the table's length, then of the rectangle. Assumes nothing.
 use borrow.Author.Needs.{needs}
-use Rattle.rectangle.proofs.Answers.{answer-of-record, answer-of-tests}
+use Rattle.rectangle.proofs.SumAnswers.{answer-of-record, answer-of-tests}
 use Rattle.rectangle.proofs.answer.Statement.{statement}
 use Rattle.rectangle.proofs.answer.Tie as tie
 

@@ -3,7 +3,7 @@ use mathlib.Core.Path.{sym, ap, _∙_}
 use native.Mathlib.Omega.{arith}
 use borrow.Author.Needs.{needs}
 use Rattle.refusal.specs.Table.{answerOf}
-use Rattle.rectangle.proofs.Answers.{accepted-fits, given-accepted, given-refused}
+use Rattle.rectangle.proofs.SumAnswers.{accepted-fits, given-accepted, given-refused}
 use Rattle.rectangle.proofs.rectangle_sum.Statement.{statement}
 use Rattle.rectangle.proofs.rectangle_sum.Tie as tie
 

@@ -1,6 +1,6 @@
 -- Refusal 6 where the record breaks a rule, else the report on its sizes.
 use borrow.Author.Needs.{needs}
-use Rattle.report.proofs.Answers.{broken-record, known-sized, known-report}
+use Rattle.report.proofs.ReportAnswers.{broken-record, known-sized, known-report}
 use Rattle.report.proofs.report.Statement.{statement}
 use Rattle.report.proofs.report.Tie as tie
 

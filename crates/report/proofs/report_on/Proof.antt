@@ -3,7 +3,7 @@ use native.Mathlib.Omega.{arith}
 use lib.ListN.{length}
 use borrow.Author.Needs.{needs}
 use Rattle.tasks.specs.Grid.{Lent}
-use Rattle.report.proofs.Answers.{made, mark-broken, too-short, long-enough}
+use Rattle.report.proofs.ReportAnswers.{made, mark-broken, too-short, long-enough}
 use Rattle.tasks.proofs.Bounds.{blocks-most}
 use Rattle.report.proofs.report_on.Statement.{statement}
 use Rattle.report.proofs.report_on.Tie as tie

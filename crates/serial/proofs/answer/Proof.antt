@@ -1,6 +1,6 @@
 -- `answer` is that of the record, then of the two lengths.
 use borrow.Author.Needs.{needs}
-use Rattle.serial.proofs.Answers.{answer-of-record, answer-of-lengths}
+use Rattle.serial.proofs.SerialAnswers.{answer-of-record, answer-of-lengths}
 use Rattle.serial.proofs.answer.Statement.{statement}
 use Rattle.serial.proofs.answer.Tie as tie
 

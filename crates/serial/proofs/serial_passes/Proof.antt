@@ -2,7 +2,7 @@
 use mathlib.Core.Path.{sym, ap, _∙_}
 use borrow.Author.Needs.{needs}
 use Rattle.refusal.specs.Table.{answerOf}
-use Rattle.serial.proofs.Answers.{accepted-fits, output-of-accepted, output-of-refused}
+use Rattle.serial.proofs.SerialAnswers.{accepted-fits, output-of-accepted, output-of-refused}
 use Rattle.serial.proofs.serial_passes.Statement.{statement}
 use Rattle.serial.proofs.serial_passes.Tie as tie
 

@@ -6,7 +6,7 @@ use lib.ListN.{length, take, length-set}
 use lib.Seq.{length-take-le}
 use Rattle.plan.specs.Lists.{listOf}
 use Rattle.plan.proofs.Listed.{listed-none, filled-more}
-use Rattle.plan_reader.specs.Reading.{readPlan}
+use Rattle.plan_reader.specs.ReadPlan.{readPlan}
 use Rattle.smooth_job.specs.Program.{planLimit, wordIn}
 use borrow.Author.Needs.{needs}
 use Rattle.smooth_job.proofs.plan_in.Statement.{statement}

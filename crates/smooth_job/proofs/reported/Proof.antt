@@ -1,5 +1,5 @@
 -- `smooth_job::reported` meets its contract. Assumes nothing.
-use Rattle.smooth_job.proofs.Answers.{reported-made, reported-refused}
+use Rattle.smooth_job.proofs.SmoothAnswers.{reported-made, reported-refused}
 use borrow.Author.Needs.{needs}
 use Rattle.smooth_job.proofs.reported.Statement.{statement}
 use Rattle.smooth_job.proofs.reported.Tie as tie

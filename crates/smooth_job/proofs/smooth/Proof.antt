@@ -1,7 +1,7 @@
 -- `smooth_job::smooth` meets its contract: whole words, the plan, and then as the plan says. Assumes nothing.
 use native.Mathlib.Omega.{arith}
 use Rattle.smooth_job.proofs.Input.{length-limited, length-inside}
-use Rattle.smooth_job.proofs.Answers.{not-whole, plan-kept, by-plan, plan-refused}
+use Rattle.smooth_job.proofs.SmoothAnswers.{not-whole, plan-kept, by-plan, plan-refused}
 use borrow.Author.Needs.{needs}
 use Rattle.smooth_job.proofs.smooth.Statement.{statement}
 use Rattle.smooth_job.proofs.smooth.Tie as tie

@@ -1,5 +1,5 @@
 -- `smooth_job::smooth_counted` meets its contract: each test is the definition's. Assumes nothing.
-use Rattle.smooth_job.proofs.Answers.{too-many-pixels, wrong-heights, right-heights}
+use Rattle.smooth_job.proofs.SmoothAnswers.{too-many-pixels, wrong-heights, right-heights}
 use borrow.Author.Needs.{needs}
 use Rattle.smooth_job.proofs.smooth_counted.Statement.{statement}
 use Rattle.smooth_job.proofs.smooth_counted.Tie as tie

@@ -1,6 +1,6 @@
 -- `smooth_job::smooth_heights` meets its contract: the job on marks and strips of zeros, and the report on its marks.
 -- Assumes nothing.
-use Rattle.smooth_job.proofs.Answers.{job-accepted, job-refused}
+use Rattle.smooth_job.proofs.SmoothAnswers.{job-accepted, job-refused}
 use borrow.Author.Needs.{needs}
 use Rattle.smooth_job.proofs.smooth_heights.Statement.{statement}
 use Rattle.smooth_job.proofs.smooth_heights.Tie as tie

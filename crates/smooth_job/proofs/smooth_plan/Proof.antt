@@ -3,7 +3,7 @@ use mathlib.Core.Path.{ap}
 use Rattle.plan.specs.declared.Sizes.{Sizes}
 use Rattle.plan.specs.Sizes.{sizesOf}
 use Rattle.plan.proofs.Known.{sizes-known}
-use Rattle.smooth_job.proofs.Answers.{kept-refused}
+use Rattle.smooth_job.proofs.SmoothAnswers.{kept-refused}
 use borrow.Author.Needs.{needs}
 use Rattle.smooth_job.proofs.smooth_plan.Statement.{statement}
 use Rattle.smooth_job.proofs.smooth_plan.Tie as tie

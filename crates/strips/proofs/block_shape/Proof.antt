@@ -1,7 +1,7 @@
 -- `block_shape` is where block k lies.
 use native.Mathlib.Omega.{arith}
 use borrow.Author.Needs.{needs}
-use Rattle.blocks.specs.Geometry.{blockRow, blockColumn}
+use Rattle.task_words.specs.Geometry.{blockRow, blockColumn}
 use Rattle.strips.proofs.Positions.{Located, located, shape-is}
 use Rattle.strips.proofs.block_shape.Statement.{statement}
 use Rattle.strips.proofs.block_shape.Tie as tie

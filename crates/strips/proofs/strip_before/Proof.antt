@@ -1,6 +1,6 @@
 -- `strip_before` is the strip of the neighbour, or the strip without lines.
 use borrow.Author.Needs.{needs}
-use Rattle.strips.proofs.Reading.{before-below, before-block, before-none}
+use Rattle.strips.proofs.StripRecords.{before-below, before-block, before-none}
 use Rattle.strips.proofs.strip_before.Statement.{statement}
 use Rattle.strips.proofs.strip_before.Tie as tie
 

@@ -1,6 +1,6 @@
 -- `strip_of` is block k's strip of the pass.
 use borrow.Author.Needs.{needs}
-use Rattle.strips.proofs.Reading.{strip-of-is}
+use Rattle.strips.proofs.StripRecords.{strip-of-is}
 use Rattle.strips.proofs.strip_of.Statement.{statement}
 use Rattle.strips.proofs.strip_of.Tie as tie
 

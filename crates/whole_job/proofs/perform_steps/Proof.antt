@@ -4,7 +4,7 @@ use mathlib.Core.Path.{_≡_}
 use Prim.Native.Nat.{_-_, _≤_}
 use native.Mathlib.Omega.{arith}
 use lib.ListN.{length}
-use Rattle.calls.specs.Calls.{lists}
+use Rattle.job_spec.specs.Calls.{lists}
 use Rattle.whole_job.specs.WholeJob.{afterSteps}
 use borrow.Author.Needs.{needs}
 use Rattle.whole_job.proofs.Performed.{steps-more, steps-all}

@@ -1,8 +1,0 @@
-pub mod Geometry
-pub mod Grid
-pub mod Strips
-pub mod Output
-pub mod Reading
-pub mod Tasks
-pub mod Depends
-pub mod Examples

@@ -1,0 +1,44 @@
+-- `copy_row` copies or multiplies: gain 1 changes nothing.
+use mathlib.Core.Path.{_∙_}
+use native.Mathlib.Omega.{arith}
+use borrow.Author.Needs.{needs}
+use Rattle.collect_finish.proofs.Copies.{row-unscaled}
+use Rattle.collect_finish.proofs.copy_row.Statement.{statement}
+use Rattle.collect_finish.proofs.copy_row.Tie as tie
+
+copy-words-requires : tie.Need-copy-words-requires
+copy-words-requires c κs = search needs
+
+scale-words-requires : tie.Need-scale-words-requires
+scale-words-requires c κs = search needs
+
+same-length : tie.Need-same-length
+same-length c = search needs
+
+returns : tie.Need-returns
+returns c =
+    let r = c .before .before in
+    let t = r .before .before in
+    let k = t .before .before in
+    let a = k .before .args in
+    rw (t .if1 .taken)
+    (r .copy-words .ensures
+    ∙ row-unscaled (a .to-start) (a .from .now) (a .from-start) (a .count) (a .to .now)
+    (λ i. omega (arith, k .shared-slice-known .given i)))
+
+same-length-2 : tie.Need-same-length-2
+same-length-2 c = search needs
+
+returns-2 : tie.Need-returns-2
+returns-2 c = search needs
+
+pub copy-row-spec : {M : Type 1} → statement M
+copy-row-spec =
+    tie.close
+    (tie.spec
+    copy-words-requires
+    scale-words-requires
+    same-length
+    returns
+    same-length-2
+    returns-2)

@@ -1,0 +1,123 @@
+-- The work array of collect and finish: rows of 32 + 2 × orderLimit words, the block at row and column orderLimit, and
+-- around it margins for the words past its edges.
+use mathlib.Core.Bool.{cond}
+use mathlib.Core.List.{List}
+use mathlib.Core.Logic.{_≢_}
+use mathlib.Core.Path.{_≡_}
+use Prim.Native.Nat.{ℕ, _+_, _-_, _*_, _<_, _≤_}
+use lib.ListN.{length}
+use Rattle.word.specs.Word.{_⊗_}
+use Rattle.plan.specs.declared.Plan.{Plan}
+use Rattle.plan.specs.Rules.{orderLimit}
+use Rattle.plan.specs.Lists.{wordAt}
+use Rattle.passes.specs.Filter.{Filter}
+use Rattle.passes.specs.Passes.{
+  Axis,
+  Direction,
+  forward,
+  backward,
+  axisOf,
+  directionOf,
+  along,
+  across,
+  lineOf,
+}
+use Rattle.filter.specs.declared.Window.{Window}
+use Rattle.filter.specs.Windows.{pixelPlace, windowPass}
+use Rattle.task_words.specs.Geometry.{rowsOf, columnsOf, stripNeeded}
+use Rattle.task_words.specs.Strips.{orderOf}
+use Rattle.strips.specs.declared.BlockShape.{BlockShape}
+use Rattle.strips.specs.declared.Strip.{Strip}
+use Rattle.strips.specs.StripRecord.{stripRead}
+
+-- The words of a row.
+abbrev pub workStride : ℕ
+workStride = 32 + 2 * orderLimit
+
+-- The words of the array.
+abbrev pub workWords : ℕ
+workWords = workStride * workStride
+
+-- The first word of the block.
+abbrev pub workCorner : ℕ
+workCorner = orderLimit * workStride + orderLimit
+
+-- The window that a block of h rows and w columns takes.
+abbrev pub workWindow : (h w : ℕ) → Window
+workWindow h w = record { stride = workStride; top = orderLimit; left = orderLimit; height = h; width = w }
+
+-- A block that the array holds.
+pub record ShapeFits (shape : BlockShape) : Type 0 where
+  pub tall : 0 < shape .rows
+  pub wide : 0 < shape .columns
+  pub rows-high : shape .rows ≤ 32
+  pub columns-high : shape .columns ≤ 32
+
+-- The place of a pixel of the block.
+abbrev pub pixelIn : ℕ → ℕ → ℕ
+pixelIn y x = pixelPlace workStride (orderLimit + y) (orderLimit + x)
+
+-- The array is 0 outside the block's cells.
+pub record ClearOutside (shape : BlockShape) (work : List ℕ) : Type 0 where
+  pub sized : length work ≡ workWords
+  pub around : (z : ℕ) → ((y x : ℕ) → y < shape .rows → x < shape .columns → z ≢ pixelIn y x) → wordAt work z ≡ 0
+
+-- The array holds the block's words, and zeros around them.
+pub record BlockRead (shape : BlockShape) (words : ℕ → ℕ → ℕ) (work : List ℕ) : Type 0 where
+  pub clear : ClearOutside shape work
+  pub inside : (y x : ℕ) → y < shape .rows → x < shape .columns → wordAt work (pixelIn y x) ≡ words y x
+
+-- The place of an index of line l of the block, counted from the array's edge.
+abbrev pub workPlace : Axis → ℕ → ℕ → ℕ
+workPlace a l i = lineOf a (pixelPlace workStride) (orderLimit + l) i
+
+-- ---- margins
+
+-- The first index of the words past the edge that a pass comes from, of a block of n places along the pass.
+abbrev pub marginStart : Direction → (order n : ℕ) → ℕ
+marginStart forward order n = orderLimit - order
+marginStart backward order n = orderLimit + n
+
+-- The place of line l and place i of the margin of a pass.
+abbrev pub marginPlace : Plan → BlockShape → ℕ → ℕ → ℕ → ℕ
+marginPlace plan shape pass l i =
+    workPlace (axisOf pass) l
+    (marginStart (directionOf pass) (orderOf plan pass) (along (axisOf pass) (shape .rows) (shape .columns)) + i)
+
+-- The margin of a pass is 0.
+pub record MarginClear (plan : Plan) (shape : BlockShape) (pass : ℕ) (work : List ℕ) : Type 0 where
+  pub at : (l i : ℕ) → l < across (axisOf pass) (shape .rows) (shape .columns) → i < orderOf plan pass
+      → wordAt work (marginPlace plan shape pass l i) ≡ 0
+
+-- The array after a strip, times a gain, has gone into the margin of a pass.
+pub record MarginLoaded (plan : Plan) (shape : BlockShape) (pass gain : ℕ) (strip : Strip) (strips before after : List ℕ) : Type 0 where
+  pub length-kept : length after ≡ length before
+  pub at : (l i : ℕ) → l < across (axisOf pass) (shape .rows) (shape .columns) → i < orderOf plan pass
+      → wordAt after (marginPlace plan shape pass l i) ≡ gain ⊗ stripRead strip strips l i
+  pub elsewhere : (z : ℕ)
+      → ((l i : ℕ) → l < across (axisOf pass) (shape .rows) (shape .columns) → i < orderOf plan pass
+      → z ≢ marginPlace plan shape pass l i)
+      → wordAt after z ≡ wordAt before z
+
+-- ---- passes
+
+-- The array after a pass of a filter over the block.
+unfoldable pub blockPass : BlockShape → ℕ → Filter → List ℕ → List ℕ
+blockPass shape pass f work = windowPass pass (workWindow (shape .rows) (shape .columns)) (f .order) f work
+
+-- ---- strips
+
+-- The first index of the strip of a pass of a block of n places along the pass.
+abbrev pub edgeStart : Direction → (order n : ℕ) → ℕ
+edgeStart forward order n = (orderLimit + n) - order
+edgeStart backward order n = orderLimit
+
+-- Block k's strip of a pass as the array has it, times a gain, 0 where no neighbour needs it.
+unfoldable pub workEdge : Plan → (k pass gain : ℕ) → List ℕ → ℕ → ℕ → ℕ
+workEdge plan k pass gain work line place =
+    cond (stripNeeded plan k pass)
+    (gain
+    ⊗ wordAt work
+    (workPlace (axisOf pass) line
+    (edgeStart (directionOf pass) (orderOf plan pass) (along (axisOf pass) (rowsOf plan k) (columnsOf plan k)) + place)))
+    0

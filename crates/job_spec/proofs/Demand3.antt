@@ -1,0 +1,358 @@
+-- Demand 3: the claim holds of every list of calls.
+-- Assumes nothing.
+use mathlib.Core.Path.{_≡_, refl, ap, ap₂, sym, _∙_}
+use mathlib.Core.Bool.{Bool, true, false, cond, false≢true}
+use mathlib.Core.List.{List, [], _∷_, map}
+use mathlib.Core.Logic.{_⊎_, ⊎-elim}
+use Prim.Native.Nat.{ℕ, _/_, _%_, _≤_, _<_}
+use native.Mathlib.Omega.{arith}
+use lib.IntN.{ℤ}
+use lib.Dec.{ltb}
+use lib.ListN.{length}
+use borrow.Author.Tests.{ltb-false, lt-ltb, le-ltb, not-false}
+use Rattle.refusal.specs.Table.{accepted, refused, _at_when_, firstDue}
+use Rattle.refusal.proofs.Table.{refused-before, not-due}
+use Rattle.plan.specs.declared.Plan.{Plan}
+use Rattle.plan.specs.Rules.{keepsRules}
+use Rattle.plan.specs.Sizes.{blockRows, blockColumns, neededMarks, neededStrips, neededPixels, taskCount, sizesOf}
+use Rattle.plan.specs.Lists.{wordAt}
+use Rattle.plan.proofs.Needed.{bounds}
+use Rattle.tasks.specs.Tasks.{BlockTask, hasTask, ready, nothingDone, alsoDone}
+use Rattle.tasks.specs.Counts.{doneCount}
+use Rattle.tasks.specs.Marks.{markOf}
+use Rattle.tasks.proofs.Places.{has-exists, exists-block}
+use Rattle.tasks.proofs.Counting.{Only, task-count, all-of-count}
+use Rattle.tasks.proofs.Verdicts.{verdict-shown, ready-accepted}
+use Rattle.tasks.proofs.Progress.{Sound, sound-nothing}
+use Rattle.report.specs.Report.{progressOf, report}
+use Rattle.report.specs.Values.{valuesOf}
+use Rattle.report.proofs.Claims.{told, reported}
+use Rattle.task_words.specs.Writes.{mapOf}
+use Rattle.task_words.specs.Matching.{serialResult}
+use Rattle.filter.proofs.Written.{written-length, written-other, written-at}
+use Rattle.task_words.proofs.Geometry.{side-fits}
+use Rattle.task_words.proofs.Strips.{strip-place-below}
+use Rattle.job_spec.specs.Calls.{
+  Buffers,
+  startAnswer,
+  unmarked,
+  cleared,
+  marksAfterStart,
+  stripsAfterStart,
+  started,
+  lentRows,
+  taskAnswer,
+  performed,
+  afterTask,
+  afterCalls,
+  answersOf,
+  acceptedCount,
+}
+use Rattle.job_spec.specs.Demand3.{
+  doneBy,
+  doneFrom,
+  doneAfter,
+  dueAnswer,
+  dueFrom,
+  progressAfter,
+  Finished,
+  Demand3,
+  RefusedThroughout,
+  ShortRefused,
+}
+use Rattle.job_spec.proofs.CallAnswers.{by-ready, accepted-if-ready}
+use Rattle.job_spec.proofs.Accepted.{accepted-done, once}
+use Rattle.job_spec.proofs.Cover.{pixel-of}
+use Rattle.job_spec.proofs.Invariant.{OutputKept, Kept, LongEnough}
+use Rattle.job_spec.proofs.Step.{step}
+
+-- ---- one call
+
+module _ (plan : Plan) (heights : List ℤ) (before : Buffers) (enough : LongEnough plan heights before) where
+  only : (done : ℕ → ℕ → Bool) → Sound (blockRows plan) (blockColumns plan) done
+      → Only (blockRows plan) (blockColumns plan) done
+  only done sound t k _ _ e = sound .exist t k e
+
+  -- A call is answered by what is done.
+  pub answered : (done : ℕ → ℕ → Bool) (now : Buffers) → Kept plan heights before done now → (call : BlockTask)
+      → taskAnswer plan heights now (call .task) (call .block) ≡ dueAnswer plan done call
+  unfolding taskAnswer lentRows sizesOf dueAnswer
+  answered done now kept call =
+      rw (
+        enough .rules,
+        le-ltb (length (now .marks)) (neededMarks plan) (rw (kept .marks-kept .long) (enough .marks-long)),
+        le-ltb (length (now .strips)) (neededStrips plan) (rw (kept .strips-kept .long) (enough .strips-long)),
+        le-ltb (length heights) (neededPixels plan) (enough .map-long),
+        le-ltb (length (now .output)) (neededPixels plan) (rw (kept .output-kept .long) (enough .output-long)),
+      )
+      (verdict-shown (blockRows plan) (blockColumns plan) done (now .marks) (kept .marks-kept .shows) (only done (kept .sound))
+      (call .task) (call .block))
+
+  call-kept : (done : ℕ → ℕ → Bool) (now : Buffers) → Kept plan heights before done now → (call : BlockTask)
+      → Kept plan heights before (doneBy plan done call) (afterTask plan heights (call .task) (call .block) now)
+  unfolding doneBy afterTask
+  call-kept done now kept call =
+      rw (
+        answered done now kept call,
+        by-ready plan done call (performed plan heights (call .task) (call .block) now) now,
+      )
+      (by (ready (blockRows plan) (blockColumns plan) done (call .task) (call .block)) refl)
+    where
+      by : (test : Bool) → ready (blockRows plan) (blockColumns plan) done (call .task) (call .block) ≡ test
+          → Kept plan heights before (cond test (alsoDone done (call .task) (call .block)) done)
+          (cond test (performed plan heights (call .task) (call .block) now) now)
+      by true r =
+          step plan (side-fits plan (enough .rules)) heights before now done kept
+          (rw (kept .marks-kept .long) (enough .marks-long))
+          (rw (kept .strips-kept .long) (enough .strips-long))
+          (rw (kept .output-kept .long) (enough .output-long)) (call .task) (call .block) r
+      by false r = kept
+
+  -- ---- a list of calls
+
+  pub calls-kept : (done : ℕ → ℕ → Bool) (now : Buffers) → Kept plan heights before done now
+      → (calls : List BlockTask)
+      → Kept plan heights before (doneFrom plan done calls) (afterCalls plan heights calls now)
+  unfolding doneFrom afterCalls
+  calls-kept done now kept [] = kept
+  calls-kept done now kept (call ∷ calls) =
+      calls-kept (doneBy plan done call) (afterTask plan heights (call .task) (call .block) now)
+      (call-kept done now kept call) calls
+
+  pub calls-answered : (done : ℕ → ℕ → Bool) (now : Buffers) → Kept plan heights before done now
+      → (calls : List BlockTask) → answersOf plan heights calls now ≡ dueFrom plan done calls
+  unfolding dueFrom answersOf
+  calls-answered done now kept [] = refl
+  calls-answered done now kept (call ∷ calls) =
+      ap₂ _∷_ (answered done now kept call)
+      (calls-answered (doneBy plan done call) (afterTask plan heights (call .task) (call .block) now)
+      (call-kept done now kept call) calls)
+
+-- ---- the start
+
+pub record Accepts (plan : Plan) (marks strips : List ℕ) : Type 0 where
+  pub rules : keepsRules plan ≡ true
+  pub marks-long : neededMarks plan ≤ length marks
+  pub strips-long : neededStrips plan ≤ length strips
+
+pub start-accepts : (plan : Plan) (marks strips : List ℕ) → startAnswer plan marks strips ≡ accepted
+    → Accepts plan marks strips
+unfolding startAnswer
+start-accepts plan marks strips e =
+    let kept = not-due _ _ _ _ e in
+    let marks-tested = not-due _ _ _ _ (kept .others) in
+    let strips-tested = not-due _ _ _ _ (marks-tested .others) in
+    record {
+      rules = not-false (keepsRules plan) (kept .first);
+      marks-long = ltb-false (length marks) (neededMarks plan) (marks-tested .first);
+      strips-long = ltb-false (length strips) (neededStrips plan) (strips-tested .first);
+    }
+
+-- The lists that the invariant compares with: marks and output as lent, strips as start leaves them.
+abbrev compared : Plan → Buffers → Buffers
+compared plan lent =
+    record { marks = lent .marks; strips = cleared (neededStrips plan) (lent .strips); output = lent .output }
+
+module _ (plan : Plan) (heights : List ℤ) (lent : Buffers) (start-accepted : startAnswer plan (lent .marks) (lent .strips) ≡ accepted)
+    (accepts : Accepts plan (lent .marks) (lent .strips)) where
+  -- The needed strip words are 0, the others as lent.
+  started-zero : (q : ℕ) → q < neededStrips plan → wordAt (cleared (neededStrips plan) (lent .strips)) q ≡ 0
+  unfolding cleared
+  started-zero q h =
+      written-at (λ q. q) (λ q. 0) (neededStrips plan) (lent .strips) (λ i j a b. omega arith)
+      (λ i a. omega (arith, accepts .strips-long)) q h
+
+  started-past : (q : ℕ) → neededStrips plan ≤ q → wordAt (cleared (neededStrips plan) (lent .strips)) q ≡ wordAt (lent .strips) q
+  unfolding cleared
+  started-past q h = written-other _ _ (neededStrips plan) (lent .strips) q (λ i a. omega arith)
+
+  started-length : length (cleared (neededStrips plan) (lent .strips)) ≡ length (lent .strips)
+  unfolding cleared
+  started-length = written-length _ _ (neededStrips plan) (lent .strips)
+
+  long-enough : neededPixels plan ≤ length heights → neededPixels plan ≤ length (lent .output)
+      → LongEnough plan heights (compared plan lent)
+  long-enough map-long output-long =
+      record {
+        rules = accepts .rules;
+        map-long = map-long;
+        marks-long = accepts .marks-long;
+        strips-long = rw started-length (accepts .strips-long);
+        output-long = output-long;
+      }
+
+  start-kept : Kept plan heights (compared plan lent) nothingDone (started plan lent)
+  unfolding started marksAfterStart stripsAfterStart unmarked
+  start-kept =
+      rw start-accepted
+      (record {
+        sound = sound-nothing (blockRows plan) (blockColumns plan);
+        marks-kept =
+            record {
+              long = written-length _ _ (neededMarks plan) (lent .marks);
+              shows = λ k h.
+                  written-at (λ k. k) (λ k. markOf nothingDone k) (neededMarks plan) (lent .marks) (λ i j a b. omega arith)
+                  (λ i a. omega (arith, accepts .marks-long)) k h;
+              past = λ k h. written-other _ _ (neededMarks plan) (lent .marks) k (λ i a. omega arith);
+            };
+        strips-kept =
+            record {
+              long = refl;
+              linked = λ k pass h e. absurd (false≢true e);
+              alone = λ k pass h e. absurd (false≢true e);
+              others = λ q out. refl;
+            };
+        output-kept =
+            record { long = refl; finished = λ k y x e. absurd (false≢true e); others = λ q out. refl };
+      })
+
+-- ---- the claim
+
+-- With all tasks done every block is finished.
+all-finished : (plan : Plan) → keepsRules plan ≡ true → (done : ℕ → ℕ → Bool)
+    → Sound (blockRows plan) (blockColumns plan) done
+    → doneCount (blockRows plan) (blockColumns plan) done ≡ taskCount plan → (k : ℕ) → k < neededMarks plan → Finished done k
+unfolding hasTask
+all-finished plan kept done sound all k h =
+    let known = bounds plan kept in
+    all-of-count (blockRows plan) (blockColumns plan) done (λ t k _ _ e. sound .exist t k e)
+    (all ∙ sym (task-count (blockRows plan) (blockColumns plan) (known .block-rows-low) (known .block-columns-low)))
+    5 k (has-exists (blockRows plan) (blockColumns plan) k h 5 refl)
+
+-- With every block finished every word below h×w is the result of left.
+whole-output : (plan : Plan) → 1 ≤ plan .side → (X : ℕ → ℕ → ℕ) (before : List ℕ) (done : ℕ → ℕ → Bool) (output : List ℕ)
+    → OutputKept plan X before done output → ((k : ℕ) → k < neededMarks plan → Finished done k) → (q : ℕ)
+    → q < neededPixels plan → wordAt output q ≡ serialResult plan X 4 (q / plan .columns) (q % plan .columns)
+whole-output plan side X before done output kept all q h =
+    let pixel = pixel-of plan side q h in
+    ap (wordAt output) (sym (pixel .place-is))
+    ∙ kept .finished (pixel .block) (pixel .y) (pixel .x) (all (pixel .block) (pixel .block-below)) (pixel .row-below)
+    (pixel .column-below)
+    ∙ ap₂ (serialResult plan X 4) (pixel .row-is) (pixel .column-is)
+
+pub demand3 : Demand3
+unfolding doneAfter progressOf dueAnswer
+demand3 plan heights lent start-accepted map-long output-long calls =
+    let accepts = start-accepts plan (lent .marks) (lent .strips) start-accepted in
+    let before = compared plan lent in
+    let enough = long-enough plan heights lent start-accepted accepts map-long output-long in
+    let done = doneFrom plan nothingDone calls in
+    let start = start-kept plan heights lent start-accepted accepts in
+    let kept = calls-kept plan heights before enough nothingDone (started plan lent) start calls in
+    let strips = kept .strips-kept in
+    let answers = calls-answered plan heights before enough nothingDone (started plan lent) start calls in
+    let now = afterCalls plan heights calls (started plan lent) in
+    let made : report plan (now .marks) ≡ record { answer = accepted; value = valuesOf (progressAfter plan calls) } =
+    reported plan (accepts .rules) done (only plan heights before enough done (kept .sound)) (now .marks)
+    (rw (kept .marks-kept .long) (accepts .marks-long)) (kept .marks-kept .shows) in
+    let says = told plan (accepts .rules) done (only plan heights before enough done (kept .sound)) in
+    record {
+      finished-blocks = kept .output-kept .finished;
+      other-output = kept .output-kept .others;
+      linked-strips = λ k pass line place h d. strips .linked k pass h d line place;
+      collected-strips = λ k pass line place h c d. strips .alone k pass h c d line place;
+      other-strips = λ q h out. strips .others q out ∙ started-zero plan heights lent start-accepted accepts q h;
+      marks-are = kept .marks-kept .shows;
+      strips-past = λ q h.
+          strips .others q
+          (λ k pass line place c p a b e.
+          let here = exists-block (blockRows plan) (blockColumns plan) 0 k (kept .sound .exist 0 k c) in
+          omega (arith, strip-place-below plan k pass line place here p a b))
+          ∙ started-past plan heights lent start-accepted accepts q h;
+      marks-past = kept .marks-kept .past;
+      marks-length = kept .marks-kept .long;
+      strips-length = strips .long ∙ started-length plan heights lent start-accepted accepts;
+      output-length = kept .output-kept .long;
+      answers-are = answers;
+      accepted-once = λ i j h. rw answers (once plan nothingDone calls i j h);
+      accepted-are-done = ap acceptedCount answers ∙ accepted-done plan calls;
+      report-is = made;
+      never-more = says .most;
+      names-next = λ l.
+          let (t, k, e, first) = says .names l in
+          rw (made, e) (
+            refl,
+            answered plan heights before enough done _ kept (record { task = t; block = k })
+                ∙ ready-accepted (blockRows plan) (blockColumns plan) done t k (first .holds),
+          );
+      names-none = λ all. let (none, tally) = says .none all in rw (made, none, tally, all);
+      whole-job = λ all.
+          whole-output plan (side-fits plan (accepts .rules) .side-low) (mapOf plan heights) (lent .output) done _ (kept .output-kept)
+          (all-finished plan (accepts .rules) done (kept .sound) all);
+    }
+
+-- A task that is accepted next is ready by what is done.
+pub next-ready : (plan : Plan) (heights : List ℤ) (lent : Buffers) → startAnswer plan (lent .marks) (lent .strips) ≡ accepted
+    → neededPixels plan ≤ length heights → neededPixels plan ≤ length (lent .output) → (calls : List BlockTask) (t k : ℕ)
+    → taskAnswer plan heights (afterCalls plan heights calls (started plan lent)) t k ≡ accepted
+    → ready (blockRows plan) (blockColumns plan) (doneAfter plan calls) t k ≡ true
+unfolding doneAfter
+next-ready plan heights lent start-accepted map-long output-long calls t k e =
+    let accepts = start-accepts plan (lent .marks) (lent .strips) start-accepted in
+    let before = compared plan lent in
+    let enough = long-enough plan heights lent start-accepted accepts map-long output-long in
+    let start = start-kept plan heights lent start-accepted accepts in
+    let kept = calls-kept plan heights before enough nothingDone (started plan lent) start calls in
+    let call : BlockTask = record { task = t; block = k } in
+    accepted-if-ready plan (doneFrom plan nothingDone calls) call .0
+    (sym (answered plan heights before enough (doneFrom plan nothingDone calls) _ kept call) ∙ e)
+
+-- ---- a record or a length that refuses
+
+module _ (plan : Plan) (heights : List ℤ) (now : Buffers) (number place : ℕ)
+    (refuses : firstDue (lentRows plan heights now) ≡ refused number place) where
+  refused-call : (t k : ℕ) → taskAnswer plan heights now t k ≡ refused number place
+  unfolding taskAnswer
+  refused-call t k = sym (refused-before (lentRows plan heights now) _ (sym refuses))
+
+  unchanged : (t k : ℕ) → afterTask plan heights t k now ≡ now
+  unfolding afterTask
+  unchanged t k = rw (refused-call t k)
+
+  all-unchanged : (calls : List BlockTask) → afterCalls plan heights calls now ≡ now
+  unfolding afterCalls
+  all-unchanged [] = refl
+  all-unchanged (call ∷ calls) =
+      ap (afterCalls plan heights calls) (unchanged (call .task) (call .block)) ∙ all-unchanged calls
+
+  all-refused : (calls : List BlockTask) → answersOf plan heights calls now ≡ map (λ call. refused number place) calls
+  unfolding answersOf
+  all-refused [] = refl
+  all-refused (call ∷ calls) =
+      ap₂ _∷_ (refused-call (call .task) (call .block))
+      (ap (answersOf plan heights calls) (unchanged (call .task) (call .block)) ∙ all-refused calls)
+
+pub refused-throughout : RefusedThroughout
+refused-throughout plan heights now number place refuses calls =
+    (all-unchanged plan heights now number place refuses calls, all-refused plan heights now number place refuses calls)
+
+short-lists : (plan : Plan) (heights : List ℤ) (lent : Buffers) → startAnswer plan (lent .marks) (lent .strips) ≡ accepted
+    → (length heights < neededPixels plan) ⊎ (length (lent .output) < neededPixels plan)
+    → firstDue (lentRows plan heights (started plan lent)) ≡ refused 7 0
+unfolding lentRows sizesOf started
+short-lists plan heights lent e =
+    let rules = start-accepts plan (lent .marks) (lent .strips) e .rules in
+    let marks = ltb (length (started plan lent .marks)) (neededMarks plan) in
+    let strips = ltb (length (started plan lent .strips)) (neededStrips plan) in
+    ⊎-elim
+    (λ (h : length heights < neededPixels plan).
+    rw (rules, lt-ltb (length heights) (neededPixels plan) h) (first-two marks strips))
+    (λ (h : length (lent .output) < neededPixels plan).
+    rw (rules, lt-ltb (length (lent .output)) (neededPixels plan) h)
+    (first-three marks strips (ltb (length heights) (neededPixels plan))))
+  where
+    first-two : (a b : Bool) → firstDue (7 at 0 when a ∷ 7 at 0 when b ∷ 7 at 0 when true ∷ []) ≡ refused 7 0
+    first-two true b = refl
+    first-two false true = refl
+    first-two false false = refl
+
+    first-three : (a b c : Bool)
+        → firstDue (7 at 0 when a ∷ 7 at 0 when b ∷ 7 at 0 when c ∷ 7 at 0 when true ∷ []) ≡ refused 7 0
+    first-three true b c = refl
+    first-three false true c = refl
+    first-three false false true = refl
+    first-three false false false = refl
+
+pub short-refused : ShortRefused
+short-refused plan heights lent start-accepted few =
+    refused-throughout plan heights (started plan lent) 7 0 (short-lists plan heights lent start-accepted few)

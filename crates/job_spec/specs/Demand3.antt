@@ -1,0 +1,214 @@
+-- Demand 3: what is done after a list of task calls, by the list alone, and the one claim about the list.
+-- Document 01, the paragraph on the words of demand 3.
+use mathlib.Core.Path.{_≡_}
+use mathlib.Core.Bool.{Bool, true, false, cond}
+use mathlib.Core.Logic.{_≢_, _⊎_}
+use mathlib.Core.List.{List, [], _∷_, map}
+use Prim.Native.Nat.{ℕ, suc, _+_, _*_, _/_, _%_, _≤_, _<_}
+use lib.IntN.{ℤ}
+use lib.ListN.{length, getD}
+use Rattle.refusal.specs.Table.{Answer, accepted, refused, firstDue}
+use Rattle.plan.specs.declared.Plan.{Plan}
+use Rattle.plan.specs.Rules.{keepsRules}
+use Rattle.plan.specs.Sizes.{blockRows, blockColumns, neededMarks, neededStrips, neededPixels, taskCount}
+use Rattle.plan.specs.Lists.{wordAt}
+use Rattle.tasks.specs.Tasks.{BlockTask, ready, nothingDone, alsoDone}
+use Rattle.tasks.specs.Counts.{doneCount}
+use Rattle.tasks.specs.Marks.{markOf}
+use Rattle.tasks.specs.Verdict.{doneRows}
+use Rattle.report.specs.declared.Progress.{Progress}
+use Rattle.report.specs.Tally.{blockArea as tallyArea, tally}
+use Rattle.report.specs.Report.{firstReady, report}
+use Rattle.report.specs.Values.{valuesOf}
+use Rattle.task_words.specs.Geometry.{firstRow, firstColumn, rowsOf, columnsOf, blockArea, blockPixelPlace}
+use Rattle.task_words.specs.Strips.{orderOf, stripPlace}
+use Rattle.task_words.specs.Writes.{mapOf, aloneWord}
+use Rattle.task_words.specs.Matching.{serialResult, matchingWord}
+use Rattle.job_spec.specs.Calls.{
+  Buffers,
+  startAnswer,
+  started,
+  lentRows,
+  taskAnswer,
+  afterCalls,
+  answersOf,
+  acceptedCount,
+}
+
+-- ---- what is done
+
+-- A call makes its task done if that task exists there, is not yet done and has all its needs done; no other call does.
+unfoldable pub doneBy : Plan → (ℕ → ℕ → Bool) → BlockTask → ℕ → ℕ → Bool
+doneBy plan done call =
+    cond (ready (blockRows plan) (blockColumns plan) done (call .task) (call .block))
+    (alsoDone done (call .task) (call .block)) done
+
+-- What is done after more calls.
+unfoldable pub doneFrom : Plan → (ℕ → ℕ → Bool) → List BlockTask → ℕ → ℕ → Bool
+doneFrom plan done [] = done
+doneFrom plan done (call ∷ calls) = doneFrom plan (doneBy plan done call) calls
+
+-- What is done after a list of calls.
+unfoldable pub doneAfter : Plan → List BlockTask → ℕ → ℕ → Bool
+doneAfter plan calls = doneFrom plan nothingDone calls
+
+-- What a call is to be answered, by what was done before it, with no look at marks: 8 where the task does not exist at the
+-- block, 10 where it is done, 11 where a need of it is not, each with place 0; else accepted. 9 cannot be due: marks that begin
+-- with an accepted start never break.
+unfoldable pub dueAnswer : Plan → (ℕ → ℕ → Bool) → BlockTask → Answer
+dueAnswer plan done call = firstDue (doneRows (blockRows plan) (blockColumns plan) done (call .task) (call .block))
+
+-- These answers for calls one after another.
+unfoldable pub dueFrom : Plan → (ℕ → ℕ → Bool) → List BlockTask → List Answer
+dueFrom plan done [] = []
+dueFrom plan done (call ∷ calls) = dueAnswer plan done call ∷ dueFrom plan (doneBy plan done call) calls
+
+-- How many tasks are done after a list of calls.
+abbrev pub countAfter : Plan → List BlockTask → ℕ
+countAfter plan calls = doneCount (blockRows plan) (blockColumns plan) (doneAfter plan calls)
+
+-- What the report is to say after a list of calls: by what is done, with no look at marks.
+abbrev pub progressAfter : Plan → List BlockTask → Progress
+progressAfter plan calls =
+    record {
+      marked = countAfter plan calls;
+      tally = tally (plan .rows) (plan .columns) (plan .side) (blockRows plan) (blockColumns plan) (doneAfter plan calls);
+      next = firstReady (blockRows plan) (blockColumns plan) (doneAfter plan calls);
+    }
+
+-- ---- what the words of the demand mean, for any table of what is done
+
+-- A block is collected with its task 0 done.
+abbrev pub Collected : (ℕ → ℕ → Bool) → ℕ → Type 0
+Collected done k = done 0 k ≡ true
+
+-- A block is finished with its task 5 done.
+abbrev pub Finished : (ℕ → ℕ → Bool) → ℕ → Type 0
+Finished done k = done 5 k ≡ true
+
+-- A word of the output outside finished blocks: it is no pixel of any, whether below h×w or past it.
+abbrev pub OutsideFinished : Plan → (ℕ → ℕ → Bool) → ℕ → Type 0
+OutsideFinished plan done q =
+    (k y x : ℕ) → Finished done k → y < rowsOf plan k → x < columnsOf plan k → q ≢ blockPixelPlace plan k y x
+
+-- A word of the strips outside collected blocks: it stands in no strip of any.
+abbrev pub OutsideCollected : Plan → (ℕ → ℕ → Bool) → ℕ → Type 0
+OutsideCollected plan done q =
+    (k pass line place : ℕ) → Collected done k → pass < 4 → line < plan .side → place < orderOf plan pass
+    → q ≢ stripPlace plan k pass line place
+
+-- ---- the answers of a list of calls
+
+-- Call number i is accepted; past the end of the list none is.
+abbrev pub AcceptedAt : List Answer → ℕ → Type 0
+AcceptedAt said i = getD said i (refused 0 0) ≡ accepted
+
+-- Call number i of the list.
+abbrev pub callAt : List BlockTask → ℕ → BlockTask
+callAt calls i = getD calls i (record { task = 0; block = 0 })
+
+-- ---- the claim
+
+-- The claim about a list of calls on a map. `lent` has the marks and strips lent to start and an output of any words, `after`
+-- the lists after the calls, and `said` has their answers.
+pub record Claim (plan : Plan) (heights : List ℤ) (lent : Buffers) (calls : List BlockTask) (after : Buffers)
+    (said : List Answer) : Type 0 where
+  -- Each word of a finished block is the result of left over the whole map.
+  pub finished-blocks : (k y x : ℕ) → Finished (doneAfter plan calls) k → y < rowsOf plan k → x < columnsOf plan k
+      → wordAt (after .output) (blockPixelPlace plan k y x)
+      ≡ serialResult plan (mapOf plan heights) 4 (firstRow plan k + y) (firstColumn plan k + x)
+  -- All output words outside finished blocks, those past h×w included, are as they were.
+  pub other-output : (q : ℕ) → OutsideFinished plan (doneAfter plan calls) q
+      → wordAt (after .output) q ≡ wordAt (lent .output) q
+  -- A linked strip, the one that a done link writes, is its matching strip.
+  pub linked-strips : (k pass line place : ℕ) → pass < 4 → doneAfter plan calls (suc pass) k ≡ true
+      → line < plan .side → place < orderOf plan pass
+      → wordAt (after .strips) (stripPlace plan k pass line place)
+      ≡ matchingWord plan (mapOf plan heights) k pass line place
+  -- Each other strip of a collected block is what collect writes: that of the block filtered alone, or 0 where no neighbour
+  -- needs it.
+  pub collected-strips : (k pass line place : ℕ) → pass < 4 → Collected (doneAfter plan calls) k
+      → doneAfter plan calls (suc pass) k ≡ false → line < plan .side → place < orderOf plan pass
+      → wordAt (after .strips) (stripPlace plan k pass line place) ≡ aloneWord plan (mapOf plan heights) k pass line place
+  -- All other needed strip words are 0, as start left them.
+  pub other-strips : (q : ℕ) → q < neededStrips plan → OutsideCollected plan (doneAfter plan calls) q
+      → wordAt (after .strips) q ≡ 0
+  -- Each needed mark has kind 7 and the bits of the tasks that are done.
+  pub marks-are : (k : ℕ) → k < neededMarks plan → wordAt (after .marks) k ≡ markOf (doneAfter plan calls) k
+  -- Strips and marks past the needed length are as lent.
+  pub strips-past : (q : ℕ) → neededStrips plan ≤ q → wordAt (after .strips) q ≡ wordAt (lent .strips) q
+  pub marks-past : (k : ℕ) → neededMarks plan ≤ k → wordAt (after .marks) k ≡ wordAt (lent .marks) k
+  -- No list changes its length.
+  pub marks-length : length (after .marks) ≡ length (lent .marks)
+  pub strips-length : length (after .strips) ≡ length (lent .strips)
+  pub output-length : length (after .output) ≡ length (lent .output)
+  -- Each call is answered by what was done before it: accepted exactly if it makes its task done, else refused by 8, 10 or 11.
+  pub answers-are : said ≡ dueFrom plan nothingDone calls
+  -- So no task is accepted twice: of two accepted calls the second is of another task or at another block,
+  pub accepted-once : (i j : ℕ) → i < j → AcceptedAt said i → AcceptedAt said j → callAt calls i ≢ callAt calls j
+  -- and as many calls are accepted as tasks are done.
+  pub accepted-are-done : acceptedCount said ≡ countAfter plan calls
+  -- The report on the marks is made: it counts the tasks that are done, its tally is the area of each collected block plus that
+  -- of each finished one, and it names the first task that is ready, by number and then by block, or none.
+  pub report-is : report plan (after .marks) ≡ record { answer = accepted; value = valuesOf (progressAfter plan calls) }
+  -- No more tasks are done than there are, 6MN - 2M - 2N.
+  pub never-more : countAfter plan calls ≤ taskCount plan
+  -- Until that many are done the report names a task that is accepted if called next.
+  pub names-next : countAfter plan calls < taskCount plan
+      → let values = report plan (after .marks) .value in
+      (values .ready ≡ 1) × (taskAnswer plan heights after (values .task) (values .block) ≡ accepted)
+  -- With that many done it names none, and the tally is two for each pixel.
+  pub names-none : countAfter plan calls ≡ taskCount plan
+      → report plan (after .marks) .value
+      ≡ record { count = taskCount plan; tally = 2 * neededPixels plan; ready = 0; task = 0; block = 0 }
+  -- With that many done, each output word below h×w is the word that the serial passes give there.
+  pub whole-job : countAfter plan calls ≡ taskCount plan → (q : ℕ) → q < neededPixels plan
+      → wordAt (after .output) q
+      ≡ serialResult plan (mapOf plan heights) 4 (q / plan .columns) (q % plan .columns)
+
+-- Demand 3: for every plan, map, lent marks and strips that start accepts, output of any words, map and output long enough,
+-- the claim holds of every list of calls, whatever their task and block numbers.
+abbrev pub Demand3 : Type 0
+Demand3 =
+    (plan : Plan) (heights : List ℤ) (lent : Buffers) → startAnswer plan (lent .marks) (lent .strips) ≡ accepted
+    → neededPixels plan ≤ length heights → neededPixels plan ≤ length (lent .output) → (calls : List BlockTask)
+    → Claim plan heights lent calls (afterCalls plan heights calls (started plan lent))
+    (answersOf plan heights calls (started plan lent))
+
+-- A call is accepted exactly if it makes its task done, that is, if its task is ready.
+abbrev pub AcceptedIfReady : Type 0
+AcceptedIfReady =
+    (plan : Plan) (done : ℕ → ℕ → Bool) (call : BlockTask)
+    → (dueAnswer plan done call ≡ accepted
+    → ready (blockRows plan) (blockColumns plan) done (call .task) (call .block) ≡ true)
+    × (ready (blockRows plan) (blockColumns plan) done (call .task) (call .block) ≡ true
+    → dueAnswer plan done call ≡ accepted)
+
+-- The area that the tally counts for a block is the number of words that its finish writes.
+abbrev pub AreasAgree : Type 0
+AreasAgree =
+    (plan : Plan) (k : ℕ)
+    → tallyArea (plan .rows) (plan .columns) (plan .side) (blockColumns plan) k ≡ blockArea plan k
+
+-- Start accepts every record that keeps the rules, with marks and strips that are long enough: demand 3 speaks of all of
+-- these.
+abbrev pub StartAccepts : Type 0
+StartAccepts =
+    (plan : Plan) (marks strips : List ℕ) → keepsRules plan ≡ true → neededMarks plan ≤ length marks
+    → neededStrips plan ≤ length strips → startAnswer plan marks strips ≡ accepted
+
+-- Where the record or a length refuses a call, it refuses every call of a list by the same number and place, and nothing changes.
+abbrev pub RefusedThroughout : Type 0
+RefusedThroughout =
+    (plan : Plan) (heights : List ℤ) (now : Buffers) (number place : ℕ)
+    → firstDue (lentRows plan heights now) ≡ refused number place → (calls : List BlockTask)
+    → (afterCalls plan heights calls now ≡ now)
+    × (answersOf plan heights calls now ≡ map (λ call. refused number place) calls)
+
+-- So after an accepted start, with a map or an output of fewer than h×w words, every call of a list is refused by 7 at place 0.
+abbrev pub ShortRefused : Type 0
+ShortRefused =
+    (plan : Plan) (heights : List ℤ) (lent : Buffers) → startAnswer plan (lent .marks) (lent .strips) ≡ accepted
+    → (length heights < neededPixels plan) ⊎ (length (lent .output) < neededPixels plan) → (calls : List BlockTask)
+    → (afterCalls plan heights calls (started plan lent) ≡ started plan lent)
+    × (answersOf plan heights calls (started plan lent) ≡ map (λ call. refused 7 0) calls)

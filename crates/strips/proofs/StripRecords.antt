@@ -1,0 +1,190 @@
+-- What the code reads from a strip is what the definitions read, and it stands in the list. Assumes nothing.
+use mathlib.Core.Path.{_≡_, refl, sym, ap, ap₂, _∙_}
+use mathlib.Core.Bool.{Bool, true, false, _&&_, cond}
+use mathlib.Core.List.{List}
+use mathlib.Core.Option.{Option, none, some}
+use Prim.Native.Nat.{ℕ, _+_, _-_, _*_, _≤_, _<_, min}
+use native.Mathlib.Omega.{arith}
+use lib.Dec.{ltb, leb}
+use borrow.Author.Tests.{ltb-true, leb-true, lt-ltb, le-ltb, le-leb}
+use Rattle.plan.specs.declared.Plan.{Plan}
+use Rattle.plan.specs.Sizes.{neededMarks, neededStrips}
+use Rattle.plan.specs.Lists.{wordAt}
+use Rattle.plan.proofs.Tests.{and-left, and-right}
+use Rattle.passes.specs.Passes.{Axis, columns, rows, Direction, forward, backward, axisOf, directionOf, along, across}
+use Rattle.filter.specs.Windows.{isBackward, ifForward}
+use Rattle.task_words.specs.Geometry.{rowsOf, columnsOf, neighbour, orZero}
+use Rattle.task_words.specs.Strips.{
+  orderOf,
+  stripStart,
+  placeInStrip,
+  stripPlace,
+  placeInside,
+  insideBlock,
+  stripWord,
+  fromEdge,
+  nearestFirst,
+  pastEdges,
+}
+use Rattle.task_words.proofs.Geometry.{neighbour-below, lines-in-side}
+use Rattle.task_words.proofs.Strips.{strip-place-below}
+use Rattle.task_words.proofs.StripReads.{from-edge-below}
+use Rattle.strips.specs.declared.BlockShape.{BlockShape}
+use Rattle.strips.specs.declared.Strip.{Strip}
+use Rattle.strips.specs.declared.Neighbour.{Neighbour}
+use Rattle.strips.specs.declared.Neighbour.the-variants.{Block, Beyond}
+use Rattle.strips.specs.Shapes.{shapeOf, foundNeighbour}
+use Rattle.strips.specs.StripRecord.{
+  firstInside,
+  pastInside,
+  stripWith,
+  stripOf,
+  emptyStrip,
+  stripIn,
+  stripBefore,
+  addressIn,
+  stripRead,
+  StripFits,
+}
+
+same-test : (a b : Bool) → (a ≡ true → b ≡ true) → (b ≡ true → a ≡ true) → a ≡ b
+same-test true b f g = sym (f refl)
+same-test false true f g = g refl
+same-test false false f g = refl
+
+both : (a b : Bool) → a ≡ true → b ≡ true → (a && b) ≡ true
+both a b e f = rw e f
+
+-- ---- the code's values
+
+pub strip-with-is : (d : Direction) (order n start lineStep placeStep lines : ℕ) {inside first : ℕ} {turned : Bool}
+    → inside ≡ min order n → turned ≡ isBackward d → first ≡ ifForward turned (order - inside)
+    → record {
+      start = start;
+      «line_step» = lineStep;
+      «place_step» = placeStep;
+      lines = lines;
+      first = first;
+      past = first + inside;
+    }
+    ≡ stripWith d order n start lineStep placeStep lines
+unfolding stripWith
+strip-with-is forward order n start lineStep placeStep lines e t f =
+    let whole : order - min order n + min order n ≡ order = omega arith in rw (f, t, e, whole)
+strip-with-is backward order n start lineStep placeStep lines e t f =
+    let whole : 0 + min order n ≡ min order n = omega arith in rw (f, t, e, whole)
+
+pub strip-of-is : (plan : Plan) (k pass : ℕ) {shape : BlockShape} {start n lineStep placeStep lines : ℕ} {strip : Strip}
+    → shape ≡ shapeOf plan k → start ≡ stripStart plan k pass → n ≡ along (axisOf pass) (shape .rows) (shape .columns)
+    → lineStep ≡ along (axisOf pass) 1 (orderOf plan pass) → placeStep ≡ along (axisOf pass) (plan .side) 1
+    → lines ≡ across (axisOf pass) (shape .rows) (shape .columns)
+    → strip ≡ stripWith (directionOf pass) (orderOf plan pass) n start lineStep placeStep lines
+    → strip ≡ stripOf plan k pass
+unfolding stripOf shapeOf
+strip-of-is plan k pass shaped starts a b c d e = e ∙ rw (a, b, c, d, shaped, starts)
+
+found-block : (o : Option ℕ) (found : Neighbour) (j : ℕ) → found ≡ foundNeighbour o → found ≡ Block j → o ≡ some j
+found-block none found j e f = cc
+found-block (some i) found j e f = cc
+
+found-none : (o : Option ℕ) (found : Neighbour) → found ≡ foundNeighbour o → found ≡ Beyond → o ≡ none
+found-none none found e f = refl
+found-none (some i) found e f = cc
+
+module _ (plan : Plan) (k pass : ℕ) (found : Neighbour) (is : found ≡ foundNeighbour (neighbour plan k pass)) where
+  pub before-below : (j : ℕ) → found ≡ Block j → k < neededMarks plan → pass < 4 → j < neededMarks plan
+  before-below j e here h = neighbour-below plan k pass j here h (found-block (neighbour plan k pass) found j is e)
+
+  pub before-block : (j : ℕ) (strip : Strip) → found ≡ Block j → strip ≡ stripOf plan j pass
+      → strip ≡ stripBefore plan k pass
+  unfolding stripBefore
+  before-block j strip e f = rw (found-block (neighbour plan k pass) found j is e) f
+
+  pub before-none : found ≡ Beyond → emptyStrip ≡ stripBefore plan k pass
+  unfolding stripBefore
+  before-none e = rw (found-none (neighbour plan k pass) found is e)
+
+-- ---- one strip
+
+inside-test : (d : Direction) (order n place : ℕ) → place < order
+    → (leb (firstInside d order n) place && ltb place (pastInside d order n)) ≡ placeInside d n order place
+inside-test forward order n place h =
+    same-test _ _
+    (λ e. let p = leb-true (order - min order n) place (and-left _ (ltb place order) e) in le-leb order (n + place) (omega arith))
+    (λ e.
+    let p = leb-true order (n + place) e in
+    both _ _ (le-leb (order - min order n) place (omega arith)) (lt-ltb place order h))
+inside-test backward order n place h =
+    same-test _ _
+    (λ e. let p = ltb-true place (min order n) (and-right (leb 0 place) _ e) in lt-ltb place n (omega arith))
+    (λ e.
+    let p = ltb-true place n e in
+    both _ _ (le-leb 0 place (omega arith)) (lt-ltb place (min order n) (omega arith)))
+
+address-in-strip : (a : Axis) (start side order line place : ℕ)
+    → start + line * along a 1 order + place * along a side 1 ≡ start + placeInStrip a side order line place
+address-in-strip columns start side order line place = omega arith
+address-in-strip rows start side order line place = omega arith
+
+module _ (plan : Plan) (k pass line place : ℕ) where
+  address-is : addressIn (stripOf plan k pass) line place ≡ stripPlace plan k pass line place
+  unfolding stripOf stripWith stripPlace
+  address-is = address-in-strip (axisOf pass) (stripStart plan k pass) (plan .side) (orderOf plan pass) line place
+
+  pub strip-read : (strips : List ℕ) → place < orderOf plan pass
+      → stripRead (stripOf plan k pass) strips line place ≡ stripWord plan strips k pass line place
+  unfolding stripRead stripWord insideBlock stripOf stripWith
+  strip-read strips h =
+      ap₂ (λ (test : Bool) word. cond test word 0)
+      (ap (ltb line (across (axisOf pass) (rowsOf plan k) (columnsOf plan k)) &&_)
+      (inside-test (directionOf pass) (orderOf plan pass) (along (axisOf pass) (rowsOf plan k) (columnsOf plan k)) place h))
+      (ap (wordAt strips) address-is)
+
+past-in-order : (d : Direction) (order n : ℕ) → pastInside d order n ≤ order
+past-in-order forward order n = omega arith
+past-in-order backward order n = omega arith
+
+pub strip-fits : (plan : Plan) (k pass n : ℕ) → k < neededMarks plan → pass < 4 → neededStrips plan ≤ n
+    → StripFits n (stripOf plan k pass)
+unfolding stripOf stripWith
+strip-fits plan k pass n here h long =
+    record {
+      inside =
+          λ line place l p.
+          rw (address-is plan k pass line place)
+          (omega (
+            arith,
+            strip-place-below plan k pass line place here h (omega (arith, lines-in-side plan k (axisOf pass)))
+                (omega (arith, past-in-order (directionOf pass) (orderOf plan pass) (along (axisOf pass) (rowsOf plan k) (columnsOf plan k)))),
+          ));
+    }
+
+-- ---- the strip of the block that a pass comes from
+
+empty-read : (strips : List ℕ) (line place : ℕ) → stripRead emptyStrip strips line place ≡ 0
+unfolding stripRead
+empty-read strips line place = rw (le-ltb line 0 (omega arith))
+
+pub before-fits : (plan : Plan) (k pass n : ℕ) → k < neededMarks plan → pass < 4 → neededStrips plan ≤ n
+    → StripFits n (stripBefore plan k pass)
+unfolding stripBefore
+before-fits plan k pass n here h long = by (neighbour plan k pass) (λ j e. neighbour-below plan k pass j here h e)
+  where
+    by : (o : Option ℕ) → ((j : ℕ) → o ≡ some j → j < neededMarks plan) → StripFits n (stripIn plan pass o)
+    by none f = record { inside = λ line place l p. absurd (omega arith) }
+    by (some j) f = strip-fits plan j pass n (f j refl) h long
+
+-- The word at a distance past block k's edge.
+pub past-edges-read : (plan : Plan) (strips : List ℕ) (k pass line distance : ℕ) → distance < orderOf plan pass
+    → stripRead (stripBefore plan k pass) strips line (fromEdge (directionOf pass) (orderOf plan pass) distance)
+    ≡ pastEdges plan strips k pass line distance
+unfolding stripBefore pastEdges nearestFirst
+past-edges-read plan strips k pass line distance h = rw (lt-ltb distance (orderOf plan pass) h) (by (neighbour plan k pass))
+  where
+    place : ℕ
+    place = fromEdge (directionOf pass) (orderOf plan pass) distance
+
+    by : (o : Option ℕ)
+        → stripRead (stripIn plan pass o) strips line place ≡ orZero (λ j. stripWord plan strips j pass line place) o
+    by none = empty-read strips line place
+    by (some j) = strip-read plan j pass line place strips (from-edge-below (directionOf pass) (orderOf plan pass) distance h)

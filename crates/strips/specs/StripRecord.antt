@@ -1,0 +1,68 @@
+-- A strip in code: where its words stand, and which of them are read.
+use mathlib.Core.Bool.{_&&_, cond}
+use mathlib.Core.List.{List}
+use mathlib.Core.Option.{Option, none, some}
+use Prim.Native.Nat.{ℕ, _+_, _-_, _*_, _<_, min}
+use lib.Dec.{ltb, leb}
+use Rattle.plan.specs.declared.Plan.{Plan}
+use Rattle.plan.specs.Lists.{wordAt}
+use Rattle.passes.specs.Passes.{Direction, forward, backward, axisOf, directionOf, along, across}
+use Rattle.task_words.specs.Geometry.{rowsOf, columnsOf, neighbour}
+use Rattle.task_words.specs.Strips.{orderOf, stripStart}
+use Rattle.strips.specs.declared.Strip.{Strip}
+
+-- The first of the places of a strip that lie in a block of n places along the pass,
+abbrev pub firstInside : Direction → (order n : ℕ) → ℕ
+firstInside forward order n = order - min order n
+firstInside backward order n = 0
+
+-- and the place past the last of them.
+abbrev pub pastInside : Direction → (order n : ℕ) → ℕ
+pastInside forward order n = order
+pastInside backward order n = min order n
+
+-- A strip of a block of n places along the pass.
+unfoldable pub stripWith : Direction → (order n start lineStep placeStep lines : ℕ) → Strip
+stripWith d order n start lineStep placeStep lines =
+    record {
+      start = start;
+      «line_step» = lineStep;
+      «place_step» = placeStep;
+      lines = lines;
+      first = firstInside d order n;
+      past = pastInside d order n;
+    }
+
+-- Block k's strip of a pass: rows of b words (down, up), or b rows of `order` words (right, left).
+unfoldable pub stripOf : Plan → ℕ → ℕ → Strip
+stripOf plan k pass =
+    stripWith (directionOf pass) (orderOf plan pass) (along (axisOf pass) (rowsOf plan k) (columnsOf plan k))
+    (stripStart plan k pass) (along (axisOf pass) 1 (orderOf plan pass)) (along (axisOf pass) (plan .side) 1)
+    (across (axisOf pass) (rowsOf plan k) (columnsOf plan k))
+
+-- The strip without lines, which is 0 everywhere.
+abbrev pub emptyStrip : Strip
+emptyStrip = record { start = 0; «line_step» = 0; «place_step» = 0; lines = 0; first = 0; past = 0 }
+
+-- The strip of a pass of a block that may be beyond the map.
+abbrev pub stripIn : Plan → ℕ → Option ℕ → Strip
+stripIn plan pass none = emptyStrip
+stripIn plan pass (some j) = stripOf plan j pass
+
+-- The strip of the block that a pass comes from.
+unfoldable pub stripBefore : Plan → ℕ → ℕ → Strip
+stripBefore plan k pass = stripIn plan pass (neighbour plan k pass)
+
+-- Where the word at a line and a place of a strip stands.
+abbrev pub addressIn : Strip → ℕ → ℕ → ℕ
+addressIn strip line place = strip .start + line * strip .«line_step» + place * strip .«place_step»
+
+-- The word that is read there: 0 outside the block.
+unfoldable pub stripRead : Strip → List ℕ → ℕ → ℕ → ℕ
+stripRead strip strips line place =
+    cond (ltb line (strip .lines) && (leb (strip .first) place && ltb place (strip .past)))
+    (wordAt strips (addressIn strip line place)) 0
+
+-- The words of a strip that lie in the block stand in a list of n words.
+pub record StripFits (n : ℕ) (strip : Strip) : Type 0 where
+  pub inside : (line place : ℕ) → line < strip .lines → place < strip .past → addressIn strip line place < n

@@ -1,0 +1,172 @@
+-- Three jobs of our own, worked by hand by document 01's rules, word by word: the strips once all blocks are collected, the strips
+-- once all links are done, and the output. A last block is short in the first two, and down and right meet in the third.
+use mathlib.Core.List.{List, [], _∷_, _++_, map}
+use Prim.Native.Nat.{ℕ, zero, suc, _-_}
+use lib.IntN.{ℤ, pos}
+use lib.ListN.{length, replicate}
+use Rattle.word.specs.Word.{residue}
+use Rattle.plan.specs.declared.Pass.{Pass}
+use Rattle.plan.specs.declared.Plan.{Plan}
+use Rattle.plan.specs.Rules.{orderLimit}
+use Rattle.plan.specs.Sizes.{neededMarks, neededStrips, neededPixels}
+use Rattle.passes.specs.Examples.{Example, minus}
+use Rattle.task_words.specs.Writes.{mapOf, collected, linked, finished}
+
+-- ---- a job
+
+-- The link of a pass of a block.
+pub record StripLink : Type 0 where
+  pub block : ℕ
+  pub pass : ℕ
+
+-- A plan, heights, all links that there are, in an order that their needs allow, and the words that are to be found: in the
+-- strips after all collects and then after all links, and in the output after all finishes.
+pub record WorkedJob : Type 0 where
+  pub plan : Plan
+  pub heights : List ℤ
+  pub links : List StripLink
+  pub stripsCollected : List ℤ
+  pub stripsLinked : List ℤ
+  pub outputFinished : List ℤ
+
+-- The strips after collect of the first n blocks.
+unfoldable pub afterCollects : Plan → List ℤ → ℕ → List ℕ → List ℕ
+afterCollects plan heights zero strips = strips
+afterCollects plan heights (suc k) strips = collected plan (mapOf plan heights) k (afterCollects plan heights k strips)
+
+-- The strips after links, one after another.
+unfoldable pub afterLinks : Plan → List StripLink → List ℕ → List ℕ
+afterLinks plan [] strips = strips
+afterLinks plan (link ∷ links) strips = afterLinks plan links (linked plan (link .block) (link .pass) strips)
+
+-- The output after finish of the first n blocks.
+unfoldable pub afterFinishes : Plan → List ℤ → List ℕ → ℕ → List ℕ → List ℕ
+afterFinishes plan heights strips zero output = output
+afterFinishes plan heights strips (suc k) output =
+    finished plan (mapOf plan heights) strips k (afterFinishes plan heights strips k output)
+
+-- The strips after the collects, where each word was 7 before: a task writes its strip whole.
+unfoldable pub collectedStrips : WorkedJob → List ℕ
+collectedStrips job =
+    afterCollects (job .plan) (job .heights) (neededMarks (job .plan)) (replicate (neededStrips (job .plan)) 7)
+
+-- The strips after the links.
+unfoldable pub linkedStrips : WorkedJob → List ℕ
+linkedStrips job = afterLinks (job .plan) (job .links) (collectedStrips job)
+
+-- The output after the finishes, where each word was 7 before.
+unfoldable pub finishedOutput : WorkedJob → List ℕ
+finishedOutput job =
+    afterFinishes (job .plan) (job .heights) (linkedStrips job) (neededMarks (job .plan))
+    (replicate (neededPixels (job .plan)) 7)
+
+-- What the definitions compute in a job, beside the words that are to be found.
+unfoldable pub jobExamples : WorkedJob → List Example
+jobExamples job =
+    record { computed = collectedStrips job; expected = map residue (job .stripsCollected) }
+    ∷ record { computed = linkedStrips job; expected = map residue (job .stripsLinked) }
+    ∷ record { computed = finishedOutput job; expected = map residue (job .outputFinished) }
+    ∷ []
+
+-- ---- passes
+
+-- A pass with a gain and the coefficients d1 to dr.
+abbrev pub passOf : ℤ → List ℤ → Pass
+passOf gain coefficients =
+    record {
+      order = length coefficients;
+      gain = gain;
+      coefficients = coefficients ++ replicate (orderLimit - length coefficients) (pos 0);
+    }
+
+-- Order 0, gain 1.
+abbrev pub unchanged : Pass
+unchanged = passOf (pos 1) []
+
+-- Gain 1, d1 = 1, d2 = 2.
+abbrev forth : Pass
+forth = passOf (pos 1) (pos 1 ∷ pos 2 ∷ [])
+
+-- Gain 2, d1 = -1, d2 = 3.
+abbrev back : Pass
+back = passOf (pos 2) (minus 1 ∷ pos 3 ∷ [])
+
+-- Gain 1, d1 = -1.
+abbrev pub runningSum : Pass
+runningSum = passOf (pos 1) (minus 1 ∷ [])
+
+-- ---- the jobs; in the first two each line of words is a strip
+
+-- One column of four rows in two blocks, b = 3: the lower block has one row. Down gives 1, -1, 1, 2 and then up -24, -8, 6, 4.
+abbrev pub columnJob : WorkedJob
+columnJob =
+    record {
+      plan =
+          record { rows = 4; columns = 1; side = 3; passes = forth ∷ back ∷ unchanged ∷ unchanged ∷ [] };
+      heights = pos 1 ∷ pos 0 ∷ pos 2 ∷ pos 1 ∷ [];
+      links = record { block = 0; pass = 0 } ∷ record { block = 1; pass = 1 } ∷ [];
+      stripsCollected =
+          minus 1 ∷ pos 0 ∷ pos 0 ∷ pos 1 ∷ pos 0 ∷ pos 0
+          ∷ pos 0 ∷ pos 0 ∷ pos 0 ∷ pos 0 ∷ pos 0 ∷ pos 0
+          ∷ pos 0 ∷ pos 0 ∷ pos 0 ∷ pos 0 ∷ pos 0 ∷ pos 0
+          ∷ pos 2 ∷ pos 0 ∷ pos 0 ∷ pos 0 ∷ pos 0 ∷ pos 0 ∷ [];
+      stripsLinked =
+          minus 1 ∷ pos 0 ∷ pos 0 ∷ pos 1 ∷ pos 0 ∷ pos 0
+          ∷ pos 0 ∷ pos 0 ∷ pos 0 ∷ pos 0 ∷ pos 0 ∷ pos 0
+          ∷ pos 0 ∷ pos 0 ∷ pos 0 ∷ pos 0 ∷ pos 0 ∷ pos 0
+          ∷ pos 4 ∷ pos 0 ∷ pos 0 ∷ pos 0 ∷ pos 0 ∷ pos 0 ∷ [];
+      outputFinished = minus 24 ∷ minus 8 ∷ pos 6 ∷ pos 4 ∷ [];
+    }
+
+-- Two rows of four columns in two blocks, b = 3: the right block has one column. Right gives 1 -1 1 2 / 0 1 0 1 and then left
+-- -24 -8 6 4 / -8 -2 2 2.
+abbrev pub rowJob : WorkedJob
+rowJob =
+    record {
+      plan =
+          record { rows = 2; columns = 4; side = 3; passes = unchanged ∷ unchanged ∷ forth ∷ back ∷ [] };
+      heights = pos 1 ∷ pos 0 ∷ pos 2 ∷ pos 1 ∷ pos 0 ∷ pos 1 ∷ pos 1 ∷ pos 3 ∷ [];
+      links = record { block = 0; pass = 2 } ∷ record { block = 1; pass = 3 } ∷ [];
+      stripsCollected =
+          minus 1 ∷ pos 1 ∷ pos 1 ∷ pos 0 ∷ pos 0 ∷ pos 0
+          ∷ pos 0 ∷ pos 0 ∷ pos 0 ∷ pos 0 ∷ pos 0 ∷ pos 0
+          ∷ pos 0 ∷ pos 0 ∷ pos 0 ∷ pos 0 ∷ pos 0 ∷ pos 0
+          ∷ pos 2 ∷ pos 0 ∷ pos 6 ∷ pos 0 ∷ pos 0 ∷ pos 0 ∷ [];
+      stripsLinked =
+          minus 1 ∷ pos 1 ∷ pos 1 ∷ pos 0 ∷ pos 0 ∷ pos 0
+          ∷ pos 0 ∷ pos 0 ∷ pos 0 ∷ pos 0 ∷ pos 0 ∷ pos 0
+          ∷ pos 0 ∷ pos 0 ∷ pos 0 ∷ pos 0 ∷ pos 0 ∷ pos 0
+          ∷ pos 4 ∷ pos 0 ∷ pos 2 ∷ pos 0 ∷ pos 0 ∷ pos 0 ∷ [];
+      outputFinished = minus 24 ∷ minus 8 ∷ pos 6 ∷ pos 4 ∷ minus 8 ∷ minus 2 ∷ pos 2 ∷ pos 2 ∷ [];
+    }
+
+-- The summed-area table of 1 2 / 3 4 in four blocks, b = 1: the right link of block 2 takes in the down strip of block 0.
+abbrev pub tableJob : WorkedJob
+tableJob =
+    record {
+      plan =
+          record {
+            rows = 2;
+            columns = 2;
+            side = 1;
+            passes = runningSum ∷ unchanged ∷ runningSum ∷ unchanged ∷ [];
+          };
+      heights = pos 1 ∷ pos 2 ∷ pos 3 ∷ pos 4 ∷ [];
+      links =
+          record { block = 0; pass = 0 }
+          ∷ record { block = 1; pass = 0 }
+          ∷ record { block = 2; pass = 1 }
+          ∷ record { block = 3; pass = 1 }
+          ∷ record { block = 0; pass = 2 }
+          ∷ record { block = 2; pass = 2 }
+          ∷ record { block = 1; pass = 3 }
+          ∷ record { block = 3; pass = 3 }
+          ∷ [];
+      stripsCollected = pos 1 ∷ pos 1 ∷ pos 2 ∷ pos 0 ∷ pos 0 ∷ pos 3 ∷ pos 0 ∷ pos 0 ∷ [];
+      stripsLinked = pos 1 ∷ pos 1 ∷ pos 2 ∷ pos 0 ∷ pos 0 ∷ pos 4 ∷ pos 0 ∷ pos 0 ∷ [];
+      outputFinished = pos 1 ∷ pos 3 ∷ pos 4 ∷ pos 10 ∷ [];
+    }
+
+-- All of them.
+unfoldable pub blocksExamples : List Example
+blocksExamples = jobExamples columnJob ++ (jobExamples rowJob ++ jobExamples tableJob)

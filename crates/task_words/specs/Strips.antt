@@ -1,0 +1,144 @@
+-- Strips: document 01, 'Blocks, marks and strips'. The strip of a pass has a line for each of the b columns (down, up)
+-- or rows (right, left), and in each line as many places as the order. Places stand in map order.
+use mathlib.Core.Bool.{Bool, _&&_, cond}
+use mathlib.Core.List.{List}
+use Prim.Native.Nat.{ℕ, zero, suc, _+_, _-_, _*_, _/_, _%_}
+use lib.Dec.{ltb, leb}
+use Rattle.plan.specs.declared.Plan.{Plan}
+use Rattle.plan.specs.Rules.{passAt}
+use Rattle.plan.specs.Sizes.{orderSum}
+use Rattle.plan.specs.Lists.{wordAt}
+use Rattle.passes.specs.Passes.{
+  Axis,
+  columns,
+  rows,
+  Direction,
+  forward,
+  backward,
+  axisOf,
+  directionOf,
+  along,
+  across,
+  lineOf,
+}
+use Rattle.filter.specs.Written.{written}
+use Rattle.task_words.specs.Geometry.{rowsOf, columnsOf, neighbour, orZero}
+
+-- ---- where a strip lies
+
+-- The order of a pass.
+abbrev pub orderOf : Plan → ℕ → ℕ
+orderOf plan pass = passAt plan pass .order
+
+-- The words of a slot: b×R, R the sum of the four orders.
+abbrev pub slotWords : Plan → ℕ
+slotWords plan = plan .side * orderSum plan 4
+
+-- The first word of the slot of block k: k×b×R.
+abbrev pub slotStart : Plan → ℕ → ℕ
+slotStart plan k = k * slotWords plan
+
+-- The words of the strip of a pass: b×order.
+abbrev pub stripWords : Plan → ℕ → ℕ
+stripWords plan pass = plan .side * orderOf plan pass
+
+-- The first word of block k's strip of a pass: the strips of the passes before it come first in the slot.
+abbrev pub stripStart : Plan → ℕ → ℕ → ℕ
+stripStart plan k pass = slotStart plan k + plan .side * orderSum plan pass
+
+-- The word of a strip at a line and a place: rows of b words (down, up), or b rows of `order` words (right, left).
+abbrev pub placeInStrip : Axis → (side order line place : ℕ) → ℕ
+placeInStrip columns side order line place = place * side + line
+placeInStrip rows side order line place = line * order + place
+
+-- The line that word q of a strip belongs to,
+abbrev pub lineInStrip : Axis → (side order q : ℕ) → ℕ
+lineInStrip columns side order q = q % side
+lineInStrip rows side order q = q / order
+
+-- and its place in that line.
+abbrev pub placeInLine : Axis → (side order q : ℕ) → ℕ
+placeInLine columns side order q = q / side
+placeInLine rows side order q = q % order
+
+-- Where a line and a place of block k's strip of a pass stand in the list of strips.
+unfoldable pub stripPlace : Plan → ℕ → ℕ → ℕ → ℕ → ℕ
+stripPlace plan k pass line place =
+    stripStart plan k pass + placeInStrip (axisOf pass) (plan .side) (orderOf plan pass) line place
+
+-- ---- which pixels a strip stands for
+
+-- Whether a place of the strip of an order lies in a block of n places along the pass: the strip has the block's last
+-- places where the pass runs forward, its first where the pass runs backward.
+abbrev pub placeInside : Direction → (n order place : ℕ) → Bool
+placeInside forward n order place = leb order (n + place)
+placeInside backward n order place = ltb place n
+
+-- The block's index that such a place stands for.
+abbrev pub indexOfPlace : Direction → (n order place : ℕ) → ℕ
+indexOfPlace forward n order place = n + place - order
+indexOfPlace backward n order place = place
+
+-- Whether a line and a place of block k's strip of a pass lie in the block.
+unfoldable pub insideBlock : Plan → ℕ → ℕ → ℕ → ℕ → Bool
+insideBlock plan k pass line place =
+    ltb line (across (axisOf pass) (rowsOf plan k) (columnsOf plan k))
+    && placeInside (directionOf pass) (along (axisOf pass) (rowsOf plan k) (columnsOf plan k)) (orderOf plan pass) place
+
+-- The strip of a pass where block k has the words Z: 0 at places outside the block.
+unfoldable pub edgeWord : Plan → ℕ → ℕ → (ℕ → ℕ → ℕ) → ℕ → ℕ → ℕ
+edgeWord plan k pass Z line place =
+    cond (insideBlock plan k pass line place)
+    (lineOf (axisOf pass) Z line
+    (indexOfPlace (directionOf pass) (along (axisOf pass) (rowsOf plan k) (columnsOf plan k)) (orderOf plan pass)
+    place))
+    0
+
+-- ---- reading a strip
+
+-- The word that is read at a line and a place of block k's strip of a pass: 0 outside the block, whatever stands there.
+-- A strip that no neighbour needs is read by no task.
+unfoldable pub stripWord : Plan → List ℕ → ℕ → ℕ → ℕ → ℕ → ℕ
+stripWord plan strips k pass line place =
+    cond (insideBlock plan k pass line place) (wordAt strips (stripPlace plan k pass line place)) 0
+
+-- The place at a distance from the edge that a pass leaves by, of n places: the last is the nearest where the pass runs
+-- forward, the first where it runs backward.
+abbrev pub fromEdge : Direction → (n distance : ℕ) → ℕ
+fromEdge forward n distance = n - suc distance
+fromEdge backward n distance = distance
+
+-- Places of a strip by their distance from the edge, nearest first, 0 past the order.
+unfoldable pub nearestFirst : Plan → ℕ → (ℕ → ℕ → ℕ) → ℕ → ℕ → ℕ
+nearestFirst plan pass words line distance =
+    cond (ltb distance (orderOf plan pass))
+    (words line (fromEdge (directionOf pass) (orderOf plan pass) distance))
+    0
+
+-- What stands past block k's edges for each pass: the strip of the neighbour that the pass comes from, nearest first; 0
+-- where the map ends.
+unfoldable pub pastEdges : Plan → List ℕ → ℕ → ℕ → ℕ → ℕ → ℕ
+pastEdges plan strips k pass line distance =
+    orZero (λ j. nearestFirst plan pass (stripWord plan strips j pass) line distance) (neighbour plan k pass)
+
+-- ---- writing a strip
+
+-- The strips after the first n words of block k's strip of a pass have been replaced, in the order of their addresses;
+-- `words` gives the word for a line and a place.
+unfoldable pub stripWrittenTo : Plan → ℕ → ℕ → (ℕ → ℕ → ℕ) → ℕ → List ℕ → List ℕ
+stripWrittenTo plan k pass words n strips =
+    written (λ q. stripStart plan k pass + q)
+    (λ q.
+    words (lineInStrip (axisOf pass) (plan .side) (orderOf plan pass) q)
+    (placeInLine (axisOf pass) (plan .side) (orderOf plan pass) q))
+    n strips
+
+-- The strips with block k's strip of a pass replaced whole.
+abbrev pub stripWritten : Plan → ℕ → ℕ → (ℕ → ℕ → ℕ) → List ℕ → List ℕ
+stripWritten plan k pass words strips = stripWrittenTo plan k pass words (stripWords plan pass) strips
+
+-- The strips with the first n strips of block k's slot replaced; `words` gives the words of each pass's strip.
+unfoldable pub slotWritten : Plan → ℕ → (ℕ → ℕ → ℕ → ℕ) → ℕ → List ℕ → List ℕ
+slotWritten plan k words zero strips = strips
+slotWritten plan k words (suc pass) strips =
+    stripWritten plan k pass (words pass) (slotWritten plan k words pass strips)
