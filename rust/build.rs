@@ -13,5 +13,4 @@ fn main() {
     let folder = folder.canonicalize().expect("the folder of the archive can be named");
     println!("cargo:rustc-link-search=native={}", folder.display());
     println!("cargo:rustc-link-lib=static=mulzhegat");
-    println!("cargo:rustc-env=MULZHEGAT_LINKED_DIR={}", folder.display());
 }

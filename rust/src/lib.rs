@@ -1,27 +1,18 @@
 //! Safe calls into `libmulzhegat.a`, a verified library that runs recursive filters over height maps block by block.
 //!
 //! - [`plan`]: plan words to a plan record and back, and the buffer lengths that a plan needs.
-//! - [`serial`] (feature `serial`): the four passes over a whole map, and the sum over a rectangle of a summed-area table.
-//! - [`job`] (feature `job`): start a job, perform its tasks in any order that respects their needs, report progress.
+//! - [`serial`]: the four passes over a whole map, and the sum over a rectangle of a summed-area table.
+//! - [`job`]: start a job, perform its tasks in any order that respects their needs, report progress.
 //!
 //! Slices go in and `Result<_, Refusal>` comes out. A refused call leaves every lent slice as it was; words past the needed
 //! length are never altered. `include/mulzhegat.h` has the same calls for C. What it asks of pointers (not null, aligned for
 //! their type, no two overlapping) holds here by borrowing: what a call writes is borrowed mutably.
-//!
-//! Two modules do not call the library and serve its tests: [`reference`](mod@reference) is a second serial program, and
-//! [`model`] a slow model of all calls. Both are written from the paper that defines the calls, not from the library.
 
-pub mod model;
-pub mod plan;
-pub mod random;
-pub mod reference;
-mod refusal;
-mod types;
-
-#[cfg(feature = "job")]
 pub mod job;
-#[cfg(feature = "serial")]
+pub mod plan;
+mod refusal;
 pub mod serial;
+mod types;
 
 pub use refusal::Refusal;
 pub use types::{Pass, Plan, Progress, Sizes, Task, DOWN, LEFT, MAX_ORDER, RIGHT, UP};

@@ -2,7 +2,7 @@
 //!
 //! It takes records that keep the rules of [`Plan`]; it does not check them.
 
-use crate::{Pass, Plan, DOWN, LEFT, RIGHT, UP};
+use mulzhegat::{Pass, Plan, DOWN, LEFT, RIGHT, UP};
 
 /// One output: the gain times the input, less each coefficient times the output that many steps back. `earlier` gives the
 /// output `steps` back, or none outside the map, where it counts as 0.

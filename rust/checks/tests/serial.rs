@@ -1,11 +1,11 @@
 //! The serial passes and the rectangle sum: the examples of the paper, and the library against the second program.
 
-mod common;
-
-use common::{all_orders, broken_record, Lent};
-use mulzhegat::random::{self, Random};
+use checks::lent::Lent;
+use checks::random::{self, Random};
+use checks::records::{all_orders, broken_record};
+use checks::{model, reference};
 use mulzhegat::serial::{self, Rectangle};
-use mulzhegat::{model, reference, Pass, Plan, Refusal, DOWN, LEFT, RIGHT, UP};
+use mulzhegat::{Pass, Plan, Refusal, DOWN, LEFT, RIGHT, UP};
 
 fn run(plan: &Plan, map: &[i32]) -> Vec<u64> {
     let mut output = vec![0x5555; map.len()];

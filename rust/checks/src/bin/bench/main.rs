@@ -7,12 +7,11 @@
 
 mod baseline;
 mod chart;
-#[cfg(feature = "job")]
 mod tasks;
 
 use chart::Group;
-use mulzhegat::random::Random;
-use mulzhegat::{serial, Plan};
+use checks::random::Random;
+use mulzhegat::{serial, Plan, Task};
 use std::time::{Duration, Instant};
 
 /// What the command line asks for.
@@ -114,14 +113,13 @@ fn milliseconds(time: Duration) -> f64 {
 }
 
 /// The rows of the table of task kinds.
-#[cfg(feature = "job")]
 fn kind_rows(label: &str, side: usize, job: &tasks::BlockJob, best: &[Duration; 6]) -> Vec<String> {
-    let each = mulzhegat::Task::ALL.map(|task| best[task.number()].as_secs_f64() * 1e6 / job.count(task).max(1) as f64);
-    let row = |task: mulzhegat::Task| {
+    let each = Task::ALL.map(|task| best[task.number()].as_secs_f64() * 1e6 / job.count(task).max(1) as f64);
+    let row = |task: Task| {
         let (count, time) = (job.count(task), each[task.number()]);
         format!("| {label} | {side} | {} {task:?} | {count} | {time:.2} | {:.3} |", task.number(), time / each[5])
     };
-    mulzhegat::Task::ALL.map(row).to_vec()
+    Task::ALL.map(row).to_vec()
 }
 
 /// Measures one plan on one map: the rows of the tables, and the bars.
@@ -134,7 +132,6 @@ fn measure_plan(
 ) -> (Vec<String>, Vec<String>, Group) {
     let size = plan.rows as usize;
     let filters = baseline::filters(plan);
-    #[cfg(feature = "job")]
     let jobs = [32, 8].map(|side| {
         let job = tasks::BlockJob::new(&Plan { side, ..*plan });
         (side as usize, std::cell::RefCell::new(job), std::cell::Cell::new([Duration::MAX; 6]))
@@ -144,7 +141,6 @@ fn measure_plan(
         Way::new("strong Rust", |map, output| baseline::strong(map, output, size, size, &filters)),
         Way::new("library serial", |map, output| serial::run(plan, map, output).expect("serial is accepted")),
     ];
-    #[cfg(feature = "job")]
     for (side, job, best) in &jobs {
         ways.push(Way::new(format!("job, side {side}, natural"), move |map, output| {
             let times = job.borrow_mut().run_natural(map, output);
@@ -171,10 +167,7 @@ fn measure_plan(
     }
     bars.remove(0);
     drop(ways);
-    #[cfg(feature = "job")]
     let kinds = jobs.iter().flat_map(|(side, job, best)| kind_rows(label, *side, &job.borrow(), &best.get())).collect();
-    #[cfg(not(feature = "job"))]
-    let kinds = Vec::new();
     (rows, kinds, Group { title: label.to_string(), bars })
 }
 
@@ -197,10 +190,8 @@ fn main() {
             groups.push(group);
         }
     }
-    if !kinds.is_empty() {
-        println!("\n| map | side | task | number | best \u{b5}s each | of a finish |\n|---|--:|---|--:|--:|--:|");
-        println!("{}", kinds.join("\n"));
-    }
+    println!("\n| map | side | task | number | best \u{b5}s each | of a finish |\n|---|--:|---|--:|--:|--:|");
+    println!("{}", kinds.join("\n"));
     if let Some(file) = options.svg {
         let drawing =
             chart::draw("Time as a multiple of the plain Rust program (1 = as fast; shorter is faster)", &groups);

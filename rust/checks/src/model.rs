@@ -4,7 +4,7 @@
 //! the passes over one block with words standing around it ([`Job::filter`]), strip places from one formula
 //! ([`Job::strip_place`]); nothing else knows the layout.
 
-use crate::{Pass, Plan, Progress, Refusal, Sizes, DOWN, MAX_ORDER, RIGHT, UP};
+use mulzhegat::{Pass, Plan, Progress, Refusal, Sizes, DOWN, MAX_ORDER, RIGHT, UP};
 
 /// Whether a number fits in signed 28 bits.
 fn fits_28_bits(number: i64) -> bool {
@@ -504,7 +504,7 @@ impl<'a> Job<'a> {
 #[cfg(test)]
 mod tests {
     use super::*;
-    use crate::LEFT;
+    use mulzhegat::LEFT;
 
     /// All tasks of a job in the order in which the report names them.
     fn whole_job(plan: &Plan, map: &[i32]) -> (Vec<u32>, Vec<u64>, Vec<u64>) {

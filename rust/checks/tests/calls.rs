@@ -2,12 +2,12 @@
 //! prints what is left of the job. The model of the calls says what that is; `crates/calls_run/src/main.rt` says what is
 //! read.
 
-use mulzhegat::model::{self, Job};
-use mulzhegat::random::{self, Random};
+use checks::model::{self, Job};
+use checks::random::{self, Random};
 use mulzhegat::{Plan, Refusal};
 use std::env;
 use std::io::Write;
-use std::path::{Path, PathBuf};
+use std::path::PathBuf;
 use std::process::{Command, Stdio};
 
 /// What stands in the program's output buffer before the first call.
@@ -17,9 +17,9 @@ const MOST_PIXELS: usize = 256;
 /// The most calls that the program takes.
 const MOST_CALLS: usize = 2048;
 
-/// The program: `../target/bin/calls_run`, or the file named by `MULZHEGAT_CALLS_RUN`.
+/// The program: `target/bin/calls_run`, or the file named by `MULZHEGAT_CALLS_RUN`.
 fn program() -> PathBuf {
-    let built = || Path::new(env!("CARGO_MANIFEST_DIR")).join("../target/bin/calls_run");
+    let built = || checks::repository().join("target/bin/calls_run");
     let program = env::var_os("MULZHEGAT_CALLS_RUN").map_or_else(built, PathBuf::from);
     assert!(program.exists(), "{} is missing: make it with `rt check calls_run`", program.display());
     program

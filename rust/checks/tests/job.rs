@@ -1,11 +1,11 @@
 //! Start, tasks and report: the examples of the paper, and the library against the model of the calls.
 
-mod common;
-
-use common::{all_orders, broken_record, Lent};
-use mulzhegat::model::{self, Job, NOTHING_DONE};
-use mulzhegat::random::{self, Random};
-use mulzhegat::{job, plan, reference, Pass, Plan, Progress, Refusal, DOWN, LEFT, RIGHT, UP};
+use checks::lent::Lent;
+use checks::model::{self, Job, NOTHING_DONE};
+use checks::random::{self, Random};
+use checks::records::{all_orders, broken_record};
+use checks::reference;
+use mulzhegat::{job, plan, Pass, Plan, Progress, Refusal, DOWN, LEFT, RIGHT, UP};
 
 /// The three buffers that calls may write, with the words around them.
 #[derive(Clone, PartialEq)]

@@ -1,11 +1,14 @@
 //! The C header and the C example: compiled with all warnings as errors, run, and run under valgrind.
 
+use checks::repository;
+use std::env;
 use std::path::{Path, PathBuf};
 use std::process::{Command, Output};
 
-/// The root of the repository.
-fn root() -> PathBuf {
-    Path::new(env!("CARGO_MANIFEST_DIR")).join("..")
+/// The archive that the crate `mulzhegat` links: see its `build.rs`.
+fn archive() -> PathBuf {
+    let folder = env::var_os("MULZHEGAT_LIB_DIR");
+    folder.map_or_else(|| repository().join("target/staticlib"), PathBuf::from).join("libmulzhegat.a")
 }
 
 /// A path of this test's own in cargo's folder for temporary files.
@@ -23,15 +26,14 @@ fn run(command: &mut Command) -> Output {
 fn compiler(name: &str, standard: &str) -> Command {
     let mut command = Command::new(name);
     command.arg(format!("-std={standard}")).args(["-O2", "-Wall", "-Wextra", "-Werror", "-pedantic", "-I"]);
-    command.arg(root().join("include"));
+    command.arg(repository().join("include"));
     command
 }
 
 /// Builds the example by the line at its top.
 fn example(name: &str) -> PathBuf {
     let program = scratch(name);
-    let archive = Path::new(env!("MULZHEGAT_LINKED_DIR")).join("libmulzhegat.a");
-    run(compiler("gcc", "c99").arg(root().join("examples/c/total.c")).arg("-o").arg(&program).arg(archive));
+    run(compiler("gcc", "c99").arg(repository().join("examples/c/total.c")).arg("-o").arg(&program).arg(archive()));
     program
 }
 
@@ -60,14 +62,14 @@ fn c_and_cpp_take_the_header_without_warnings() {
 
 #[test]
 fn the_c_example_prints_what_is_expected() {
-    let expected = std::fs::read_to_string(root().join("examples/c/expected.txt")).unwrap();
+    let expected = std::fs::read_to_string(repository().join("examples/c/expected.txt")).unwrap();
     let output = run(&mut Command::new(example("total")));
     assert_eq!(String::from_utf8(output.stdout).unwrap(), expected);
 }
 
 #[test]
 fn the_c_example_runs_clean_under_valgrind() {
-    let expected = std::fs::read_to_string(root().join("examples/c/expected.txt")).unwrap();
+    let expected = std::fs::read_to_string(repository().join("examples/c/expected.txt")).unwrap();
     let valgrind = ["--quiet", "--error-exitcode=9", "--leak-check=full"];
     let output = run(Command::new("valgrind").args(valgrind).arg(example("total_for_valgrind")));
     assert_eq!(String::from_utf8(output.stdout).unwrap(), expected);

@@ -1,14 +1,14 @@
 //! Plan words and plan records: the examples of the paper, and the library against the model.
 
-mod common;
-
-use common::{all_orders, damages, fields, plan_of, Lent};
-use mulzhegat::random::{self, Random};
-use mulzhegat::{model, plan, Pass, Plan, Refusal, Sizes, DOWN, UP};
+use checks::lent::Lent;
+use checks::model;
+use checks::random::{self, Random};
+use checks::records::{all_orders, broken_record, damages, fields, plan_of, RECORD_WORDS};
+use mulzhegat::{plan, Pass, Plan, Refusal, Sizes, DOWN, UP};
 
 /// Words that are not zero, so that a record left unwritten shows.
 fn unwritten_plan() -> Plan {
-    plan_of(&[-77; 27])
+    plan_of(&[-77; RECORD_WORDS])
 }
 
 fn unwritten_sizes() -> Sizes {
@@ -307,7 +307,7 @@ fn records_damaged_field_by_field() {
         assert_eq!(plan_of(&words), valid);
         for field in 0..words.len() {
             for damage in damages(words[field]) {
-                let mut words = words.clone();
+                let mut words = words;
                 words[field] = damage;
                 let record = plan_of(&words);
                 use_and_compare(&record, &mut random, &mut calls);
@@ -321,7 +321,7 @@ fn records_damaged_field_by_field() {
 #[test]
 fn negative_and_huge_fields_are_refused_6_at_0() {
     let valid = Plan::plain(7, 7, 4).with(DOWN, 1, &[1, 2, 3, 4]).with(UP, 2, &[5]);
-    for field in 0..27 {
+    for field in 0..RECORD_WORDS {
         for damage in [i64::MIN, i64::MIN / 2, -(1 << 40), 1 << 40, 1 << 62, i64::MAX] {
             let mut words = fields(&valid);
             words[field] = damage;
@@ -356,7 +356,7 @@ fn short_word_buffers_are_refused_7_and_words_past_the_plan_are_kept() {
                 assert_eq!(answer, Err(Refusal::ShortBuffer));
             }
             assert_eq!(lent, expected);
-            let broken = common::broken_record(&mut random, &record);
+            let broken = broken_record(&mut random, &record);
             assert_eq!(plan::write(&broken, lent.get_mut()), Err(Refusal::BrokenRecord));
             assert_eq!(lent, expected);
         }

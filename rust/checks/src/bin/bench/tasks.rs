@@ -1,6 +1,6 @@
 //! Whole block jobs by the library, in natural and in shuffled order.
 
-use mulzhegat::random::Random;
+use checks::random::Random;
 use mulzhegat::{job, plan, Plan, Task};
 use std::time::{Duration, Instant};
 

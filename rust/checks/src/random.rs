@@ -1,6 +1,6 @@
 //! Random numbers, plans and maps for tests and benchmarks, the same for one seed on every machine.
 
-use crate::{Pass, Plan, MAX_ORDER};
+use mulzhegat::{Pass, Plan, MAX_ORDER};
 use std::{io::Write, sync::Once};
 
 /// The seed of a default run.

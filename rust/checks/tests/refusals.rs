@@ -1,7 +1,8 @@
 //! Every refusal number of the library, each with its place.
 
-use mulzhegat::serial::Rectangle;
-use mulzhegat::{job, model, plan, serial, Plan, Refusal, DOWN};
+use checks::model;
+use mulzhegat::serial::{self, Rectangle};
+use mulzhegat::{job, plan, Plan, Refusal, DOWN};
 use std::collections::BTreeMap;
 
 #[test]
