@@ -17,7 +17,7 @@ extern "C" {
 ///     0x5FFFFFFF, 0x30000030, 0x40000001, 0x60000000,
 /// ];
 /// assert_eq!(plan::read(&words), Ok(Plan::summed(2, 3, 2)));
-/// assert_eq!(plan::read(&words[..4]), Err(Refusal::WordsEnd(4)));
+/// assert_eq!(plan::read(&words[..4]), Err(Refusal::WordsEndEarly(4)));
 /// ```
 pub fn read(words: &[u32]) -> Result<Plan, Refusal> {
     let mut plan = Plan::default();

@@ -2,13 +2,14 @@
 
 use std::fmt;
 
-/// Why a call was refused.
+/// Why a call was refused. The cases have the names of the verified library's own, and of the constants in `mulzhegat.h`:
+/// there [`Refusal::WordsEndEarly`] is `MZG_WORDS_END_EARLY`.
 #[derive(Clone, Copy, Debug, PartialEq, Eq)]
 pub enum Refusal {
     /// 1: plan words end too early; the number of words.
-    WordsEnd(u32),
+    WordsEndEarly(u32),
     /// 2: another kind is due at this word.
-    OtherKindDue(u32),
+    AnotherKindDue(u32),
     /// 3: payload or order out of range, or wrong pass, at this word.
     OutOfRange(u32),
     /// 4, at place 1: the block side is below an order.
@@ -16,19 +17,19 @@ pub enum Refusal {
     /// 5: words after the end word; the first of them.
     WordsAfterEnd(u32),
     /// 6: the plan record breaks a rule.
-    BrokenRecord,
+    RecordBreaksRule,
     /// 7: a lent buffer is too short.
-    ShortBuffer,
+    BufferTooShort,
     /// 8: no such block or task there.
     NoSuchTask,
     /// 9: a mark looked at has a wrong kind or a spare bit; the least such block.
-    ForeignMark(u32),
+    MarkBroken(u32),
     /// 10: the task is already marked.
     AlreadyMarked,
     /// 11: a need is unmarked.
     NeedUnmarked,
     /// 12: the rectangle is empty or leaves the map.
-    BadRectangle,
+    RectangleOutside,
     /// An answer with a number, or a place beside its number, that no call gives.
     Unknown(u64),
 }
@@ -39,18 +40,18 @@ impl Refusal {
         let place = answer as u32;
         Err(match (answer >> 32, place) {
             (0, 0) => return Ok(()),
-            (1, _) => Refusal::WordsEnd(place),
-            (2, _) => Refusal::OtherKindDue(place),
+            (1, _) => Refusal::WordsEndEarly(place),
+            (2, _) => Refusal::AnotherKindDue(place),
             (3, _) => Refusal::OutOfRange(place),
             (4, 1) => Refusal::SideBelowOrder,
             (5, _) => Refusal::WordsAfterEnd(place),
-            (6, 0) => Refusal::BrokenRecord,
-            (7, 0) => Refusal::ShortBuffer,
+            (6, 0) => Refusal::RecordBreaksRule,
+            (7, 0) => Refusal::BufferTooShort,
             (8, 0) => Refusal::NoSuchTask,
-            (9, _) => Refusal::ForeignMark(place),
+            (9, _) => Refusal::MarkBroken(place),
             (10, 0) => Refusal::AlreadyMarked,
             (11, 0) => Refusal::NeedUnmarked,
-            (12, 0) => Refusal::BadRectangle,
+            (12, 0) => Refusal::RectangleOutside,
             _ => Refusal::Unknown(answer),
         })
     }
@@ -58,18 +59,18 @@ impl Refusal {
     /// The number of the cause, 1 to 12.
     pub fn number(self) -> u32 {
         match self {
-            Refusal::WordsEnd(_) => 1,
-            Refusal::OtherKindDue(_) => 2,
+            Refusal::WordsEndEarly(_) => 1,
+            Refusal::AnotherKindDue(_) => 2,
             Refusal::OutOfRange(_) => 3,
             Refusal::SideBelowOrder => 4,
             Refusal::WordsAfterEnd(_) => 5,
-            Refusal::BrokenRecord => 6,
-            Refusal::ShortBuffer => 7,
+            Refusal::RecordBreaksRule => 6,
+            Refusal::BufferTooShort => 7,
             Refusal::NoSuchTask => 8,
-            Refusal::ForeignMark(_) => 9,
+            Refusal::MarkBroken(_) => 9,
             Refusal::AlreadyMarked => 10,
             Refusal::NeedUnmarked => 11,
-            Refusal::BadRectangle => 12,
+            Refusal::RectangleOutside => 12,
             Refusal::Unknown(answer) => (answer >> 32) as u32,
         }
     }
@@ -77,11 +78,11 @@ impl Refusal {
     /// The place beside the number.
     pub fn place(self) -> u32 {
         match self {
-            Refusal::WordsEnd(place)
-            | Refusal::OtherKindDue(place)
+            Refusal::WordsEndEarly(place)
+            | Refusal::AnotherKindDue(place)
             | Refusal::OutOfRange(place)
             | Refusal::WordsAfterEnd(place)
-            | Refusal::ForeignMark(place) => place,
+            | Refusal::MarkBroken(place) => place,
             Refusal::SideBelowOrder => 1,
             Refusal::Unknown(answer) => answer as u32,
             _ => 0,

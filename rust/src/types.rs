@@ -1,6 +1,6 @@
 //! The records that calls take and answer, laid out as in `include/mulzhegat.h`.
 
-/// The largest order of a pass.
+/// The largest order of a pass, `MZG_ORDER_LIMIT` in `mulzhegat.h`.
 pub const MAX_ORDER: usize = 4;
 
 /// The place of the down pass in [`Plan::passes`].
@@ -36,7 +36,7 @@ impl Pass {
     }
 }
 
-/// A plan record: 27 words of 64 bits.
+/// A plan record: 3 + 4 * (2 + [`MAX_ORDER`]) = 27 words of 64 bits.
 #[repr(C)]
 #[derive(Clone, Copy, Debug, Default, PartialEq, Eq)]
 pub struct Plan {

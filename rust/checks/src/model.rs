@@ -34,9 +34,9 @@ impl Words<'_> {
     /// The payload of the next word, which is to have a kind and a payload in range.
     fn take(&mut self, kind: u32, in_range: impl Fn(u32) -> bool) -> Result<u32, Refusal> {
         let place = self.place as u32;
-        let Some(&word) = self.words.get(self.place) else { return Err(Refusal::WordsEnd(place)) };
+        let Some(&word) = self.words.get(self.place) else { return Err(Refusal::WordsEndEarly(place)) };
         if word >> 28 != kind {
-            return Err(Refusal::OtherKindDue(place));
+            return Err(Refusal::AnotherKindDue(place));
         }
         let payload = word % (1 << 28);
         if !in_range(payload) {
@@ -95,7 +95,7 @@ pub fn words_of(plan: &Plan) -> Vec<u32> {
 pub fn write(plan: &Plan, words: &mut [u32]) -> Result<(), Refusal> {
     Job::of(plan)?;
     let written = words_of(plan);
-    words.get_mut(..written.len()).ok_or(Refusal::ShortBuffer)?.copy_from_slice(&written);
+    words.get_mut(..written.len()).ok_or(Refusal::BufferTooShort)?.copy_from_slice(&written);
     Ok(())
 }
 
@@ -197,7 +197,7 @@ pub fn rectangle(plan: &Plan, rectangle: [usize; 4], table: &[u64]) -> Result<u6
     let job = Job::of(plan)?;
     job.check_lengths(&[(table.len(), job.pixels())])?;
     if top >= bottom || left >= right || bottom > job.rows || right > job.columns {
-        return Err(Refusal::BadRectangle);
+        return Err(Refusal::RectangleOutside);
     }
     // The table at the row and the column before, each counted from 1; 0 for row or column -1.
     let before = |row: usize, column: usize| match (row, column) {
@@ -258,7 +258,7 @@ impl<'a> Job<'a> {
     /// The job of a plan, or refusal 6.
     pub fn of(plan: &'a Plan) -> Result<Job<'a>, Refusal> {
         if !keeps_rules(plan) {
-            return Err(Refusal::BrokenRecord);
+            return Err(Refusal::RecordBreaksRule);
         }
         let (rows, columns, side) = (plan.rows as usize, plan.columns as usize, plan.side as usize);
         let (block_rows, block_columns) = (rows.div_ceil(side), columns.div_ceil(side));
@@ -291,7 +291,7 @@ impl<'a> Job<'a> {
     fn check_lengths(&self, lent_and_needed: &[(usize, usize)]) -> Result<(), Refusal> {
         match lent_and_needed.iter().all(|(lent, needed)| lent >= needed) {
             true => Ok(()),
-            false => Err(Refusal::ShortBuffer),
+            false => Err(Refusal::BufferTooShort),
         }
     }
 
@@ -351,13 +351,13 @@ impl<'a> Job<'a> {
 
     /// Refusal 9 with the least of the looked-at blocks whose mark has a wrong kind or a spare bit.
     fn check_marks(&self, marks: &[u32], looked_at: impl Iterator<Item = usize>) -> Result<(), Refusal> {
-        let is_foreign = |&number: &usize| {
+        let is_broken = |&number: &usize| {
             let (mark, block) = (marks[number], self.block(number));
             let has_spare_bit = (0..28).any(|bit| is_marked(mark, bit) && !self.has_task(&block, bit));
             mark >> 28 != 7 || has_spare_bit
         };
-        match looked_at.filter(is_foreign).min() {
-            Some(number) => Err(Refusal::ForeignMark(number as u32)),
+        match looked_at.filter(is_broken).min() {
+            Some(number) => Err(Refusal::MarkBroken(number as u32)),
             None => Ok(()),
         }
     }
@@ -532,7 +532,7 @@ mod tests {
         assert_eq!(strips, [0, 0, 3, 12, 0, 0, 0, 0]);
         assert_eq!(rectangle(&plan, [0, 1, 2, 3], &output), Ok(16));
         assert_eq!(rectangle(&plan, [1, 0, 2, 1], &output), Ok(4));
-        assert_eq!(rectangle(&plan, [0, 0, 0, 3], &output), Err(Refusal::BadRectangle));
+        assert_eq!(rectangle(&plan, [0, 0, 0, 3], &output), Err(Refusal::RectangleOutside));
     }
 
     #[test]

@@ -596,8 +596,8 @@ fn report_of_random_marks() {
 }
 
 #[test]
-fn foreign_marks_are_refused_9_with_the_least_block_looked_at() {
-    let mut random = random::of_test("foreign_marks_are_refused_9_with_the_least_block_looked_at");
+fn broken_marks_are_refused_9_with_the_least_block_looked_at() {
+    let mut random = random::of_test("broken_marks_are_refused_9_with_the_least_block_looked_at");
     let (mut refused, mut not_looked_at) = (0, 0);
     for _ in 0..5_000 * random::rounds() {
         let side = random.between(1, 4);
@@ -610,7 +610,7 @@ fn foreign_marks_are_refused_9_with_the_least_block_looked_at() {
                 | tasks_of(&trial.job, block) & if random.once_in(3) { random.word() as u32 } else { 0x3F };
             set_mark(&mut trial, block, mark);
         }
-        let mut foreign = Vec::new();
+        let mut broken = Vec::new();
         for _ in 0..random.between(1, 3) {
             let block = random.below(trial.job.marks());
             let right = NOTHING_DONE | tasks_of(&trial.job, block);
@@ -620,14 +620,14 @@ fn foreign_marks_are_refused_9_with_the_least_block_looked_at() {
                 _ => right | random.pick(&spare),
             };
             set_mark(&mut trial, block, mark);
-            foreign.push(block);
+            broken.push(block);
         }
-        let least = *foreign.iter().min().unwrap();
-        assert_eq!(report_and_compare(&plan, trial.library.marks.get()), Err(Refusal::ForeignMark(least as u32)));
+        let least = *broken.iter().min().unwrap();
+        assert_eq!(report_and_compare(&plan, trial.library.marks.get()), Err(Refusal::MarkBroken(least as u32)));
         for _ in 0..6 {
             let (task, block) = (random.below(6), random.below(trial.job.marks()));
             match trial.perform(task, block) {
-                Err(Refusal::ForeignMark(_)) => refused += 1,
+                Err(Refusal::MarkBroken(_)) => refused += 1,
                 Ok(()) => not_looked_at += 1,
                 Err(_) => (),
             }
@@ -638,7 +638,7 @@ fn foreign_marks_are_refused_9_with_the_least_block_looked_at() {
 }
 
 #[test]
-fn every_spare_bit_and_kind_is_foreign() {
+fn every_spare_bit_and_kind_breaks_a_mark() {
     // Four blocks in a square and three in a line: every bit of every mark, seen by the report and by the block's tasks.
     for plan in [Plan::summed(4, 4, 2), Plan::summed(1, 6, 2), Plan::summed(6, 1, 2), Plan::summed(2, 2, 2)] {
         let job = Job::of(&plan).unwrap();
@@ -648,12 +648,12 @@ fn every_spare_bit_and_kind_is_foreign() {
                 marks[block] = mark;
                 let right = mark >> 28 == 7 && mark & 0xFFFFFFF & !tasks_of(&job, block) == 0;
                 let answer = report_and_compare(&plan, &marks).map(|_| ());
-                assert_eq!(answer, if right { Ok(()) } else { Err(Refusal::ForeignMark(block as u32)) });
+                assert_eq!(answer, if right { Ok(()) } else { Err(Refusal::MarkBroken(block as u32)) });
                 let (mut strips, mut output) = (vec![0; job.strips()], vec![0; job.pixels()]);
                 let map = vec![1; job.pixels()];
                 let answer = job::perform(&plan, 0, block, &map, &mut marks, &mut strips, &mut output);
                 let expected = match (right, mark & 1) {
-                    (false, _) => Err(Refusal::ForeignMark(block as u32)),
+                    (false, _) => Err(Refusal::MarkBroken(block as u32)),
                     (true, 1) => Err(Refusal::AlreadyMarked),
                     (true, _) => Ok(()),
                 };
@@ -704,21 +704,21 @@ fn short_buffers_of_every_kind_are_refused_7() {
                     job::perform(plan, task, block, map.get(), marks.get_mut(), strips.get_mut(), output.get_mut())
                 };
                 let answer = perform(&broken, &mut lent);
-                check(&lent, answer, Refusal::BrokenRecord);
+                check(&lent, answer, Refusal::RecordBreaksRule);
                 if (0..4).any(is_short) {
                     let answer = perform(&plan, &mut lent);
-                    check(&lent, answer, Refusal::ShortBuffer);
+                    check(&lent, answer, Refusal::BufferTooShort);
                 }
             }
             let answer = job::start(&broken, lent.marks.get_mut(), lent.strips.get_mut());
-            check(&lent, answer, Refusal::BrokenRecord);
+            check(&lent, answer, Refusal::RecordBreaksRule);
             if is_short(1) || is_short(2) {
                 let answer = job::start(&plan, lent.marks.get_mut(), lent.strips.get_mut());
-                check(&lent, answer, Refusal::ShortBuffer);
+                check(&lent, answer, Refusal::BufferTooShort);
             }
-            assert_eq!(report_and_compare(&broken, lent.marks.get()), Err(Refusal::BrokenRecord));
+            assert_eq!(report_and_compare(&broken, lent.marks.get()), Err(Refusal::RecordBreaksRule));
             if is_short(1) {
-                assert_eq!(report_and_compare(&plan, lent.marks.get()), Err(Refusal::ShortBuffer));
+                assert_eq!(report_and_compare(&plan, lent.marks.get()), Err(Refusal::BufferTooShort));
             } else {
                 report_and_compare(&plan, lent.marks.get()).expect("the marks are enough");
             }
@@ -743,30 +743,30 @@ fn the_least_refusal_number_comes_first() {
     let plan = Plan::summed(6, 6, 2);
     let mut trial = Trial::new(&plan, &mut random);
     trial.start();
-    // Block 4 is in the middle; its task 0 is marked, and above, left, right and below are foreign.
+    // Block 4 is in the middle; its task 0 is marked, and the marks above, left, right and below are broken.
     for block in [1, 3, 5, 7] {
         set_mark(&mut trial, block, 0);
     }
     set_mark(&mut trial, 4, NOTHING_DONE | 0x3F);
     assert_eq!(trial.perform(6, 4), Err(Refusal::NoSuchTask));
     assert_eq!(trial.perform(0, 4), Err(Refusal::AlreadyMarked));
-    for (task, foreign) in [(1, 1), (2, 1), (3, 1), (4, 1), (5, 1)] {
-        assert_eq!(trial.perform(task, 4), Err(Refusal::ForeignMark(foreign)));
+    for (task, block) in [(1, 1), (2, 1), (3, 1), (4, 1), (5, 1)] {
+        assert_eq!(trial.perform(task, 4), Err(Refusal::MarkBroken(block)));
     }
     // With the one above put right, the next one looked at is named: below for up, left for right, left and finish.
     set_mark(&mut trial, 1, NOTHING_DONE);
     for (task, answer) in [
         (1, Refusal::AlreadyMarked),
-        (2, Refusal::ForeignMark(7)),
-        (3, Refusal::ForeignMark(3)),
-        (4, Refusal::ForeignMark(3)),
-        (5, Refusal::ForeignMark(3)),
+        (2, Refusal::MarkBroken(7)),
+        (3, Refusal::MarkBroken(3)),
+        (4, Refusal::MarkBroken(3)),
+        (5, Refusal::MarkBroken(3)),
     ] {
         assert_eq!(trial.perform(task, 4), Err(answer));
     }
     set_mark(&mut trial, 3, NOTHING_DONE);
-    for (task, foreign) in [(2, 7), (3, 7), (4, 5), (5, 5)] {
-        assert_eq!(trial.perform(task, 4), Err(Refusal::ForeignMark(foreign)));
+    for (task, block) in [(2, 7), (3, 7), (4, 5), (5, 5)] {
+        assert_eq!(trial.perform(task, 4), Err(Refusal::MarkBroken(block)));
     }
     // All right, and the needs unmarked: marked tasks are refused 10, the others 11.
     set_mark(&mut trial, 5, NOTHING_DONE);
@@ -782,6 +782,6 @@ fn the_least_refusal_number_comes_first() {
     set_mark(&mut trial, 0, 0);
     assert_eq!(trial.perform(2, 0), Err(Refusal::NoSuchTask));
     assert_eq!(trial.perform(4, 0), Err(Refusal::NoSuchTask));
-    assert_eq!(trial.perform(1, 0), Err(Refusal::ForeignMark(0)));
+    assert_eq!(trial.perform(1, 0), Err(Refusal::MarkBroken(0)));
     trial.compare();
 }

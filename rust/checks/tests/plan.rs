@@ -135,12 +135,12 @@ fn the_first_cause_from_left_to_right_refuses() {
         words
     };
     // At one word the kind comes before the payload.
-    assert_eq!(read(&changed(&[(1, 0x30000000)])), Refusal::OtherKindDue(1));
-    assert_eq!(read(&changed(&[(0, 0x0FFFFFFF)])), Refusal::OtherKindDue(0));
+    assert_eq!(read(&changed(&[(1, 0x30000000)])), Refusal::AnotherKindDue(1));
+    assert_eq!(read(&changed(&[(0, 0x0FFFFFFF)])), Refusal::AnotherKindDue(0));
     // An early payload comes before a later kind, and before the end of the words.
     assert_eq!(read(&changed(&[(1, 0x20000000), (2, 0)])), Refusal::OutOfRange(1));
     assert_eq!(read(&changed(&[(1, 0x20000021)])[..2]), Refusal::OutOfRange(1));
-    assert_eq!(read(&valid[..valid.len() - 1]), Refusal::WordsEnd(11));
+    assert_eq!(read(&valid[..valid.len() - 1]), Refusal::WordsEndEarly(11));
     // Words after the end come after 1, 2 and 3, and before 4.
     let too_high = model::words_of(&Plan { side: 4, ..Plan::plain(4, 4, 4).with(DOWN, 1, &[1, 1]) });
     let mut below = too_high.clone();
@@ -151,7 +151,7 @@ fn the_first_cause_from_left_to_right_refuses() {
     below[12] = 0x60000001;
     assert_eq!(read(&below), Refusal::OutOfRange(12));
     below[12] = 0x70000000;
-    assert_eq!(read(&below), Refusal::OtherKindDue(12));
+    assert_eq!(read(&below), Refusal::AnotherKindDue(12));
 }
 
 #[test]
@@ -335,7 +335,7 @@ fn negative_and_huge_fields_are_refused_6_at_0() {
     }
     let coefficient_past_order =
         Plan { passes: [Pass { coefficients: [0, 0, 0, 1], ..Pass::new(1, &[]) }; 4], ..valid };
-    assert_eq!(plan::sizes(&coefficient_past_order), Err(Refusal::BrokenRecord));
+    assert_eq!(plan::sizes(&coefficient_past_order), Err(Refusal::RecordBreaksRule));
 }
 
 #[test]
@@ -353,11 +353,11 @@ fn short_word_buffers_are_refused_7_and_words_past_the_plan_are_kept() {
                 expected.get_mut()[..words.len()].copy_from_slice(&words);
                 assert_eq!(answer, Ok(()));
             } else {
-                assert_eq!(answer, Err(Refusal::ShortBuffer));
+                assert_eq!(answer, Err(Refusal::BufferTooShort));
             }
             assert_eq!(lent, expected);
             let broken = broken_record(&mut random, &record);
-            assert_eq!(plan::write(&broken, lent.get_mut()), Err(Refusal::BrokenRecord));
+            assert_eq!(plan::write(&broken, lent.get_mut()), Err(Refusal::RecordBreaksRule));
             assert_eq!(lent, expected);
         }
     }

@@ -142,10 +142,10 @@ fn short_buffers_are_refused_7_and_broken_records_6_before() {
         {
             let (map, before) = (map.shortened(map_length), output.shortened(output_length));
             let mut lent = before.clone();
-            assert_eq!(serial::run(&broken, map.get(), lent.get_mut()), Err(Refusal::BrokenRecord), "{broken:?}");
+            assert_eq!(serial::run(&broken, map.get(), lent.get_mut()), Err(Refusal::RecordBreaksRule), "{broken:?}");
             assert!(lent == before);
             if map_length < pixels || output_length < pixels {
-                assert_eq!(serial::run(&plan, map.get(), lent.get_mut()), Err(Refusal::ShortBuffer), "{plan:?}");
+                assert_eq!(serial::run(&plan, map.get(), lent.get_mut()), Err(Refusal::BufferTooShort), "{plan:?}");
                 assert!(lent == before);
             }
         }
@@ -214,7 +214,7 @@ fn rectangles_with_huge_numbers_are_refused_12() {
         for place in 0..4 {
             let mut corners = [1, 2, 3, 4];
             corners[place] = number;
-            assert_eq!(sum_and_compare(&plan, corners, &table), Err(Refusal::BadRectangle));
+            assert_eq!(sum_and_compare(&plan, corners, &table), Err(Refusal::RectangleOutside));
         }
         for _ in 0..200 {
             let corners = [0; 4].map(|_| if random.once_in(2) { random.pick(&huge) } else { random.below(5) });
@@ -234,13 +234,13 @@ fn rectangle_refuses_6_then_7_then_12() {
         let (good, bad) = ([0, 0, plan.rows as usize, plan.columns as usize], [1, 0, 1, 1]);
         for corners in [good, bad] {
             for length in [0, pixels - 1, pixels] {
-                assert_eq!(sum_and_compare(&broken, corners, &table[..length]), Err(Refusal::BrokenRecord));
+                assert_eq!(sum_and_compare(&broken, corners, &table[..length]), Err(Refusal::RecordBreaksRule));
             }
             for length in [0, pixels - 1] {
-                assert_eq!(sum_and_compare(&plan, corners, &table[..length]), Err(Refusal::ShortBuffer));
+                assert_eq!(sum_and_compare(&plan, corners, &table[..length]), Err(Refusal::BufferTooShort));
             }
         }
-        assert_eq!(sum_and_compare(&plan, bad, &table), Err(Refusal::BadRectangle));
+        assert_eq!(sum_and_compare(&plan, bad, &table), Err(Refusal::RectangleOutside));
         assert_eq!(sum_and_compare(&plan, good, &table), Ok(table[pixels - 1]));
     }
 }
