@@ -1,49 +1,35 @@
 /* mulzhegat.h: block-wise recursive filters and summed-area tables for height maps.
  *
  * A map has rows x columns heights, row after row. Four passes run over it, one after the other: down, up, right, left.
- * Each has a gain g, an order r from 0 to 4 and coefficients d1 to dr, and subtracts its own earlier outputs:
+ * Each has a gain g, an order r from 0 to MZG_ORDER_LIMIT and coefficients d1 to dr; feedback is subtracted:
  *
  *     y[i] = g * x[i] - d1 * y[i-1] - ... - dr * y[i-r]
  *
  * where i counts along the pass: from the bottom row for up, from the last column for left.
  *
- * Outputs outside the map count as 0, and all words are taken modulo 2^64. The passes run over the whole map in one call
- * (mzg_serial), or block by block in any order that respects the needs of the tasks (mzg_start, mzg_task, mzg_report).
+ * Outputs outside the map count as 0, and all words are taken modulo 2^64. The passes run over the whole map in one
+ * call (mzg_serial), or block by block in any order that respects the tasks' needs (mzg_start, mzg_task, mzg_report).
  *
- * Answers. Every function answers 0 where the call is accepted, else number * 2^32 + place:
+ * Answers. Every function answers 0 where the call is accepted, else number * 2^32 + place: the cause, by the numbers
+ * in the enum below, and where it is. MZG_NUMBER and MZG_PLACE take an answer apart. Words, blocks, rows and columns
+ * count from 0.
  *
- *     answer >> 32          number   cause                                                     answer & 0xFFFFFFFF
- *                              1     plan words end too early                                number of words
- *                              2     another kind of word is due here                        place of the word
- *                              3     payload or order out of range, or wrong pass            place of the word
- *                              4     the block side is below an order                        1
- *                              5     words after the end word                                place of the first
- *                              6     the plan record breaks a rule (see mzg_plan)            0
- *                              7     a lent buffer is too short                              0
- *                              8     no such block, or the block has no such task            0
- *                              9     a mark looked at has a wrong kind or a spare bit        the least such block
- *                             10     the task is already marked                              0
- *                             11     a need of the task is not marked yet                    0
- *                             12     top >= bottom, left >= right, bottom > rows
- *                                    or right > columns                                      0
+ * Where several causes hold, a plan reader's call is refused by the first of 1, 2, 3 from left to right (2 before 3 at
+ * one word), then 5, then 4; every other call by the least number.
  *
- * Words, blocks, rows and columns count from 0.
+ * Buffers. A buffer is lent as a pointer and its length in words; words past the needed length are never altered. A
+ * refused call leaves every lent buffer as it was. What a call answers beside its number (plan, sizes, progress, sum)
+ * is written whole on every call: all zeros beside a refusal.
  *
- * Where several causes hold, a plan reader's call is refused by the first of 1, 2, 3 from left to right (2 before 3 at one
- * word), then 5, then 4; every other call by the least number.
+ * Pointers are not tested. None may be null, each must be aligned for its type, and no two of a call may overlap, the
+ * plan record and what is answered (plan, sizes, progress, sum) among them. Where no strip word is needed (all orders
+ * 0), lend the address of any 64-bit word with length 0.
  *
- * Buffers. A buffer is lent as a pointer and its length in words; words past the needed length are never altered. A refused
- * call leaves every lent buffer as it was. What a call answers beside its number (plan, sizes, progress, sum) is written
- * whole on every call: all zeros beside a refusal.
- *
- * Pointers are not tested. None may be null, each must be aligned for its type, and no two of a call may overlap, the plan
- * record and what is answered (plan, sizes, progress, sum) among them. Where no strip word is needed (all orders 0), lend
- * the address of any 64-bit word with length 0.
- *
- * The functions keep no state between calls. Calls that share no buffer that one of them writes may run at the same time; two
- * mzg_task calls of one job must not. A job may be broken off between any two calls: keep plan, map, marks, strips and output.
- * Of a job that is taken up again only the kind and the spare bits of its marks are tested, not that its buffers belong together:
- * put a checksum over what you save. mzg_task takes about 20 KiB of stack, every other call less than 4 KiB.
+ * The functions keep no state between calls. Calls that share no buffer that one of them writes may run at the same
+ * time; two mzg_task calls of one job must not. A job may be broken off between any two calls: keep plan, map, marks,
+ * strips and output. Of a job that is taken up again only the kind and the spare bits of its marks are tested, not that
+ * its buffers belong together: put a checksum over what you save. mzg_task takes about 20 KiB of stack, every other
+ * call less than 4 KiB.
  */
 #ifndef MULZHEGAT_H
 #define MULZHEGAT_H
@@ -55,22 +41,46 @@
 extern "C" {
 #endif
 
-/* A plan record: 27 words of 64 bits, in this order. The rules:
+/* The numbers of answers. The place beside a number is 0 where its line names none. */
+enum {
+    MZG_ACCEPTED = 0,
+    MZG_WORDS_END_EARLY = 1,    /* plan words end too early; place: the number of words */
+    MZG_ANOTHER_KIND_DUE = 2,   /* another kind of word is due here; place: the word */
+    MZG_OUT_OF_RANGE = 3,       /* payload or order out of range, or wrong pass; place: the word */
+    MZG_SIDE_BELOW_ORDER = 4,   /* the block side is below an order; place: 1 */
+    MZG_WORDS_AFTER_END = 5,    /* words after the end word; place: the first of them */
+    MZG_RECORD_BREAKS_RULE = 6, /* the plan record breaks a rule (see mzg_plan) */
+    MZG_BUFFER_TOO_SHORT = 7,   /* a lent buffer is too short */
+    MZG_NO_SUCH_TASK = 8,       /* no such block, or the block has no such task */
+    MZG_MARK_BROKEN = 9,        /* a mark looked at has a wrong kind or a spare bit; place: the least such block */
+    MZG_ALREADY_MARKED = 10,    /* the task is already marked */
+    MZG_NEED_UNMARKED = 11,     /* a need of the task is not marked yet */
+    MZG_RECTANGLE_OUTSIDE = 12  /* top >= bottom, left >= right, bottom > rows or right > columns */
+};
+
+/* The number and the place of an answer. */
+#define MZG_NUMBER(answer) ((answer) >> 32)
+#define MZG_PLACE(answer) ((answer) & 0xFFFFFFFF)
+
+/* The largest order of a pass. */
+#define MZG_ORDER_LIMIT 4
+
+/* A plan record: 3 + 4 * (2 + MZG_ORDER_LIMIT) = 27 words of 64 bits, in this order. The rules:
  *   rows, columns            1 to 4,096
  *   side                     1 to 32, at least the largest order; the block side b
  *   passes                   down, up, right, left
- *   order                    0 to 4; order 0 is multiplication by the gain
+ *   order                    0 to MZG_ORDER_LIMIT; order 0 is multiplication by the gain
  *   gain, coefficients       -134217728 to 134217727 (signed 28 bits)
- *   coefficients             d1 to d4; the places past the order are 0
+ *   coefficients             d1 to dr, r the order; the places past them are 0
  * A summed-area table has order 1, gain 1, coefficient -1 for down and right, and order 0, gain 1 for up and left. */
 typedef struct {
     int64_t rows, columns, side;
-    struct { int64_t order, gain, coefficients[4]; } passes[4];
+    struct { int64_t order, gain, coefficients[MZG_ORDER_LIMIT]; } passes[4];
 } mzg_plan;
 
 /* The lengths that a plan needs. */
 typedef struct {
-    uint64_t words;          /* plan words that mzg_plan_write writes, 11 to 27 */
+    uint64_t words;          /* plan words that mzg_plan_write writes: 11 + sum of the four orders */
     uint64_t block_rows;     /* M: rows / side, rounded up */
     uint64_t block_columns;  /* N: columns / side, rounded up */
     uint64_t marks;          /* M * N */
@@ -83,11 +93,12 @@ typedef struct {
 typedef struct {
     uint64_t marked;         /* tasks done */
     uint64_t tally;          /* pixels collected plus pixels finished */
-    uint64_t ready;          /* 1 if task and block name a ready task; 0 if none is: of an accepted call, all tasks are done */
+    uint64_t ready;          /* 1 if task and block name a ready task; 0 beside an accepted call: all tasks are done */
     uint64_t task, block;    /* the ready task with the least number, then the least block; 0 and 0 if none */
 } mzg_progress;
 
-/* Reads a plan from words, of which it has 11 to 27; any number may be lent. The top four bits of a word are its kind, the low 28 its payload:
+/* Reads a plan from its words. A plan has 11 to 11 + 4 * MZG_ORDER_LIMIT = 27 of them; any number may be lent. The top
+ * four bits of a word are its kind, the low 28 its payload:
  *   1 size          rows in bits 13 to 25, columns in bits 0 to 12
  *   2 block         the block side
  *   3 pass          order in bits 0 to 3, pass in bits 4 and 5 (0 down, 1 up, 2 right, 3 left)
@@ -104,13 +115,13 @@ uint64_t mzg_plan_write(const mzg_plan *plan, uint32_t *words, size_t words_len)
 /* Gives the lengths that the plan needs. Refused: 6; the sizes are then all zeros. */
 uint64_t mzg_plan_sizes(const mzg_plan *plan, mzg_sizes *sizes);
 
-/* Starts a job: the needed marks become 0x70000000 (kind 7, nothing done) and the needed strip words 0. A mark has its kind, 7,
- * in the top four bits and bit t set once task t is done; bits 6 to 27, and the bits of tasks that the block does not have,
- * are spare and 0. Needs sizes.marks marks and sizes.strips strip words. Refused: 6, 7. */
+/* Starts a job: the needed marks become 0x70000000 (kind 7, nothing done) and the needed strip words 0. A mark has its
+ * kind, 7, in the top four bits and bit t set once task t is done; bits 6 to 27, and the bits of tasks that the block
+ * does not have, are spare and 0. Needs sizes.marks marks and sizes.strips strip words. Refused: 6, 7. */
 uint64_t mzg_start(const mzg_plan *plan, uint32_t *marks, size_t marks_len, uint64_t *strips, size_t strips_len);
 
-/* Performs one task on one block. Block (m, n), with m < M and n < N, starts at row m * side and column n * side; the last row
- * and the last column of blocks may be narrower. Blocks are numbered row by row: block = m * N + n. The tasks:
+/* Performs one task on one block. Block (m, n), with m < M and n < N, starts at row m * side and column n * side; the
+ * last row and the last column of blocks may be narrower. Blocks are numbered row by row: block = m * N + n. The tasks:
  *
  *     task           exists       needs done before
  *     0 collect      always       nothing
@@ -120,12 +131,13 @@ uint64_t mzg_start(const mzg_plan *plan, uint32_t *marks, size_t marks_len, uint
  *     4 left link    n > 0        own 0; 1 of above, 2 of below, 3 of left, 4 of right
  *     5 finish       always       own 0; 1 of above, 2 of below, 3 of left, 4 of right
  *
- * A need on a neighbour beyond the map falls away. Collect and the links write in the block's slot of the strips (its part of
- * side * (sum of the four orders) words; no caller needs its layout), finish writes the block's output words; an accepted task
- * also sets bit `task` of the block's mark, and nothing else changes. When all tasks are done, the output is that of
- * mzg_serial; it need not be set before. Lend the same map to every call of a job. Calls may come in any order: one that comes
- * too early is refused by 11 and may be repeated. An order without any 11: the tasks 0 to 5 one after another, each over the
- * blocks by their number, 2 and 4 from the last block to the first (links that a block does not have are refused by 8).
+ * A need on a neighbour beyond the map falls away. Collect and the links write in the block's slot of the strips (its
+ * part of side * (sum of the four orders) words; no caller needs its layout), finish writes the block's output words;
+ * an accepted task also sets bit `task` of the block's mark, and nothing else changes. When all tasks are done, the
+ * output is that of mzg_serial; it need not be set before. Lend the same map to every call of a job. Calls may come in
+ * any order: one that comes too early is refused by 11 and may be repeated. An order without any 11: the tasks 0 to 5
+ * one after another, each over the blocks by their number, 2 and 4 from the last block to the first (links that a block
+ * does not have are refused by 8).
  * Needs, for every task: sizes.pixels map and output words, sizes.marks marks, sizes.strips strip words.
  * Refused: 6, 7, 8, 9 (the marks of the block and of the neighbours in its needs are looked at), 10, 11. */
 uint64_t mzg_task(const mzg_plan *plan, size_t task, size_t block, const int32_t *map, size_t map_len,
@@ -140,10 +152,10 @@ uint64_t mzg_report(const mzg_plan *plan, const uint32_t *marks, size_t marks_le
 /* Runs the four passes over the whole map. Needs sizes.pixels map and output words. Refused: 6, 7. */
 uint64_t mzg_serial(const mzg_plan *plan, const int32_t *map, size_t map_len, uint64_t *output, size_t output_len);
 
-/* Gives the sum over rows top to bottom - 1 and columns left to right - 1 from a finished summed-area table, modulo 2^64:
- * S(bottom-1, right-1) - S(top-1, right-1) - S(bottom-1, left-1) + S(top-1, left-1), a row or column of -1 counting as 0.
- * Heights have 32 bits and a map no more than 2^24 of them, so that the sum of a summed-area table, read as int64_t, is exact.
- * The record, the length and the rectangle are tested, not that the table is a summed-area table.
+/* Gives the sum over rows top to bottom - 1 and columns left to right - 1 from a finished summed-area table S, modulo
+ * 2^64: S(bottom-1, right-1) - S(top-1, right-1) - S(bottom-1, left-1) + S(top-1, left-1), a row or column of -1
+ * counting as 0. Heights have 32 bits and a map no more than 2^24 of them, so that the sum of a summed-area table, read
+ * as int64_t, is exact. The record, the length and the rectangle are tested, not that the table is a summed-area table.
  * Needs sizes.pixels table words. Refused: 6, 7, 12; the sum is then 0. */
 uint64_t mzg_rectangle(const mzg_plan *plan, size_t top, size_t left, size_t bottom, size_t right,
                        const uint64_t *table, size_t table_len, uint64_t *sum);

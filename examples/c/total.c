@@ -2,8 +2,8 @@
  *
  * Build and run, from the root of the repository, with target/staticlib/libmulzhegat.a there:
  *
- *     gcc -std=c99 -O2 -Wall -Wextra -Werror -Iinclude examples/c/total.c -o target/total target/staticlib/libmulzhegat.a
- *     target/total
+ *   gcc -std=c99 -O2 -Wall -Wextra -Werror -Iinclude examples/c/total.c -o target/total target/staticlib/libmulzhegat.a
+ *   target/total
  *
  * Its output is examples/c/expected.txt. */
 #include <inttypes.h>
@@ -31,13 +31,11 @@ static const int32_t map[5 * 7] = {
      2, -7,  9,  5,  0,  2, -8
 };
 
-enum { REFUSED_NO_SUCH_TASK = 8, REFUSED_NEED_UNMARKED = 11 };
-
 /* Ends the program where a call that should be accepted is refused. */
 static void accept(const char *call, uint64_t answer)
 {
-    if (answer != 0) {
-        fprintf(stderr, "%s: refused %" PRIu64 " at %" PRIu64 "\n", call, answer >> 32, answer & 0xFFFFFFFF);
+    if (answer != MZG_ACCEPTED) {
+        fprintf(stderr, "%s: refused %" PRIu64 " at %" PRIu64 "\n", call, MZG_NUMBER(answer), MZG_PLACE(answer));
         exit(1);
     }
 }
@@ -94,8 +92,8 @@ int main(void)
         pairs[i] = i;
     shuffle(pairs, waiting);
 
-    /* Round after round over the pairs that are left: refused 11 means try again in the next round, refused 8 that the
-     * block has no such task. The report names none once all tasks are done. */
+    /* Round after round over the pairs that are left: a task whose need is unmarked is tried again in the next round,
+     * one that the block does not have is dropped. The report names none once all tasks are done. */
     unsigned rounds = 0, early = 0;
     mzg_progress progress;
     accept("report", mzg_report(&plan, marks, (size_t)sizes.marks, &progress));
@@ -105,10 +103,14 @@ int main(void)
             uint64_t answer = mzg_task(&plan, pairs[i] % 6, pairs[i] / 6, map, sizeof map / sizeof map[0],
                                        marks, (size_t)sizes.marks, strips, (size_t)sizes.strips,
                                        output, (size_t)sizes.pixels);
-            if (answer >> 32 == REFUSED_NEED_UNMARKED) {
+            switch (MZG_NUMBER(answer)) {
+            case MZG_NEED_UNMARKED:
                 pairs[left++] = pairs[i];
                 early++;
-            } else if (answer >> 32 != REFUSED_NO_SUCH_TASK) {
+                break;
+            case MZG_NO_SUCH_TASK:
+                break;
+            default:
                 accept("task", answer);
             }
         }
@@ -131,7 +133,7 @@ int main(void)
 
     /* A refused call says why: this rectangle has no rows. */
     uint64_t answer = mzg_rectangle(&plan, 2, 2, 2, 6, output, (size_t)sizes.pixels, &total);
-    printf("an empty rectangle: refused %" PRIu64 " at %" PRIu64 "\n", answer >> 32, answer & 0xFFFFFFFF);
+    printf("an empty rectangle: refused %" PRIu64 " at %" PRIu64 "\n", MZG_NUMBER(answer), MZG_PLACE(answer));
 
     free(pairs);
     free(output);

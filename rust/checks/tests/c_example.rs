@@ -39,21 +39,13 @@ fn example(name: &str) -> PathBuf {
 
 #[test]
 fn c_and_cpp_take_the_header_without_warnings() {
-    // The record layouts that the library and this crate count on.
-    let text = "#include \"mulzhegat.h\"\n\
-        typedef char plan_is_27_words[sizeof(mzg_plan) == 27 * 8 ? 1 : -1];\n\
-        typedef char passes_follow_the_side[offsetof(mzg_plan, passes) == 3 * 8 ? 1 : -1];\n\
-        typedef char pass_is_6_words[sizeof(((mzg_plan *)0)->passes[0]) == 6 * 8 ? 1 : -1];\n\
-        typedef char sizes_are_7_words[sizeof(mzg_sizes) == 7 * 8 ? 1 : -1];\n\
-        typedef char tasks_are_the_last_size[offsetof(mzg_sizes, tasks) == 6 * 8 ? 1 : -1];\n\
-        typedef char progress_is_5_words[sizeof(mzg_progress) == 5 * 8 ? 1 : -1];\n\
-        typedef char ready_is_word_2[offsetof(mzg_progress, ready) == 2 * 8 ? 1 : -1];\n";
-    for (name, standard, extension) in
-        [("gcc", "c99", "c"), ("gcc", "c11", "c"), ("g++", "c++11", "cpp"), ("g++", "c++17", "cpp")]
+    // header.c has the record layouts that the library and the crate count on.
+    let source = repository().join("rust/checks/tests/header.c");
+    let max_order = format!("-DMAX_ORDER={}", mulzhegat::MAX_ORDER);
+    for (name, language, standard) in
+        [("gcc", "c", "c99"), ("gcc", "c", "c11"), ("g++", "c++", "c++11"), ("g++", "c++", "c++17")]
     {
-        let source = scratch(&format!("header_{standard}.{extension}"));
-        std::fs::write(&source, text).unwrap();
-        run(compiler(name, standard).arg("-fsyntax-only").arg(&source));
+        run(compiler(name, standard).arg("-fsyntax-only").arg(&max_order).args(["-x", language]).arg(&source));
     }
     assert_eq!(size_of::<mulzhegat::Plan>(), 27 * 8);
     assert_eq!(size_of::<mulzhegat::Sizes>(), 7 * 8);

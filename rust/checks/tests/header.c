@@ -1,0 +1,30 @@
+/* What the library and the Rust crate count on in mulzhegat.h. The test in c_example.rs has C and C++ compilers take
+ * this file, with Rust's MAX_ORDER defined. */
+#include "mulzhegat.h"
+
+/* Does not compile where the claim is false. */
+#define CLAIM(name, claim) typedef char name[(claim) ? 1 : -1]
+
+CLAIM(order_limit_is_that_of_rust, MZG_ORDER_LIMIT == MAX_ORDER);
+CLAIM(plan_is_27_words, sizeof(mzg_plan) == 27 * 8);
+CLAIM(passes_follow_the_side, offsetof(mzg_plan, passes) == 3 * 8);
+CLAIM(pass_is_6_words, sizeof(((mzg_plan *)0)->passes[0]) == 6 * 8);
+CLAIM(sizes_are_7_words, sizeof(mzg_sizes) == 7 * 8);
+CLAIM(tasks_are_the_last_size, offsetof(mzg_sizes, tasks) == 6 * 8);
+CLAIM(progress_is_5_words, sizeof(mzg_progress) == 5 * 8);
+CLAIM(ready_is_word_2, offsetof(mzg_progress, ready) == 2 * 8);
+
+/* Answers are compared with the constants, and taken apart, without a cast. */
+uint64_t block_of_a_broken_mark(uint64_t answer);
+
+uint64_t block_of_a_broken_mark(uint64_t answer)
+{
+    if (answer == MZG_ACCEPTED || MZG_NUMBER(answer) < MZG_MARK_BROKEN)
+        return 0;
+    switch (MZG_NUMBER(answer)) {
+    case MZG_MARK_BROKEN:
+        return MZG_PLACE(answer);
+    default:
+        return 0;
+    }
+}
