@@ -1,11 +1,9 @@
-/* What the library and the Rust crate count on in mulzhegat.h. The test in c_example.rs has C and C++ compilers take
- * this file, with Rust's MAX_ORDER defined. */
+/* What the library and the Rust crate count on in mulzhegat.h. c_example.rs has C and C++ compilers take this file. */
 #include "mulzhegat.h"
 
 /* Does not compile where the claim is false. */
 #define CLAIM(name, claim) typedef char name[(claim) ? 1 : -1]
 
-CLAIM(order_limit_is_that_of_rust, MZG_ORDER_LIMIT == MAX_ORDER);
 CLAIM(plan_is_27_words, sizeof(mzg_plan) == 27 * 8);
 CLAIM(passes_follow_the_side, offsetof(mzg_plan, passes) == 3 * 8);
 CLAIM(pass_is_6_words, sizeof(((mzg_plan *)0)->passes[0]) == 6 * 8);
