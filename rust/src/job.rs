@@ -29,8 +29,8 @@ pub fn start(plan: &Plan, marks: &mut [u32], strips: &mut [u64]) -> Result<(), R
 
 /// Performs one task on one block.
 ///
-/// A small job can perform what the report names, as here. The report looks at all marks, so a large one goes through the
-/// tasks in an order of its own (`mulzhegat.h` names one that is never refused for a need).
+/// A small job can perform what the report names, as here. The report looks at all marks, so a large one goes through
+/// the tasks in an order of its own (`mulzhegat.h` names one that is never refused for a need).
 ///
 /// ```
 /// use mulzhegat::{job, plan, Plan};
@@ -54,8 +54,8 @@ pub fn perform(
     strips: &mut [u64],
     output: &mut [u64],
 ) -> Result<(), Refusal> {
-    // SAFETY: the record and the map are readable and the other slices are writable, each for its length; these three are
-    // borrowed mutably and overlap nothing.
+    // SAFETY: the record and the map are readable and the other slices are writable, each for its length; these three
+    // are borrowed mutably and overlap nothing.
     Refusal::check(unsafe {
         mzg_task(
             plan,

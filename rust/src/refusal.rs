@@ -2,8 +2,8 @@
 
 use std::fmt;
 
-/// Why a call was refused. The cases have the names of the verified library's own, and of the constants in `mulzhegat.h`:
-/// there [`Refusal::WordsEndEarly`] is `MZG_WORDS_END_EARLY`.
+/// Why a call was refused. The cases have the names of the verified library's own, and of the constants in
+/// `mulzhegat.h`: there [`Refusal::WordsEndEarly`] is `MZG_WORDS_END_EARLY`.
 #[derive(Clone, Copy, Debug, PartialEq, Eq)]
 pub enum Refusal {
     /// 1: plan words end too early; the number of words.

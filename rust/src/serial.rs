@@ -60,7 +60,7 @@ pub fn rectangle(plan: &Plan, rectangle: Rectangle, table: &[u64]) -> Result<u64
 /// Gives the sum over a rectangle in a word, which is 0 beside a refusal.
 pub fn rectangle_into(plan: &Plan, rectangle: Rectangle, table: &[u64], sum: &mut u64) -> Result<(), Refusal> {
     let Rectangle { top, left, bottom, right } = rectangle;
-    // SAFETY: the record and the table are readable, the table for its length, and the sum is writable; borrowed mutably,
-    // it overlaps nothing.
+    // SAFETY: the record and the table are readable, the table for its length, and the sum is writable; borrowed
+    // mutably, it overlaps nothing.
     Refusal::check(unsafe { mzg_rectangle(plan, top, left, bottom, right, table.as_ptr(), table.len(), sum) })
 }

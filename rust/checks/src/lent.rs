@@ -1,6 +1,6 @@
 //! Lent buffers with watched words around them.
 
-/// A buffer whose middle part is lent. The words before and after it are watched: comparing two of these compares them too.
+/// A buffer whose middle part is lent. The words before and after it are watched: two buffers are compared with them.
 #[derive(Clone, Debug, PartialEq, Eq)]
 pub struct Lent<T> {
     words: Vec<T>,

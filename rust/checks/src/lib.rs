@@ -1,7 +1,7 @@
 //! What the tests and the benchmark of `mulzhegat` stand on. Nothing here is part of the product.
 //!
-//! - [`reference`](mod@reference), a second serial program, and [`model`], a slow model of all calls: both are written from
-//!   the paper that defines the calls, not from the library, and call nothing of it.
+//! - [`reference`](mod@reference), a second serial program, and [`model`], a slow model of all calls: both are written
+//!   from the paper that defines the calls, not from the library, and call nothing of it.
 //! - [`random`]: numbers, plans and maps from a seed that is printed.
 //! - [`lent`]: buffers with watched words around them. [`records`]: plan records as words, and damage to them.
 

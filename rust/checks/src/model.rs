@@ -1,7 +1,7 @@
 //! A model of all calls, written from the paper that defines them: simple rather than fast, and apart from the library.
 //!
-//! Each call has the answer and leaves the buffers as the library's call of the same name should. Block results come from
-//! the passes over one block with words standing around it ([`Job::filter`]), strip places from one formula
+//! Each call has the answer and leaves the buffers as the library's call of the same name should. Block results come
+//! from the passes over one block with words standing around it ([`Job::filter`]), strip places from one formula
 //! ([`Job::strip_place`]); nothing else knows the layout.
 
 use mulzhegat::{Pass, Plan, Progress, Refusal, Sizes, DOWN, MAX_ORDER, RIGHT, UP};
@@ -362,8 +362,8 @@ impl<'a> Job<'a> {
         }
     }
 
-    /// The place in the strips of the word of a pass that stands `distance` (1 to the order) back from the edge over which
-    /// the pass leaves the block, in `line`: the column for down and up, the row for right and left.
+    /// The place in the strips of the word of a pass that stands `distance` (1 to the order) back from the edge over
+    /// which the pass leaves the block, in `line`: the column for down and up, the row for right and left.
     pub fn strip_place(&self, block: usize, pass: usize, distance: usize, line: usize) -> usize {
         let order = self.orders[pass];
         let slot = block * self.side * self.orders.iter().sum::<usize>();
@@ -479,8 +479,8 @@ impl<'a> Job<'a> {
         }
     }
 
-    /// The matching strip of a linked one, as pairs of a place in the strips and its word: at each place inside the block
-    /// the word that the result of the pass has there when the passes run over the whole map, 0 at all others.
+    /// The matching strip of a linked one, as pairs of a place in the strips and its word: at each place inside the
+    /// block the word that the result of the pass has there when the passes run over the whole map, 0 at all others.
     pub fn matching_strip(&self, block: &Block, pass: usize, results: &[Vec<u64>; 4]) -> Vec<(usize, u64)> {
         let (length, lines) = self.extent(block, pass);
         let mut words = Vec::new();

@@ -119,8 +119,8 @@ fn number_from(variable: &str, default: u64) -> u64 {
     }
 }
 
-/// The generator of a named test, seeded by `MULZHEGAT_SEED` (or [`DEFAULT_SEED`]) and the name. The seed is printed once
-/// in a test program, past the capture of the test harness, so that a passing run shows it too.
+/// The generator of a named test, seeded by `MULZHEGAT_SEED` (or [`DEFAULT_SEED`]) and the name. The seed is printed
+/// once in a test program, past the capture of the test harness, so that a passing run shows it too.
 pub fn of_test(name: &str) -> Random {
     static PRINTED: Once = Once::new();
     let seed = number_from("MULZHEGAT_SEED", DEFAULT_SEED);

@@ -4,8 +4,8 @@
 
 use mulzhegat::{Pass, Plan, DOWN, LEFT, RIGHT, UP};
 
-/// One output: the gain times the input, less each coefficient times the output that many steps back. `earlier` gives the
-/// output `steps` back, or none outside the map, where it counts as 0.
+/// One output: the gain times the input, less each coefficient times the output that many steps back. `earlier` gives
+/// the output `steps` back, or none outside the map, where it counts as 0.
 fn output(pass: &Pass, input: u64, earlier: impl Fn(usize) -> Option<u64>) -> u64 {
     let mut sum = (pass.gain as u64).wrapping_mul(input);
     for steps in 1..=pass.order as usize {

@@ -1,6 +1,6 @@
 //! Lists of calls: the program `calls_run` performs them with `job::run_calls`, which C and Rust do not reach, and
-//! prints what is left of the job. The model of the calls says what that is; `crates/calls_run/src/main.rt` says what is
-//! read.
+//! prints what is left of the job. The model of the calls says what that is; `crates/calls_run/src/main.rt` says what
+//! the program reads.
 
 use checks::model::{self, Job};
 use checks::random::{self, Random};

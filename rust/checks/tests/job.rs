@@ -161,8 +161,8 @@ fn perform_in_random_order(
     done
 }
 
-/// What a list of calls promises as a whole: the tasks done give the strips and the output of the serial passes, all other
-/// output words are as they were before, and the report counts them. `done` holds the tasks done, one bit each.
+/// What a list of calls promises as a whole: the tasks done give the strips and the output of the serial passes, all
+/// other output words are as they were before, and the report counts them. `done` holds the tasks done, one bit each.
 fn check_the_list(trial: &mut Trial, done: &[u32], output_before: &Lent<u64>) {
     let results = reference::results(trial.plan, trial.map.get());
     let mut expected_output = output_before.clone();
@@ -639,7 +639,7 @@ fn broken_marks_are_refused_9_with_the_least_block_looked_at() {
 
 #[test]
 fn every_spare_bit_and_kind_breaks_a_mark() {
-    // Four blocks in a square and three in a line: every bit of every mark, seen by the report and by the block's tasks.
+    // Four blocks in a square, three in a line: every bit of every mark, seen by the report and by the block's tasks.
     for plan in [Plan::summed(4, 4, 2), Plan::summed(1, 6, 2), Plan::summed(6, 1, 2), Plan::summed(2, 2, 2)] {
         let job = Job::of(&plan).unwrap();
         for block in 0..job.marks() {

@@ -25,7 +25,8 @@ pub fn draw(heading: &str, groups: &[Group]) -> String {
     let mut text = |line: String| writeln!(svg, "{line}").expect("a string takes all lines");
     let full_width = LEFT + WIDTH + 60.0;
     text(format!(
-        "<svg xmlns=\"http://www.w3.org/2000/svg\" width=\"{full_width}\" height=\"{height}\" font-family=\"sans-serif\" font-size=\"12\">"
+        "<svg xmlns=\"http://www.w3.org/2000/svg\" width=\"{full_width}\" height=\"{height}\" \
+         font-family=\"sans-serif\" font-size=\"12\">"
     ));
     text(format!("<rect width=\"{full_width}\" height=\"{height}\" fill=\"white\"/>"));
     text(format!("<text x=\"10\" y=\"22\" font-size=\"15\" font-weight=\"bold\">{heading}</text>"));

@@ -1,9 +1,9 @@
 //! The benchmark: the library against two serial programs in Rust.
 //!
-//! `cargo run --release --bin bench [-- --quick] [--svg FILE] [--repetitions N]` prints Markdown tables; `--svg` draws the
-//! ratios. All ways run on the same map into the same output, turn by turn; every output is compared with that of the
-//! plain program, and the best time of each way counts. A block job's time has everything in it: start, and for each task
-//! the checks, the strips and the marks.
+//! `cargo run --release --bin bench [-- --quick] [--svg FILE] [--repetitions N]` prints Markdown tables; `--svg` draws
+//! the ratios. All ways run on the same map into the same output, turn by turn; every output is compared with that of
+//! the plain program, and the best time of each way counts. A block job's time has everything in it: start, and for
+//! each task the checks, the strips and the marks.
 
 mod baseline;
 mod chart;
