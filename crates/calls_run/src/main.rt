@@ -9,7 +9,6 @@ use plan::Plan;
 use plan::PlanSizes;
 use refusal::Outcome;
 use refusal::Refusal;
-use smooth_job::PLAN_LIMIT;
 ghost use Prim.Native.Nat.{_≤_};
 ghost use lib.ListN.{length};
 
@@ -20,22 +19,22 @@ const STRIP_LIMIT: usize = 2 * PIXEL_LIMIT * 4 * plan::ORDER_LIMIT;
 
 const CALL_LIMIT: usize = 2048;
 
-const WORD_LIMIT: usize = PLAN_LIMIT + PIXEL_LIMIT + 2 * CALL_LIMIT;
+const INPUT_WORDS: usize = plan::WORD_LIMIT + PIXEL_LIMIT + 2 * CALL_LIMIT;
 
 // What stands in the output before the first call.
 const UNWRITTEN: u64 = 77;
 
 fn main() {
-    let mut input = [0; 4 * WORD_LIMIT];
+    let mut input = [0; 4 * INPUT_WORDS];
     let count = io::read_full(STDIN_FILENO, &mut input);
     run_input(&input[..count]);
 }
 
 // The plan, and then the job on the words after it.
 fn run_input(input: &[u8]) {
-    let mut words = [0; WORD_LIMIT];
+    let mut words = [0; INPUT_WORDS];
     let count = take_words(input, &mut words);
-    let first = tasks::smaller(smooth_job::plan_length(input), count);
+    let first = number::lesser(smooth_job::plan_length(input), count);
     let read = plan_reader::read_plan(&words[..first]);
     let outcome = read.outcome;
     match outcome {
@@ -56,9 +55,9 @@ fn run_plan(plan: Plan, words: &[u32]) {
     let mut heights = [0; PIXEL_LIMIT];
     let pixels = take_heights(words, sizes.pixels, &mut heights);
     let mut marks = [0; PIXEL_LIMIT];
-    let mark_count = tasks::smaller(sizes.marks, PIXEL_LIMIT);
+    let mark_count = number::lesser(sizes.marks, PIXEL_LIMIT);
     let mut strips = [0; STRIP_LIMIT];
-    let strip_count = tasks::smaller(sizes.strips, STRIP_LIMIT);
+    let strip_count = number::lesser(sizes.strips, STRIP_LIMIT);
     let mut output = [UNWRITTEN; PIXEL_LIMIT];
     run_job(
         plan,
@@ -121,7 +120,7 @@ fn run_list(
 fn take_words(input: &[u8], words: &mut [u32]) -> usize
     ensures { λ r. ⌜ r ≤ length (now (words .exit)) ⌝ }
 {
-    let count = tasks::smaller(input.len() / 4, words.len());
+    let count = number::lesser(input.len() / 4, words.len());
     let mut i = 0;
     while i < count {
         words[i] = smooth_job::word_at(input, i);
@@ -134,7 +133,7 @@ fn take_words(input: &[u8], words: &mut [u32]) -> usize
 fn take_heights(words: &[u32], wanted: usize, heights: &mut [i32]) -> usize
     ensures { λ r. ⌜ (r ≤ length (now (words .entry))) × (r ≤ length (now (heights .exit))) ⌝ }
 {
-    let count = tasks::smaller(wanted, tasks::smaller(words.len(), heights.len()));
+    let count = number::lesser(wanted, number::lesser(words.len(), heights.len()));
     let mut i = 0;
     while i < count {
         heights[i] = smooth_job::decode_signed32(words[i]);
@@ -147,7 +146,7 @@ fn take_heights(words: &[u32], wanted: usize, heights: &mut [i32]) -> usize
 fn take_calls(words: &[u32], tasks: &mut [usize], blocks: &mut [usize]) -> usize
     ensures { λ r. ⌜ (r ≤ length (now (tasks .exit))) × (r ≤ length (now (blocks .exit))) ⌝ }
 {
-    let count = tasks::smaller(words.len() / 2, tasks::smaller(tasks.len(), blocks.len()));
+    let count = number::lesser(words.len() / 2, number::lesser(tasks.len(), blocks.len()));
     let mut i = 0;
     while i < count {
         tasks[i] = number(words[2 * i]);

@@ -13,33 +13,22 @@ use Rattle.word.specs.Word.{_⊗_}
 use Rattle.word.proofs.Ring.{mul-zero}
 use Rattle.plan.specs.declared.Plan.{Plan}
 use Rattle.plan.specs.Rules.{orderLimit}
-use Rattle.plan.specs.Lists.{wordAt}
-use Rattle.plan.proofs.Tests.{and-left, and-right}
-use Rattle.passes.specs.Passes.{Axis, columns, rows, Direction, forward, backward, axisOf, directionOf, along, across}
-use Rattle.filter.specs.Windows.{isBackward, beyond, wordsBesideWindow}
-use Rattle.filter.proofs.RowMajor.{same-row-column}
-use Rattle.filter.proofs.Numbers.{axis-columns}
-use Rattle.task_words.specs.Strips.{orderOf, fromEdge}
-use Rattle.strips.specs.declared.BlockShape.{BlockShape}
+use Rattle.buffer.specs.Lists.{wordAt}
+use Rattle.number.proofs.Tests.{and-left, and-right}
+use Rattle.axis.specs.Axis.{Axis, columns, rows, Direction, forward, backward, axisOf, directionOf, along, across, isBackward}
+use Rattle.filter.specs.Windows.{beyond, wordsBesideWindow}
+use Rattle.number.proofs.RowMajor.{same-row-column}
+use Rattle.axis.proofs.Passes.{axis-columns}
+use Rattle.plan.specs.Sizes.{orderOf}
+use Rattle.task_words.specs.Strips.{fromEdge}
+use Rattle.grid.specs.declared.BlockShape.{BlockShape}
 use Rattle.strips.specs.declared.Strip.{Strip}
-use Rattle.strips.specs.StripRecord.{addressIn, stripRead}
-use Rattle.collect_finish.specs.Copies.{gridPlace, gridScaled, gridWritten}
-use Rattle.collect_finish.specs.Work.{
-  workStride,
-  workWords,
-  workWindow,
-  pixelIn,
-  workPlace,
-  ShapeFits,
-  ClearOutside,
-  marginStart,
-  marginPlace,
-  MarginClear,
-  MarginLoaded,
-}
-use Rattle.collect_finish.proofs.Copies.{rectangle-length, rectangle-at, rectangle-other}
-use Rattle.collect_finish.proofs.Work.{line-place, work-apart, work-below, lines-small, across-below, along-below, outside-block}
-use Rattle.collect_finish.proofs.Neighbours.{StripLies}
+use Rattle.strips.specs.StripRecord.{placeHeld, addressIn, stripRead}
+use Rattle.buffer.specs.Copies.{stridePlace, strideScaled, strideWritten}
+use Rattle.collect_finish.specs.Work.{workStride, workWords, workWindow, pixelIn, workPlace, ShapeFits, ClearOutside, linesOf, extentOf, marginStart, marginFirst, marginPlace, MarginClear, MarginLoaded}
+use Rattle.buffer.proofs.Copies.{rectangle-length, rectangle-at, rectangle-other}
+use Rattle.collect_finish.proofs.WorkPlaces.{line-place, work-apart, work-below, lines-small, extent-small, across-below, along-below, outside-block}
+use Rattle.collect_finish.proofs.StripRectangles.{StripLies}
 
 -- The words beside a window are those of the work array's margin.
 pub beside-place : (a : Axis) (d : Direction) (h w : ℕ) (work : List ℕ) (l i : ℕ)
@@ -121,8 +110,7 @@ apart rows columns d e o p h w l i m j q hh hw ho hp hl hi hm hj g =
 
 pub margins-apart : (plan : Plan) (shape : BlockShape) → ShapeFits shape → (t u : ℕ) → t < u → u < 4
     → orderOf plan t ≤ orderLimit → orderOf plan u ≤ orderLimit → (l i m j : ℕ)
-    → l < across (axisOf t) (shape .rows) (shape .columns) → i < orderOf plan t
-    → m < across (axisOf u) (shape .rows) (shape .columns) → j < orderOf plan u
+    → l < linesOf shape t → i < orderOf plan t → m < linesOf shape u → j < orderOf plan u
     → marginPlace plan shape u m j ≢ marginPlace plan shape t l i
 margins-apart plan shape fits t u later counted low high l i m j hl hi hm hj g =
     apart (axisOf t) (axisOf u) (directionOf t) (directionOf u) (orderOf plan t) (orderOf plan u) (shape .rows)
@@ -151,30 +139,20 @@ module _ (plan : Plan) (shape : BlockShape) (fits : ShapeFits shape) (pass : ℕ
   abbrev order : ℕ
   order = orderOf plan pass
 
-  abbrev lines : ℕ
-  lines = across a (shape .rows) (shape .columns)
-
-  abbrev extent : ℕ
-  extent = along a (shape .rows) (shape .columns)
-
   abbrev place : ℕ → ℕ → ℕ
   place l i = marginPlace plan shape pass l i
 
-  small : (lines ≤ 32) × (extent ≤ 32)
-  small = lines-small a (shape .rows) (shape .columns) (fits .rows-high) (fits .columns-high)
+  line-in : (l : ℕ) → l < linesOf shape pass → orderLimit + l < workStride
+  line-in l b = omega (arith, lines-small fits pass)
 
-  line-in : (l : ℕ) → l < lines → orderLimit + l < workStride
-  line-in l b = omega (arith, small .0)
+  index-in : (i : ℕ) → i < order → marginFirst plan shape pass + i < workStride
+  index-in i b = margin-index d order (extentOf shape pass) i limited (extent-small fits pass) b
 
-  index-in : (i : ℕ) → i < order → marginStart d order extent + i < workStride
-  index-in i b = margin-index d order extent i limited (small .1) b
-
-  pub margin-not-block : (l i : ℕ) → l < lines → i < order → (y x : ℕ) → y < shape .rows → x < shape .columns
+  pub margin-not-block : (l i : ℕ) → l < linesOf shape pass → i < order → (y x : ℕ) → y < shape .rows → x < shape .columns
       → place l i ≢ pixelIn y x
   margin-not-block l i b c =
-      outside-block a (shape .rows) (shape .columns) (fits .rows-high) (fits .columns-high) l
-      (marginStart d order extent + i) (line-in l b) (index-in i c)
-      (λ _ low high. margin-outside d order extent i limited c low high)
+      outside-block fits pass l (marginFirst plan shape pass + i) (line-in l b) (index-in i c)
+      (λ _ low high. margin-outside d order (extentOf shape pass) i limited c low high)
 
   -- Zeros around the block are zeros in the margin.
   pub margin-clear : (work : List ℕ) → ClearOutside shape work → MarginClear plan shape pass work
@@ -185,11 +163,11 @@ module _ (plan : Plan) (shape : BlockShape) (fits : ShapeFits shape) (pass : ℕ
       → wordsBesideWindow a d (workWindow (shape .rows) (shape .columns)) work l i ≡ wordAt work (place l (fromEdge d order i))
   margin-beside work l i c =
       beside-place a d (shape .rows) (shape .columns) work l i
-      ∙ ap (λ z. wordAt work (workPlace a l z)) (beyond-place d order extent i limited c)
+      ∙ ap (λ z. wordAt work (workPlace a l z)) (beyond-place d order (extentOf shape pass) i limited c)
 
   -- ---- the strip's rectangle copied
 
-  module _ (gain n : ℕ) (strip : Strip) (strips before after : List ℕ) (lies : StripLies a n order lines strip)
+  module _ (gain n : ℕ) (strip : Strip) (strips before after : List ℕ) (lies : StripLies a n order (linesOf shape pass) strip)
       (sized : length before ≡ workWords) where
     abbrev places : ℕ
     places = strip .past - strip .first
@@ -201,17 +179,17 @@ module _ (plan : Plan) (shape : BlockShape) (fits : ShapeFits shape) (pass : ℕ
     w = across a places (strip .lines)
 
     abbrev to : ℕ
-    to = workPlace a 0 (marginStart d order extent + strip .first)
+    to = workPlace a 0 (marginFirst plan shape pass + strip .first)
 
     abbrev words : ℕ → ℕ → ℕ
     words =
-        gridScaled gain strips (strip .start + strip .first * strip .«place_step»)
+        strideScaled gain strips (strip .start + strip .first * strip .«place_step»)
         (along a (strip .«place_step») (strip .«line_step»))
 
     -- A place of the rectangle is one of the margin.
-    cell-is : (y x : ℕ) → gridPlace to workStride y x ≡ place (across a y x) (strip .first + along a y x)
+    cell-is : (y x : ℕ) → stridePlace to workStride y x ≡ place (across a y x) (strip .first + along a y x)
     cell-is y x =
-        line-place a (marginStart d order extent + strip .first) y x ∙ ap (workPlace a (across a y x)) (omega arith)
+        line-place a (marginFirst plan shape pass + strip .first) y x ∙ ap (workPlace a (across a y x)) (omega arith)
 
     cell-line : (y x : ℕ) → y < h → x < w → across a y x < strip .lines
     cell-line y x p q = turned-below a places (strip .lines) y x p q .0
@@ -219,19 +197,19 @@ module _ (plan : Plan) (shape : BlockShape) (fits : ShapeFits shape) (pass : ℕ
     cell-place : (y x : ℕ) → y < h → x < w → strip .first + along a y x < strip .past
     cell-place y x p q = omega (arith, turned-below a places (strip .lines) y x p q .1, lies .ordered)
 
-    cell-line-in : (y x : ℕ) → y < h → x < w → across a y x < lines
+    cell-line-in : (y x : ℕ) → y < h → x < w → across a y x < linesOf shape pass
     cell-line-in y x p q = omega (arith, cell-line y x p q, lies .few-lines)
 
     cell-place-in : (y x : ℕ) → y < h → x < w → strip .first + along a y x < order
     cell-place-in y x p q = omega (arith, cell-place y x p q, lies .few-places)
 
     -- The rectangle lies in the array.
-    pub cells-fit : (y x : ℕ) → y < h → x < w → gridPlace to workStride y x < workWords
+    pub cells-fit : (y x : ℕ) → y < h → x < w → stridePlace to workStride y x < workWords
     cells-fit y x p q =
         rw (cell-is y x)
         (work-below a (across a y x) _ (line-in _ (cell-line-in y x p q)) (index-in _ (cell-place-in y x p q)))
 
-    cells-apart : (y x v u : ℕ) → y < h → x < w → v < h → u < w → gridPlace to workStride y x ≡ gridPlace to workStride v u
+    cells-apart : (y x v u : ℕ) → y < h → x < w → v < h → u < w → stridePlace to workStride y x ≡ stridePlace to workStride v u
         → (y ≡ v) × (x ≡ u)
     cells-apart y x v u p q r s e =
         let t =
@@ -243,16 +221,15 @@ module _ (plan : Plan) (shape : BlockShape) (fits : ShapeFits shape) (pass : ℕ
         by columns f g = (g, f)
         by rows f g = (f, g)
 
-    module _ (copied : after ≡ gridWritten to workStride w words h before) (clear : MarginClear plan shape pass before) where
+    module _ (copied : after ≡ strideWritten to workStride w words h before) (clear : MarginClear plan shape pass before) where
       abbrev inside : ℕ → ℕ → Bool
-      inside l i = ltb l (strip .lines) && (leb (strip .first) i && ltb i (strip .past))
+      inside l i = ltb l (strip .lines) && placeHeld strip i
 
       -- A word of the strip,
       word-copied : (l i : ℕ) → inside l i ≡ true → wordAt after (place l i) ≡ gain ⊗ wordAt strips (addressIn strip l i)
       word-copied l i e =
-          let places-test = leb (strip .first) i && ltb i (strip .past) in
-          let line = ltb-true l (strip .lines) (and-left _ places-test e) in
-          let rest = and-right (ltb l (strip .lines)) places-test e in
+          let line = ltb-true l (strip .lines) (and-left _ (placeHeld strip i) e) in
+          let rest = and-right (ltb l (strip .lines)) (placeHeld strip i) e in
           let low = leb-true (strip .first) i (and-left _ (ltb i (strip .past)) rest) in
           let high = ltb-true i (strip .past) (and-right (leb (strip .first) i) _ rest) in
           let j : ℕ = i - strip .first in
@@ -264,15 +241,15 @@ module _ (plan : Plan) (shape : BlockShape) (fits : ShapeFits shape) (pass : ℕ
           let p : y < h = along-below a places (strip .lines) j l (omega arith) line in
           let q : x < w = across-below a places (strip .lines) j l (omega arith) line in
           ap₂ wordAt copied (sym (cell-is y x ∙ ap₂ place (at .0) (at .1)))
-          ∙ rectangle-at (gridPlace to workStride) words w h before cells-apart
+          ∙ rectangle-at (stridePlace to workStride) words w h before cells-apart
           (λ v u r s. rw sized (cells-fit v u r s)) y x p q
           ∙ ap (λ z. gain ⊗ wordAt strips z) (lies .addressed y x (cell-line y x p q) ∙ ap₂ (addressIn strip) (at .0) (at .1))
 
       -- and a place that has none.
-      nothing-copied : (l i : ℕ) → l < lines → i < order → inside l i ≡ false → wordAt after (place l i) ≡ 0
+      nothing-copied : (l i : ℕ) → l < linesOf shape pass → i < order → inside l i ≡ false → wordAt after (place l i) ≡ 0
       nothing-copied l i b c e =
           ap (λ z. wordAt z (place l i)) copied
-          ∙ rectangle-other (gridPlace to workStride) words w h before _
+          ∙ rectangle-other (stridePlace to workStride) words w h before _
           (λ y x p q f.
           let s =
           work-apart a l _ (across a y x) _ (line-in l b) (index-in i c) (line-in _ (cell-line-in y x p q))
@@ -293,16 +270,16 @@ module _ (plan : Plan) (shape : BlockShape) (fits : ShapeFits shape) (pass : ℕ
       unfolding stripRead
       margin-loaded =
           record {
-            length-kept = ap length copied ∙ rectangle-length (gridPlace to workStride) words w h before;
+            length-kept = ap length copied ∙ rectangle-length (stridePlace to workStride) words w h before;
             at = λ l i b c. by l i b c (inside l i) refl;
             elsewhere =
                 λ z out.
                 ap (λ y. wordAt y z) copied
-                ∙ rectangle-other (gridPlace to workStride) words w h before z
+                ∙ rectangle-other (stridePlace to workStride) words w h before z
                 (λ y x p q e. out _ _ (cell-line-in y x p q) (cell-place-in y x p q) (e ∙ cell-is y x));
           }
         where
-          by : (l i : ℕ) → l < lines → i < order → (t : Bool) → inside l i ≡ t
+          by : (l i : ℕ) → l < linesOf shape pass → i < order → (t : Bool) → inside l i ≡ t
               → wordAt after (place l i) ≡ gain ⊗ cond t (wordAt strips (addressIn strip l i)) 0
           by l i b c true e = word-copied l i e
           by l i b c false e = nothing-copied l i b c e ∙ sym (mul-zero gain)

@@ -2,27 +2,26 @@
 // An inner crate: what its functions require, their callers in this repository show.
 use filter::FilterWords;
 use filter::Window;
+use grid::BlockShape;
 use plan::Plan;
-use strips::BlockShape;
 ghost use mathlib.Core.Path.{_≡_};
-ghost use mathlib.Core.Bool.{true};
-ghost use Prim.Native.Nat.{_+_, _<_, _≤_};
+ghost use Prim.Native.Nat.{_+_, _≤_};
 ghost use lib.ListN.{length};
-ghost use Rattle.plan.specs.Rules.{orderLimit, keepsRules};
-ghost use Rattle.plan.specs.Sizes.{neededMarks, neededStrips, neededPixels};
-ghost use Rattle.passes.specs.Passes.{axisOf, directionOf};
-ghost use Rattle.filter.specs.Filters.{filterWith};
+ghost use Rattle.axis.specs.Axis.{axisOf, directionOf};
+ghost use Rattle.filter.specs.FilterWords.{filterWith};
 ghost use Rattle.task_words.specs.Strips.{stripWritten};
-ghost use Rattle.task_words.specs.Writes.{mapOf, collected, finished};
-ghost use Rattle.strips.specs.Shapes.{shapeOf};
-ghost use Rattle.strips.specs.StripRecord.{stripBefore};
-ghost use Rattle.collect_finish.specs.Copies.{wordsFrom, scaledFrom, heightsFrom, noWords, rowWritten, gridScaled, gridHeights, gridWritten, GridFits};
-ghost use Rattle.collect_finish.specs.Work.{workStride, workWords, workCorner, ShapeFits, ClearOutside, BlockRead, workPlace, marginStart, MarginClear, MarginLoaded, blockPass, edgeStart, workEdge};
+ghost use Rattle.filter.specs.PlanFilters.{mapOf};
+ghost use Rattle.task_words.specs.Writes.{collected, finished};
+ghost use Rattle.strips.specs.StripRecord.{stripBefore, EdgeFits};
+ghost use Rattle.buffer.specs.Copies.{scaledFrom, strideScaled, strideHeights, strideWritten, StrideFits};
+ghost use Rattle.buffer.specs.Written.{rowWritten};
+ghost use Rattle.collect_finish.specs.Work.{workStride, workCorner, ClearOutside, BlockRead, workPlace, marginStart, MarginLoaded, blockPass, workEdge};
+ghost use Rattle.collect_finish.specs.WorkFits.{CollectFits, FinishFits, LoadFits, RowFits, PassFits, StripMoves, MarginFits};
 
 // The margin on each side of the block, and the rows of the work array.
 const MARGIN: usize = plan::ORDER_LIMIT;
 
-const STRIDE: usize = 32 + 2 * plan::ORDER_LIMIT;
+const STRIDE: usize = grid::SIDE_LIMIT + 2 * plan::ORDER_LIMIT;
 
 // The words and the heights of a cache line of 64 bytes.
 const LINE_WORDS: usize = 8;
@@ -32,13 +31,14 @@ const LINE_HEIGHTS: usize = 16;
 // Block k's four strips: the passes over its pixels, zeros around it. The passes run with gain 1; a strip takes the gains
 // of its pass and of those before it.
 pub fn collect(plan: Plan, k: usize, map: &[i32], strips: &mut [u64])
-    requires { ⌜ (keepsRules plan ≡ true) × (k < neededMarks plan) × (neededPixels plan ≤ length (now map)) × (neededStrips plan ≤ length (now strips)) ⌝ }
+    requires { ⌜ CollectFits plan k (length (now map)) (length (now strips)) ⌝ }
     ensures { λ _. ⌜ now (strips .exit) ≡ collected plan (mapOf plan (now (map .entry))) k (now (strips .entry)) ⌝ }
 {
-    let shape = strips::block_shape(plan, k);
-    let corner = shape.first_row * plan.columns + shape.first_column;
+    let grid = plan.grid;
+    let shape = grid.block_shape(k);
+    let corner = shape.first_row * grid.columns + shape.first_column;
     let mut work = [0; STRIDE * STRIDE];
-    load_block(map, corner, plan.columns, shape, &mut work);
+    load_block(map, corner, grid.columns, shape, &mut work);
     let mut pass = 0;
     while pass < 4 {
         let described = plan.passes[pass];
@@ -53,14 +53,15 @@ pub fn collect(plan: Plan, k: usize, map: &[i32], strips: &mut [u64])
 // Block k's output words: the four passes over its pixels, the neighbours' strips past its edges. The first pass runs with
 // all four gains, the others with gain 1; a strip takes the gains of the passes after its own.
 pub fn finish(plan: Plan, k: usize, map: &[i32], strips: &[u64], output: &mut [u64])
-    requires { ⌜ (keepsRules plan ≡ true) × (k < neededMarks plan) × (neededPixels plan ≤ length (now map)) × (neededStrips plan ≤ length (now strips)) × (neededPixels plan ≤ length (now output)) ⌝ }
+    requires { ⌜ FinishFits plan k (length (now map)) (length (now strips)) (length (now output)) ⌝ }
     ensures { λ _. ⌜ now (output .exit) ≡ finished plan (mapOf plan (now (map .entry))) (now (strips .entry)) k (now (output .entry)) ⌝ }
 {
-    let shape = strips::block_shape(plan, k);
-    let corner = shape.first_row * plan.columns + shape.first_column;
+    let grid = plan.grid;
+    let shape = grid.block_shape(k);
+    let corner = shape.first_row * grid.columns + shape.first_column;
     let mut work = [0; STRIDE * STRIDE];
-    touch_output(output, corner, plan.columns, shape, &mut work);
-    load_block(map, corner, plan.columns, shape, &mut work);
+    touch_output(output, corner, grid.columns, shape, &mut work);
+    load_block(map, corner, grid.columns, shape, &mut work);
     let mut pass = 0;
     while pass < 4 {
         let gain = filter::gains_from(plan, pass + 1, 3 - pass);
@@ -75,7 +76,7 @@ pub fn finish(plan: Plan, k: usize, map: &[i32], strips: &[u64], output: &mut [u
         STRIDE,
         output,
         corner,
-        plan.columns,
+        grid.columns,
         shape.rows,
         shape.columns,
         1,
@@ -86,21 +87,21 @@ pub fn finish(plan: Plan, k: usize, map: &[i32], strips: &[u64], output: &mut [u
 // Where one word of each line has been read first, all of them are on their way together. The words read go into cells of
 // the block, which its pixels take afterwards, so that the compiler keeps the reads.
 fn touch_output_row(output: &[u64], start: usize, shape: BlockShape, row: usize, work: &mut [u64])
-    requires { ⌜ (start + shape .columns ≤ length (now output)) × (row < shape .rows) × ShapeFits shape × ClearOutside shape (now work) ⌝ }
+    requires { ⌜ RowFits (length (now output)) start shape row (now work) ⌝ }
     ensures { λ _. ⌜ ClearOutside shape (now (work .exit)) ⌝ }
 {
     let work_start = (MARGIN + row) * STRIDE + MARGIN;
     let last = shape.columns - 1;
     let mut i = 0;
     while i < shape.columns + LINE_WORDS {
-        let column = filter::lesser(i, last);
+        let column = number::lesser(i, last);
         work[work_start + column] = output[start + column];
         i += LINE_WORDS;
     }
 }
 
 fn touch_output(output: &[u64], start: usize, stride: usize, shape: BlockShape, work: &mut [u64])
-    requires { ⌜ GridFits (length (now output)) start stride (shape .rows) (shape .columns) × ShapeFits shape × ClearOutside shape (now work) ⌝ }
+    requires { ⌜ LoadFits (length (now output)) start stride shape (now work) ⌝ }
     ensures { λ _. ⌜ ClearOutside shape (now (work .exit)) ⌝ }
 {
     let mut row = 0;
@@ -112,56 +113,27 @@ fn touch_output(output: &[u64], start: usize, stride: usize, shape: BlockShape, 
 
 // The same for the map.
 fn touch_map_row(map: &[i32], start: usize, shape: BlockShape, row: usize, work: &mut [u64])
-    requires { ⌜ (start + shape .columns ≤ length (now map)) × (row < shape .rows) × ShapeFits shape × ClearOutside shape (now work) ⌝ }
+    requires { ⌜ RowFits (length (now map)) start shape row (now work) ⌝ }
     ensures { λ _. ⌜ ClearOutside shape (now (work .exit)) ⌝ }
 {
     let work_start = (MARGIN + row) * STRIDE + MARGIN;
     let last = shape.columns - 1;
     let mut i = 0;
     while i < shape.columns + LINE_HEIGHTS {
-        let column = filter::lesser(i, last);
-        work[work_start + column] = filter::read_pixel(map[start + column]);
+        let column = number::lesser(i, last);
+        work[work_start + column] = buffer::read_pixel(map[start + column]);
         i += LINE_HEIGHTS;
     }
 }
 
 fn touch_map(map: &[i32], start: usize, stride: usize, shape: BlockShape, work: &mut [u64])
-    requires { ⌜ GridFits (length (now map)) start stride (shape .rows) (shape .columns) × ShapeFits shape × ClearOutside shape (now work) ⌝ }
+    requires { ⌜ LoadFits (length (now map)) start stride shape (now work) ⌝ }
     ensures { λ _. ⌜ ClearOutside shape (now (work .exit)) ⌝ }
 {
     let mut row = 0;
     while row < shape.rows {
         touch_map_row(map, start + row * stride, shape, row, work);
         row += 1;
-    }
-}
-
-fn copy_words(from: &[u64], from_start: usize, to: &mut [u64], to_start: usize, count: usize)
-    requires { ⌜ («from_start» + count ≤ length (now from)) × («to_start» + count ≤ length (now to)) ⌝ }
-    ensures { λ _. ⌜ now (to .exit) ≡ rowWritten «to_start» (wordsFrom (now (from .entry)) «from_start») count (now (to .entry)) ⌝ }
-{
-    let mut i = 0;
-    while i < count {
-        to[to_start + i] = from[from_start + i];
-        i += 1;
-    }
-}
-
-fn scale_words(
-    from: &[u64],
-    from_start: usize,
-    to: &mut [u64],
-    to_start: usize,
-    count: usize,
-    gain: u64,
-)
-    requires { ⌜ («from_start» + count ≤ length (now from)) × («to_start» + count ≤ length (now to)) ⌝ }
-    ensures { λ _. ⌜ now (to .exit) ≡ rowWritten «to_start» (scaledFrom gain (now (from .entry)) «from_start») count (now (to .entry)) ⌝ }
-{
-    let mut i = 0;
-    while i < count {
-        to[to_start + i] = word::mul(gain, from[from_start + i]);
-        i += 1;
     }
 }
 
@@ -175,12 +147,12 @@ fn copy_row(
     gain: u64,
 )
     requires { ⌜ («from_start» + count ≤ length (now from)) × («to_start» + count ≤ length (now to)) ⌝ }
-    ensures { λ _. ⌜ now (to .exit) ≡ rowWritten «to_start» (scaledFrom gain (now (from .entry)) «from_start») count (now (to .entry)) ⌝ }
+    ensures { λ _. ⌜ now (to .exit) ≡ rowWritten «to_start» (scaledFrom gain (now (from .entry)) «from_start» 1) count (now (to .entry)) ⌝ }
 {
     if gain == 1 {
-        copy_words(from, from_start, to, to_start, count);
+        buffer::copy_words(from, from_start, to, to_start, count);
     } else {
-        scale_words(from, from_start, to, to_start, count, gain);
+        buffer::scale_words(from, from_start, 1, to, to_start, count, gain);
     }
 }
 
@@ -196,8 +168,8 @@ fn copy_rectangle(
     width: usize,
     gain: u64,
 )
-    requires { ⌜ GridFits (length (now from)) «from_start» «from_stride» height width × GridFits (length (now to)) «to_start» «to_stride» height width ⌝ }
-    ensures { λ _. ⌜ now (to .exit) ≡ gridWritten «to_start» «to_stride» width (gridScaled gain (now (from .entry)) «from_start» «from_stride») height (now (to .entry)) ⌝ }
+    requires { ⌜ StrideFits (length (now from)) «from_start» «from_stride» height width × StrideFits (length (now to)) «to_start» «to_stride» height width ⌝ }
+    ensures { λ _. ⌜ now (to .exit) ≡ strideWritten «to_start» «to_stride» width (strideScaled gain (now (from .entry)) «from_start» «from_stride») height (now (to .entry)) ⌝ }
 {
     let mut row = 0;
     while row < height {
@@ -213,17 +185,6 @@ fn copy_rectangle(
     }
 }
 
-fn read_row(map: &[i32], map_start: usize, work: &mut [u64], work_start: usize, count: usize)
-    requires { ⌜ («map_start» + count ≤ length (now map)) × («work_start» + count ≤ length (now work)) ⌝ }
-    ensures { λ _. ⌜ now (work .exit) ≡ rowWritten «work_start» (heightsFrom (now (map .entry)) «map_start») count (now (work .entry)) ⌝ }
-{
-    let mut i = 0;
-    while i < count {
-        work[work_start + i] = filter::read_pixel(map[map_start + i]);
-        i += 1;
-    }
-}
-
 fn read_block(
     map: &[i32],
     map_start: usize,
@@ -232,12 +193,12 @@ fn read_block(
     height: usize,
     width: usize,
 )
-    requires { ⌜ GridFits (length (now map)) «map_start» «map_stride» height width × GridFits (length (now work)) workCorner workStride height width ⌝ }
-    ensures { λ _. ⌜ now (work .exit) ≡ gridWritten workCorner workStride width (gridHeights (now (map .entry)) «map_start» «map_stride») height (now (work .entry)) ⌝ }
+    requires { ⌜ StrideFits (length (now map)) «map_start» «map_stride» height width × StrideFits (length (now work)) workCorner workStride height width ⌝ }
+    ensures { λ _. ⌜ now (work .exit) ≡ strideWritten workCorner workStride width (strideHeights (now (map .entry)) «map_start» «map_stride») height (now (work .entry)) ⌝ }
 {
     let mut row = 0;
     while row < height {
-        read_row(
+        buffer::read_heights(
             map,
             map_start + row * map_stride,
             work,
@@ -250,8 +211,8 @@ fn read_block(
 
 // The block's pixels into a work array that is 0 around them.
 fn load_block(map: &[i32], start: usize, stride: usize, shape: BlockShape, work: &mut [u64])
-    requires { ⌜ GridFits (length (now map)) start stride (shape .rows) (shape .columns) × ShapeFits shape × ClearOutside shape (now work) ⌝ }
-    ensures { λ _. ⌜ BlockRead shape (gridHeights (now (map .entry)) start stride) (now (work .exit)) ⌝ }
+    requires { ⌜ LoadFits (length (now map)) start stride shape (now work) ⌝ }
+    ensures { λ _. ⌜ BlockRead shape (strideHeights (now (map .entry)) start stride) (now (work .exit)) ⌝ }
 {
     touch_map(map, start, stride, shape, work);
     read_block(map, start, stride, work, shape.rows, shape.columns);
@@ -259,7 +220,7 @@ fn load_block(map: &[i32], start: usize, stride: usize, shape: BlockShape, work:
 
 // One pass over the block in the work array, the margin standing for the outputs past its edge.
 fn run_block_pass(shape: BlockShape, pass: usize, words: FilterWords, work: &mut [u64])
-    requires { ⌜ (words .order ≤ orderLimit) × ShapeFits shape × (length (now work) ≡ workWords) ⌝ }
+    requires { ⌜ PassFits (words .order) shape (length (now work)) ⌝ }
     ensures { λ _. ⌜ now (work .exit) ≡ blockPass shape pass (filterWith words) (now (work .entry)) ⌝ }
 {
     let window = Window {
@@ -277,17 +238,17 @@ fn work_place(pass: usize, index: usize) -> usize
     requires { ⌜ index ≤ workStride ⌝ }
     ensures { λ r. ⌜ r ≡ workPlace (axisOf pass) 0 index ⌝ }
 {
-    filter::along(pass, index * STRIDE + MARGIN, MARGIN * STRIDE + index)
+    axis::along(pass, index * STRIDE + MARGIN, MARGIN * STRIDE + index)
 }
 
 fn margin_start(pass: usize, order: usize, extent: usize) -> usize
-    requires { ⌜ (order ≤ orderLimit) × (extent ≤ 32) ⌝ }
+    requires { ⌜ EdgeFits order extent ⌝ }
     ensures { λ r. ⌜ r ≡ marginStart (directionOf pass) order extent ⌝ }
 {
-    if pass % 2 == 0 {
-        MARGIN - order
-    } else {
+    if axis::is_backward(pass) {
         MARGIN + extent
+    } else {
+        MARGIN - order
     }
 }
 
@@ -302,7 +263,7 @@ fn load_margin(
     strips: &[u64],
     work: &mut [u64],
 )
-    requires { ⌜ (keepsRules plan ≡ true) × (k < neededMarks plan) × (pass < 4) × (shape ≡ shapeOf plan k) × (neededStrips plan ≤ length (now strips)) × (length (now work) ≡ workWords) × MarginClear plan shape pass (now work) ⌝ }
+    requires { ⌜ MarginFits plan k pass shape (length (now strips)) (now work) ⌝ }
     ensures { λ _. ⌜ MarginLoaded plan shape pass gain (stripBefore plan k pass) (now (strips .entry)) (now (work .entry)) (now (work .exit)) ⌝ }
 {
     let described = plan.passes[pass];
@@ -310,41 +271,19 @@ fn load_margin(
     let first = strip.first;
     let places = strip.past - first;
     let start = strip.start + first * strip.place_step;
-    let extent = filter::along(pass, shape.rows, shape.columns);
+    let extent = axis::along(pass, shape.rows, shape.columns);
     let index = margin_start(pass, described.order, extent) + first;
     copy_rectangle(
         strips,
         start,
-        filter::along(pass, strip.place_step, strip.line_step),
+        axis::along(pass, strip.place_step, strip.line_step),
         work,
         work_place(pass, index),
         STRIDE,
-        filter::along(pass, places, strip.lines),
-        filter::across(pass, places, strip.lines),
+        axis::along(pass, places, strip.lines),
+        axis::across(pass, places, strip.lines),
         gain,
     );
-}
-
-fn edge_start(pass: usize, order: usize, extent: usize) -> usize
-    requires { ⌜ (order ≤ orderLimit) × (extent ≤ 32) ⌝ }
-    ensures { λ r. ⌜ r ≡ edgeStart (directionOf pass) order extent ⌝ }
-{
-    if pass % 2 == 0 {
-        MARGIN + extent - order
-    } else {
-        MARGIN
-    }
-}
-
-fn clear_words(strips: &mut [u64], start: usize, count: usize)
-    requires { ⌜ start + count ≤ length (now strips) ⌝ }
-    ensures { λ _. ⌜ now (strips .exit) ≡ rowWritten start noWords count (now (strips .entry)) ⌝ }
-{
-    let mut i = 0;
-    while i < count {
-        strips[start + i] = 0;
-        i += 1;
-    }
 }
 
 // Block k's strip of a pass from the work array, times a gain, zeros around the block; 0 where no neighbour needs the strip.
@@ -357,20 +296,21 @@ fn write_strip(
     work: &[u64],
     strips: &mut [u64],
 )
-    requires { ⌜ (keepsRules plan ≡ true) × (k < neededMarks plan) × (pass < 4) × (shape ≡ shapeOf plan k) × (length (now work) ≡ workWords) × (neededStrips plan ≤ length (now strips)) ⌝ }
+    requires { ⌜ StripMoves plan k pass shape (length (now strips)) (length (now work)) ⌝ }
     ensures { λ _. ⌜ now (strips .exit) ≡ stripWritten plan k pass (workEdge plan k pass gain (now (work .entry))) (now (strips .entry)) ⌝ }
 {
-    let side = plan.side;
+    let grid = plan.grid;
+    let side = grid.side;
     let described = plan.passes[pass];
     let order = described.order;
     let start = strips::strip_start(plan, k, pass);
-    if !strips::strip_needed(plan, k, pass) {
-        clear_words(strips, start, side * order);
+    if !grid.goes_on(k, pass) {
+        buffer::clear_words(strips, start, 1, side * order);
         return;
     }
-    let extent = filter::along(pass, shape.rows, shape.columns);
-    let index = edge_start(pass, order, extent);
-    let width = filter::across(pass, order, side);
+    let extent = axis::along(pass, shape.rows, shape.columns);
+    let index = strips::edge_start(pass, order, extent);
+    let width = axis::across(pass, order, side);
     copy_rectangle(
         work,
         work_place(pass, index),
@@ -378,7 +318,7 @@ fn write_strip(
         strips,
         start,
         width,
-        filter::along(pass, order, side),
+        axis::along(pass, order, side),
         width,
         gain,
     );

@@ -6,7 +6,7 @@ use native.Mathlib.Decide.{decLt}
 use native.Mathlib.Omega.{arith}
 use lib.ListN.{set, length}
 use lib.Seq.{getD-set-other, getD-set-same}
-use Rattle.plan.specs.Lists.{wordAt}
+use Rattle.buffer.specs.Lists.{wordAt}
 
 -- The places below n hold the words v.
 abbrev pub HoldsBelow : ℕ → (ℕ → ℕ) → List ℕ → Type 0

@@ -11,9 +11,10 @@ use Rattle.word.specs.Word.{modulus, residue}
 use Rattle.plan.specs.declared.Pass.{Pass}
 use Rattle.plan.specs.declared.Plan.{Plan}
 use Rattle.plan.specs.Rules.{passAt}
-use Rattle.plan.specs.Lists.{wordAt}
+use Rattle.buffer.specs.Lists.{wordAt}
 use Rattle.passes.specs.Gains.{gainsFrom, gainsFirst}
-use Rattle.filter.specs.Filters.{filterOf, filtersOf, filterWith, filterWords, withGain, gainsFirstWords}
+use Rattle.filter.specs.PlanFilters.{filterOf, filtersOf}
+use Rattle.filter.specs.FilterWords.{filterWith, filterWords, withGain, gainsFirstWords}
 use Rattle.filter.proofs.Buffers.{HoldsBelow}
 
 residue-zero : residue (pos 0) ≡ 0

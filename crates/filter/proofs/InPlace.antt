@@ -9,26 +9,15 @@ use native.Mathlib.Decide.{decLt}
 use native.Mathlib.Omega.{arith}
 use lib.ListN.{set, length}
 use Rattle.word.proofs.Ring.{mul-zero, sub-zero, reduced-small}
-use Rattle.plan.specs.Lists.{wordAt}
+use Rattle.buffer.specs.Lists.{wordAt}
 use Rattle.passes.specs.Line.{history, output, wordsBefore}
 use Rattle.passes.specs.Filter.{Filter, lessFeedback, filterStep}
 use Rattle.passes.proofs.Line.{wordsBefore-history, wordsBefore-inside, wordsBefore-past}
 use Rattle.passes.proofs.Linear.{filterStep-reads, filterStep-small}
 use Rattle.filter.specs.declared.Lines.{Lines}
-use Rattle.filter.specs.Written.{written}
-use Rattle.filter.specs.Kernel.{
-  tapPlace,
-  outputAt,
-  outputsAt,
-  outputsAtTime,
-  leadPlace,
-  linePlace,
-  firstTaps,
-  filterInPlace,
-  LinesFit,
-  Apart,
-}
-use Rattle.filter.proofs.Written.{written-length, written-other, written-at}
+use Rattle.buffer.specs.Written.{written}
+use Rattle.filter.specs.Kernel.{tapPlace, outputAt, outputsAt, outputsAtTime, leadPlace, linePlace, firstTaps, filterInPlace, LinesFit, Apart}
+use Rattle.buffer.proofs.Written.{written-length, written-other, written-at}
 
 -- ---- taps that read 0 may as well be left out
 

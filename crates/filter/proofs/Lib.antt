@@ -1,5 +1,3 @@
-pub mod Written
-pub mod RowMajor
 pub mod Buffers
 pub mod Filters
 pub mod Turns

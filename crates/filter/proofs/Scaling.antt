@@ -11,24 +11,11 @@ use native.Mathlib.Omega.{arith}
 use lib.ListN.{set, length}
 use lib.Seq.{ext-getD}
 use Rattle.word.specs.Word.{_⊗_}
-use Rattle.plan.specs.Lists.{wordAt}
+use Rattle.buffer.specs.Lists.{wordAt}
 use Rattle.passes.specs.Line.{output, wordsBefore}
 use Rattle.passes.specs.Filter.{Filter, lessFeedback, filterStep}
-use Rattle.passes.specs.Passes.{
-  Axis,
-  columns,
-  rows,
-  Direction,
-  forward,
-  backward,
-  axisOf,
-  directionOf,
-  along,
-  across,
-  lineOf,
-  filterLine,
-  filterLines,
-}
+use Rattle.axis.specs.Axis.{Axis, columns, rows, Direction, forward, backward, axisOf, directionOf, along, across, lineOf, isBackward, ifBackward}
+use Rattle.passes.specs.Passes.{filterLine, filterLines}
 use Rattle.passes.proofs.Line.{wordsBefore-inside, wordsBefore-past}
 use Rattle.passes.proofs.Passes.{filterLines-reads}
 use Rattle.passes.specs.Gains.{unitGain}
@@ -36,20 +23,9 @@ use Rattle.passes.proofs.Gains.{filterLines-gain}
 use Rattle.filter.specs.declared.Lines.{Lines}
 use Rattle.filter.specs.declared.Window.{Window}
 use Rattle.filter.specs.Kernel.{outputAt, outputsAt, outputsAtTime, leadPlace, filterInPlace}
-use Rattle.filter.specs.Windows.{
-  pixelPlace,
-  isBackward,
-  ifBackward,
-  windowLines,
-  windowPass,
-  windowOf,
-  scaleRow,
-  scaleRows,
-  beyond,
-  wordsBesideWindow,
-  WindowFits,
-}
-use Rattle.filter.proofs.RowMajor.{same-row-column}
+use Rattle.number.specs.Numbers.{rowMajor}
+use Rattle.filter.specs.Windows.{windowLines, windowPass, windowOf, scaleRow, scaleRows, beyond, wordsBesideWindow, WindowFits}
+use Rattle.number.proofs.RowMajor.{same-row-column}
 use Rattle.filter.proofs.Unchanged.{filter-unchanged}
 use Rattle.filter.proofs.Windows.{placeIn, Histories, windowPass-passed, fits-alone, no-history}
 
@@ -61,16 +37,16 @@ unfolding scaleRow
 scale-word gain start n a e g = rw add-one (cc)
 
 pub scale-row : (gain : ℕ) (W : Window) (n : ℕ) (a b : List ℕ) {e : List ℕ} → b ≡ scaleRows gain W n a
-    → e ≡ scaleRow gain (pixelPlace (W .stride) (W .top + n) (W .left)) (W .width) b → e ≡ scaleRows gain W (n + 1) a
+    → e ≡ scaleRow gain (rowMajor (W .stride) (W .top + n) (W .left)) (W .width) b → e ≡ scaleRows gain W (n + 1) a
 unfolding scaleRows
 scale-row gain W n a b p e = rw add-one (cc)
 
 -- The words of a row lie in the buffer.
 pub row-fits : {n : ℕ} (W : Window) → WindowFits n columns forward W 0 → (row : ℕ) → row < W .height
-    → (W .top + row ≤ n) × (pixelPlace (W .stride) (W .top + row) (W .left) + W .width ≤ n)
+    → (W .top + row ≤ n) × (rowMajor (W .stride) (W .top + row) (W .left) + W .width ≤ n)
 row-fits {n} W fits row h =
     let below : suc (W .top + row) * W .stride ≤ (W .top + W .height) * W .stride = mul-le-mul-right (W .stride) (omega arith) in
-    let end : pixelPlace (W .stride) (W .top + row) (W .left) + W .width ≤ n =
+    let end : rowMajor (W .stride) (W .top + row) (W .left) + W .width ≤ n =
     omega (arith, fits .in-row, fits .in-buffer) in
     let wide : (W .top + row) * 1 ≤ (W .top + row) * W .stride =
     mul-le-mul-left (W .top + row) (omega (arith, fits .wide, fits .in-row)) in
@@ -98,8 +74,8 @@ rows-pass gain W zero a = refl
 rows-pass gain W (suc n) a =
     let L : Lines = windowLines columns forward W 0 in
     let b : List ℕ = filterInPlace L (gainAlone gain) 0 n a in
-    ap (scaleRow gain (pixelPlace (W .stride) (W .top + n) (W .left)) (W .width)) (rows-pass gain W n a)
-    ∙ row-pass gain (W .stride) 0 (pixelPlace (W .stride) (W .top + n) (W .left)) (W .width) b
+    ap (scaleRow gain (rowMajor (W .stride) (W .top + n) (W .left)) (W .width)) (rows-pass gain W n a)
+    ∙ row-pass gain (W .stride) 0 (rowMajor (W .stride) (W .top + n) (W .left)) (W .width) b
     ∙ ap (λ c. outputsAt (gainAlone gain) (W .stride) 0 1 c (W .width) b) {y = leadPlace L (0 + n)}
     (omega (arith, add-mul (W .top) n (W .stride)))
     ∙ ap (λ r. outputsAtTime L (record { gain = gain; order = r; coefficient = λ k. 0 }) (0 + n) b) (omega arith)
@@ -137,7 +113,7 @@ scaled gain W a fits =
 -- What lies beside a window is none of its pixels.
 beside-outside : {n : ℕ} (a : Axis) (d : Direction) (W : Window) (q : ℕ) → WindowFits n a d W q → (l k : ℕ)
     → l < across a (W .height) (W .width) → k < q → (y x : ℕ) → y < W .height → x < W .width
-    → lineOf a (pixelPlace (W .stride)) (across a (W .top) (W .left) + l)
+    → lineOf a (rowMajor (W .stride)) (across a (W .top) (W .left) + l)
     (beyond d (along a (W .top) (W .left)) (along a (W .height) (W .width)) k)
     ≢ placeIn W y x
 beside-outside columns forward W q fits l k hl hk y x hy hx e =
@@ -194,7 +170,7 @@ pixel-or-not W z some in-row {P} inside outside =
                         | no k ↦ none-column (λ x h e. absurd (omega arith))
                         | yes k ↦
                             inside (row - W .top) (column - W .left) (omega arith) (omega arith)
-                            (sym split ∙ ap₂ (pixelPlace (W .stride)) (omega arith) (omega arith))
+                            (sym split ∙ ap₂ (rowMajor (W .stride)) (omega arith) (omega arith))
                       ]
                 ]
           ]

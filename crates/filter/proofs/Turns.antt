@@ -8,26 +8,11 @@ use native.Mathlib.Omega.{arith}
 use lib.ListN.{set}
 use Rattle.word.specs.Word.{_⊖_, _⊗_}
 use Rattle.word.proofs.Ring.{one-mul, reduced-small}
-use Rattle.plan.specs.Lists.{wordAt}
+use Rattle.buffer.specs.Lists.{wordAt}
 use Rattle.passes.specs.Filter.{Filter, lessFeedback, filterStep}
 use Rattle.filter.specs.declared.Lines.{Lines}
-use Rattle.filter.specs.Filters.{filterBy}
-use Rattle.filter.specs.Kernel.{
-  tapPlace,
-  feedbackFrom,
-  TapsFit,
-  PlacesFit,
-  LinesFit,
-  Apart,
-  leadPlace,
-  firstTaps,
-  outputAt,
-  withNearest,
-  nextOutputAt,
-  outputsAt,
-  outputsAtTime,
-  filterInPlace,
-}
+use Rattle.filter.specs.FilterWords.{filterBy}
+use Rattle.filter.specs.Kernel.{tapPlace, feedbackFrom, TapsFit, PlacesFit, LinesFit, Apart, leadPlace, firstTaps, outputAt, withNearest, nextOutputAt, outputsAt, outputsAtTime, filterInPlace}
 
 -- ---- one output
 

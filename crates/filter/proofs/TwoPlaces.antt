@@ -9,27 +9,11 @@ use native.Mathlib.Numerals.{add-one}
 use native.Mathlib.Omega.{arith}
 use lib.ListN.{set, length}
 use lib.Seq.{getD-set-same, getD-set-other, set-comm}
-use Rattle.plan.specs.Lists.{wordAt}
+use Rattle.buffer.specs.Lists.{wordAt}
 use Rattle.passes.specs.Filter.{Filter, filterStep}
 use Rattle.passes.proofs.Linear.{filterStep-reads}
 use Rattle.filter.specs.declared.Lines.{Lines}
-use Rattle.filter.specs.Kernel.{
-  tapPlace,
-  outputAt,
-  withNearest,
-  nextOutputAt,
-  outputsAt,
-  nextPlace,
-  outputsAtTwo,
-  TwoPlacesFit,
-  leadPlace,
-  linePlace,
-  firstTaps,
-  outputsAtTime,
-  filterInPlace,
-  LinesFit,
-  Apart,
-}
+use Rattle.filter.specs.Kernel.{tapPlace, outputAt, withNearest, nextOutputAt, outputsAt, nextPlace, outputsAtTwo, TwoPlacesFit, leadPlace, linePlace, firstTaps, outputsAtTime, filterInPlace, LinesFit, Apart}
 use Rattle.filter.proofs.Turns.{places-fit}
 use Rattle.filter.proofs.InPlace.{outputAt-reads, tap-is}
 

@@ -9,44 +9,20 @@ use native.Mathlib.Nat.{mul-le-mul-left, mul-le-mul-right, add-mul}
 use native.Mathlib.Decide.{decLt}
 use native.Mathlib.Omega.{arith}
 use lib.ListN.{length}
-use Rattle.plan.specs.Lists.{wordAt}
+use Rattle.buffer.specs.Lists.{wordAt}
 use Rattle.passes.specs.Line.{wordsBefore}
 use Rattle.passes.specs.Filter.{Filter, filterStep}
-use Rattle.passes.specs.Passes.{
-  Axis,
-  columns,
-  rows,
-  Direction,
-  forward,
-  backward,
-  axisOf,
-  directionOf,
-  along,
-  across,
-  lineOf,
-  reflect,
-  filterLine,
-  filterLines,
-}
+use Rattle.axis.specs.Axis.{Axis, columns, rows, Direction, forward, backward, axisOf, directionOf, along, across, lineOf, isBackward, ifForward, ifBackward}
+use Rattle.passes.specs.Passes.{reflect, filterLine, filterLines}
 use Rattle.passes.proofs.Line.{output-reads, wordsBefore-inside, wordsBefore-past}
 use Rattle.passes.proofs.Linear.{filterStep-reads}
 use Rattle.passes.proofs.Passes.{reflect-lt, reflect-twice}
 use Rattle.filter.specs.declared.Lines.{Lines}
 use Rattle.filter.specs.declared.Window.{Window}
 use Rattle.filter.specs.Kernel.{linePlace, LinesFit, Apart}
-use Rattle.filter.specs.Windows.{
-  pixelPlace,
-  isBackward,
-  ifForward,
-  ifBackward,
-  windowLines,
-  windowPass,
-  windowOf,
-  beyond,
-  wordsBesideWindow,
-  WindowFits,
-}
-use Rattle.filter.proofs.RowMajor.{place-below, same-row-column}
+use Rattle.number.specs.Numbers.{rowMajor}
+use Rattle.filter.specs.Windows.{windowLines, windowPass, windowOf, beyond, wordsBesideWindow, WindowFits}
+use Rattle.number.proofs.RowMajor.{place-below, same-row-column}
 use Rattle.filter.proofs.InPlace.{Filtered, filtered}
 
 sub-mul : (y t w : ℕ) → t ≤ y → (y - t) * w + t * w ≡ y * w
@@ -88,7 +64,7 @@ lineIn a W l = across a (W .top) (W .left) + l
 
 pub line-place : {n : ℕ} (a : Axis) (d : Direction) (W : Window) (q : ℕ) → WindowFits n a d W q → (l t : ℕ)
     → t < q + along a (W .height) (W .width)
-    → linePlace (windowLines a d W q) l t ≡ lineOf a (pixelPlace (W .stride)) (lineIn a W l) (indexIn a d W q t)
+    → linePlace (windowLines a d W q) l t ≡ lineOf a (rowMajor (W .stride)) (lineIn a W l) (indexIn a d W q t)
 line-place columns forward W q fits l t h =
     omega (
       arith,
@@ -119,12 +95,12 @@ row-in rows d W q fits l t h k = omega arith
 
 -- ---- they fit, and are apart
 
-line-below : (a : Axis) (w l i z n : ℕ) → along a l i < w → across a l i < z → z * w ≤ n → lineOf a (pixelPlace w) l i < n
+line-below : (a : Axis) (w l i z n : ℕ) → along a l i < w → across a l i < z → z * w ≤ n → lineOf a (rowMajor w) l i < n
 line-below columns w l i z n h k f = omega (arith, place-below z w i l k h)
 line-below rows w l i z n h k f = omega (arith, place-below z w l i k h)
 
 one-line : (a : Axis) (w l i m j : ℕ) → along a l i < w → along a m j < w
-    → lineOf a (pixelPlace w) l i ≡ lineOf a (pixelPlace w) m j → (l ≡ m) × (i ≡ j)
+    → lineOf a (rowMajor w) l i ≡ lineOf a (rowMajor w) m j → (l ≡ m) × (i ≡ j)
 one-line columns w l i m j h k e = let p = same-row-column w i l j m h k e in (p .1, p .0)
 one-line rows w l i m j h k e = same-row-column w l i m j h k e
 
@@ -193,7 +169,7 @@ pub record Passed (a : Axis) (d : Direction) (W : Window) (f : Filter) (H : ℕ 
     pub at : (y x : ℕ) → y < W .height → x < W .width
         → windowOf W after y x ≡ filterLines a d f (along a (W .height) (W .width)) H (windowOf W before) y x
     pub elsewhere : (z : ℕ)
-        → ((y x : ℕ) → y < W .height → x < W .width → z ≢ pixelPlace (W .stride) (W .top + y) (W .left + x))
+        → ((y x : ℕ) → y < W .height → x < W .width → z ≢ rowMajor (W .stride) (W .top + y) (W .left + x))
         → wordAt after z ≡ wordAt before z
 
 -- The histories are the words beside the window, q of each line, and 0 past these.
@@ -224,10 +200,10 @@ line-word rows word place l i = refl
 
 -- The place of a pixel of a window.
 abbrev pub placeIn : Window → ℕ → ℕ → ℕ
-placeIn W y x = pixelPlace (W .stride) (W .top + y) (W .left + x)
+placeIn W y x = rowMajor (W .stride) (W .top + y) (W .left + x)
 
 line-pixel : (a : Axis) (W : Window) (l i : ℕ)
-    → lineOf a (pixelPlace (W .stride)) (lineIn a W l) (along a (W .top) (W .left) + i) ≡ lineOf a (placeIn W) l i
+    → lineOf a (rowMajor (W .stride)) (lineIn a W l) (along a (W .top) (W .left) + i) ≡ lineOf a (placeIn W) l i
 line-pixel columns W l i = refl
 line-pixel rows W l i = refl
 
@@ -243,7 +219,7 @@ module _ (a : Axis) (d : Direction) (W : Window) (f : Filter) (q : ℕ) (H : ℕ
   place-is : (l j : ℕ) → j < m → linePlace L l (q + j) ≡ lineOf a (placeIn W) l (reflect d m j)
   place-is l j h =
       line-place a d W q fits l (q + j) (omega arith)
-      ∙ ap (lineOf a (pixelPlace (W .stride)) (lineIn a W l)) (index-inside d _ m q j (fits .start) h)
+      ∙ ap (lineOf a (rowMajor (W .stride)) (lineIn a W l)) (index-inside d _ m q j (fits .start) h)
       ∙ line-pixel a W l (reflect d m j)
 
   word-is : (buffer : List ℕ) (l j : ℕ) → j < m
@@ -259,7 +235,7 @@ module _ (a : Axis) (d : Direction) (W : Window) (f : Filter) (q : ℕ) (H : ℕ
             wordsBefore-inside (λ k. 0) _ q k b
             ∙ ap (wordAt before)
             (line-place a d W q fits l (q - suc k) (omega arith)
-            ∙ ap (lineOf a (pixelPlace (W .stride)) (lineIn a W l)) (index-beside d _ m q k (fits .start) b))
+            ∙ ap (lineOf a (rowMajor (W .stride)) (lineIn a W l)) (index-beside d _ m q k (fits .start) b))
             ∙ histories .near l k h b e
         | no b ↦ wordsBefore-past (λ k. 0) _ q k (omega arith) ∙ histories .far l k h (omega arith) e
       ]

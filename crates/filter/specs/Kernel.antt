@@ -1,10 +1,10 @@
--- What the kernel computes: the folds that its loops are, and what fits a buffer.
+-- Inner: what the kernel computes: the folds that its loops are, and what fits a buffer.
 use mathlib.Core.Path.{_≡_}
 use mathlib.Core.List.{List}
 use mathlib.Core.Logic.{_≢_}
 use Prim.Native.Nat.{ℕ, zero, suc, _+_, _-_, _*_, _<_, _≤_, min}
 use lib.ListN.{set}
-use Rattle.plan.specs.Lists.{wordAt}
+use Rattle.buffer.specs.Lists.{wordAt}
 use Rattle.passes.specs.Filter.{Filter, lessFeedback, filterStep}
 use Rattle.filter.specs.declared.Lines.{Lines}
 

@@ -1,4 +1,4 @@
-pub mod Written
-pub mod Filters
+pub mod PlanFilters
+pub mod FilterWords
 pub mod Kernel
 pub mod Windows

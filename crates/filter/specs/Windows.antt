@@ -1,34 +1,15 @@
--- A pass over a window: a rectangle of a buffer of rows, its lines the columns or the rows.
-use mathlib.Core.Bool.{Bool, true, false}
+-- Inner: a pass over a window: a rectangle of a buffer of rows, its lines the columns or the rows.
 use mathlib.Core.List.{List}
 use Prim.Native.Nat.{ℕ, zero, suc, _+_, _-_, _*_, _<_, _≤_}
 use lib.ListN.{set}
+use Rattle.number.specs.Numbers.{rowMajor}
 use Rattle.word.specs.Word.{_⊗_}
-use Rattle.plan.specs.Lists.{wordAt}
+use Rattle.buffer.specs.Lists.{wordAt}
 use Rattle.passes.specs.Filter.{Filter}
-use Rattle.passes.specs.Passes.{Axis, Direction, forward, backward, axisOf, directionOf, along, across, lineOf}
+use Rattle.axis.specs.Axis.{Axis, Direction, forward, backward, axisOf, directionOf, along, across, lineOf, isBackward, ifForward, ifBackward}
 use Rattle.filter.specs.declared.Lines.{Lines}
 use Rattle.filter.specs.declared.Window.{Window}
 use Rattle.filter.specs.Kernel.{filterInPlace}
-
--- Where the pixel of a row and a column lies in a buffer of rows of `stride` words.
-abbrev pub pixelPlace : ℕ → ℕ → ℕ → ℕ
-pixelPlace stride row column = row * stride + column
-
--- Whether a direction is that of falling index.
-abbrev pub isBackward : Direction → Bool
-isBackward forward = false
-isBackward backward = true
-
--- A number that counts in a forward pass alone,
-abbrev pub ifForward : Bool → ℕ → ℕ
-ifForward false x = x
-ifForward true x = 0
-
--- and one that counts in a backward pass alone.
-abbrev pub ifBackward : Bool → ℕ → ℕ
-ifBackward false x = 0
-ifBackward true x = x
 
 -- The lines of a window, each with its q places of history first: in a forward pass they begin q places before the
 -- window's first pixel, in a backward pass q places past its last.
@@ -36,7 +17,7 @@ abbrev pub windowLines : Axis → Direction → Window → ℕ → Lines
 windowLines a d W q =
     record {
       first =
-          (pixelPlace (W .stride) (W .top) (W .left)
+          (rowMajor (W .stride) (W .top) (W .left)
           + ifBackward (isBackward d) ((along a (W .height) (W .width) + q) - 1) * along a (W .stride) 1)
           - ifForward (isBackward d) q * along a (W .stride) 1;
       forth = ifForward (isBackward d) (along a (W .stride) 1);
@@ -60,11 +41,11 @@ scaleRow gain start (suc n) buffer =
 unfoldable pub scaleRows : ℕ → Window → ℕ → List ℕ → List ℕ
 scaleRows gain W zero buffer = buffer
 scaleRows gain W (suc n) buffer =
-    scaleRow gain (pixelPlace (W .stride) (W .top + n) (W .left)) (W .width) (scaleRows gain W n buffer)
+    scaleRow gain (rowMajor (W .stride) (W .top + n) (W .left)) (W .width) (scaleRows gain W n buffer)
 
 -- The pixels of a window of a buffer, by row and column.
 abbrev pub windowOf : Window → List ℕ → ℕ → ℕ → ℕ
-windowOf W buffer y x = wordAt buffer (pixelPlace (W .stride) (W .top + y) (W .left + x))
+windowOf W buffer y x = wordAt buffer (rowMajor (W .stride) (W .top + y) (W .left + x))
 
 -- The index of the place that lies k + 1 places beyond n places from `start` on, on the side where a pass comes from.
 abbrev pub beyond : Direction → ℕ → ℕ → ℕ → ℕ
@@ -75,7 +56,7 @@ beyond backward start n k = start + n + k
 abbrev pub wordsBesideWindow : Axis → Direction → Window → List ℕ → ℕ → ℕ → ℕ
 wordsBesideWindow a d W buffer l k =
     wordAt buffer
-    (lineOf a (pixelPlace (W .stride)) (across a (W .top) (W .left) + l)
+    (lineOf a (rowMajor (W .stride)) (across a (W .top) (W .left) + l)
     (beyond d (along a (W .top) (W .left)) (along a (W .height) (W .width)) k))
 
 -- A window that is not empty lies in a buffer of n words, with q places of history beside it.

@@ -2,16 +2,16 @@
 // An inner crate: what its functions require, their callers in this repository show.
 ghost use mathlib.Core.Bool.{_&&_};
 ghost use mathlib.Core.Path.{_≡_};
-ghost use Prim.Native.Nat.{_+_, _*_, _^_, _<_, _≤_, min};
+ghost use Prim.Native.Nat.{_+_, _*_, _^_, _<_, _≤_};
 ghost use lib.Dec.{leb};
 ghost use lib.ListN.{length};
 ghost use Rattle.plan.specs.Rules.{orderLimit};
-ghost use Rattle.passes.specs.Passes.{columns, forward, axisOf, directionOf, along, across};
-ghost use Rattle.passes.specs.Pixel.{pixel};
+ghost use Rattle.axis.specs.Axis.{columns, forward, axisOf, directionOf, along, across};
 ghost use Rattle.passes.specs.Gains.{gainsFrom};
-ghost use Rattle.filter.specs.Filters.{filterBy, filterWith, filterWords, withGain, filtersOf, gainsFirstWords};
+ghost use Rattle.filter.specs.FilterWords.{filterBy, filterWith, filterWords, withGain, gainsFirstWords};
+ghost use Rattle.filter.specs.PlanFilters.{filtersOf};
 ghost use Rattle.filter.specs.Kernel.{feedbackFrom, outputAt, nextOutputAt, TapsFit, outputsAt, PlacesFit, outputsAtTwo, TwoPlacesFit, leadPlace, outputsAtTime, filterInPlace, LinesFit, Apart};
-ghost use Rattle.filter.specs.Windows.{isBackward, ifForward, ifBackward, windowLines, windowPass, scaleRow, scaleRows, WindowFits};
+ghost use Rattle.filter.specs.Windows.{windowLines, windowPass, scaleRow, scaleRows, WindowFits};
 
 // A filter: the gain and the coefficients of a pass as residues modulo 2^64.
 pub struct FilterWords {
@@ -37,13 +37,6 @@ struct Lines {
     back: usize,
     apart: usize,
     count: usize,
-}
-
-// The word that a pixel enters the passes with.
-pub fn read_pixel(height: i32) -> u64
-    ensures { λ r. ⌜ r ≡ pixel height ⌝ }
-{
-    word::residue_of_height(height)
 }
 
 // The filter of a pass.
@@ -211,13 +204,6 @@ fn outputs_at_two_places(
     }
 }
 
-// The lesser of two numbers.
-pub fn lesser(a: usize, b: usize) -> usize
-    ensures { λ r. ⌜ r ≡ min a b ⌝ }
-{
-    if a < b { a } else { b }
-}
-
 // Place `time` of the first line.
 fn lead_place(lines: Lines, time: usize) -> usize
     requires { ⌜ (lines .first + time * lines .forth < 2 ^ 64) × (time * lines .back ≤ lines .first) ⌝ }
@@ -306,43 +292,11 @@ fn filter_lines(
             outputs_in_pairs(buffer, lines, time, pairs, coefficients, order);
             done += 2 * pairs;
         } else {
-            let taps = lesser(order, time);
+            let taps = number::lesser(order, time);
             outputs_at_time(buffer, lines, time, coefficients, taps);
             done += 1;
         }
     }
-}
-
-// Passes 0 down, 1 up, 2 right and 3 left: the first two run along columns,
-pub fn along(pass: usize, vertical: usize, horizontal: usize) -> usize
-    ensures { λ r. ⌜ r ≡ along (axisOf pass) vertical horizontal ⌝ }
-{
-    if pass < 2 { vertical } else { horizontal }
-}
-
-pub fn across(pass: usize, vertical: usize, horizontal: usize) -> usize
-    ensures { λ r. ⌜ r ≡ across (axisOf pass) vertical horizontal ⌝ }
-{
-    if pass < 2 { horizontal } else { vertical }
-}
-
-// and up and left run backward.
-pub fn is_backward(pass: usize) -> bool
-    ensures { λ r. ⌜ r ≡ isBackward (directionOf pass) ⌝ }
-{
-    pass % 2 == 1
-}
-
-pub fn if_forward(backward: bool, number: usize) -> usize
-    ensures { λ r. ⌜ r ≡ ifForward backward number ⌝ }
-{
-    if backward { 0 } else { number }
-}
-
-fn if_backward(backward: bool, number: usize) -> usize
-    ensures { λ r. ⌜ r ≡ ifBackward backward number ⌝ }
-{
-    if backward { number } else { 0 }
 }
 
 // The lines of a window along which a pass runs, each with its history first.
@@ -350,18 +304,18 @@ fn window_lines(window: Window, pass: usize, history: usize) -> Lines
     requires { ⌜ WindowFits (2 ^ 63) (axisOf pass) (directionOf pass) window history ⌝ }
     ensures { λ r. ⌜ r ≡ windowLines (axisOf pass) (directionOf pass) window history ⌝ }
 {
-    let backward = is_backward(pass);
-    let step = along(pass, window.stride, 1);
-    let length = along(pass, window.height, window.width);
+    let backward = axis::is_backward(pass);
+    let step = axis::along(pass, window.stride, 1);
+    let length = axis::along(pass, window.height, window.width);
     let corner = window.top * window.stride + window.left;
-    let past = if_backward(backward, length + history - 1) * step;
-    let before = if_forward(backward, history) * step;
+    let past = axis::if_backward(backward, length + history - 1) * step;
+    let before = axis::if_forward(backward, history) * step;
     Lines {
         first: corner + past - before,
-        forth: if_forward(backward, step),
-        back: if_backward(backward, step),
-        apart: across(pass, window.stride, 1),
-        count: across(pass, window.height, window.width),
+        forth: axis::if_forward(backward, step),
+        back: axis::if_backward(backward, step),
+        apart: axis::across(pass, window.stride, 1),
+        count: axis::across(pass, window.height, window.width),
     }
 }
 
@@ -413,7 +367,7 @@ pub fn run_pass(
         return;
     }
     let lines = window_lines(window, pass, history);
-    let places = along(pass, window.height, window.width);
+    let places = axis::along(pass, window.height, window.width);
     let coefficients = filter.coefficients;
     filter_lines(buffer, lines, history, places, &coefficients, order);
 }

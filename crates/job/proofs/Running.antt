@@ -11,15 +11,7 @@ use Rattle.refusal.specs.declared.Outcome.the-variants.{Accepted, Refused}
 use Rattle.refusal.specs.Table.{answerOf, ifAccepted}
 use Rattle.plan.specs.declared.Plan.{Plan}
 use Rattle.tasks.specs.Tasks.{BlockTask}
-use Rattle.job_spec.specs.Calls.{
-  Buffers,
-  taskAnswer,
-  afterTask,
-  afterCalls,
-  answersOf,
-  acceptedCount,
-  callsFrom,
-}
+use Rattle.job_spec.specs.Calls.{Buffers, taskAnswer, afterTask, afterCalls, answersOf, acceptedCount, callsFrom}
 use Rattle.job_spec.proofs.Demand3.{demand3}
 use Rattle.job.specs.RunCalls.{Ran}
 

@@ -1,4 +1,4 @@
--- The marks and strips that start leaves, one word after another; and the ways out of start.
+-- The marks that start leaves, one after another; and the ways out of start.
 -- Assumes nothing.
 use mathlib.Core.Path.{_≡_, ap, sym, _∙_}
 use mathlib.Core.List.{List, [], _∷_}
@@ -18,18 +18,11 @@ use Rattle.plan.specs.declared.PlanSizes.the-variants.{Known, Refused as NoSize
 use Rattle.plan.specs.Sizes.{sizesOf, planSizes, sizesGiven}
 use Rattle.plan.proofs.Known.{sizes-known, sizes-refused}
 use Rattle.tasks.proofs.Marking.{mark-nothing}
-use Rattle.filter.proofs.Written.{written-none, written-next}
-use Rattle.job_spec.specs.Calls.{startAnswer, unmarked, cleared, marksAfterStart, stripsAfterStart}
+use Rattle.buffer.specs.Written.{cleared}
+use Rattle.buffer.proofs.Written.{written-none, written-next}
+use Rattle.job_spec.specs.Calls.{startAnswer, unmarked, marksAfterStart, stripsAfterStart}
 
 module _ (words : List ℕ) where
-  pub cleared-none : cleared 0 words ≡ words
-  unfolding cleared
-  cleared-none = written-none _ _ words
-
-  pub cleared-next : (n : ℕ) → set (cleared n words) n 0 ≡ cleared (n + 1) words
-  unfolding cleared
-  cleared-next n = written-next _ _ n words
-
   pub unmarked-none : unmarked 0 words ≡ words
   unfolding unmarked
   unmarked-none = written-none _ _ words
@@ -79,7 +72,7 @@ module _ (plan : Plan) (marks strips : List ℕ) where
           (ltb-false (length marks) (sizes .marks) (first .first), ltb-false (length strips) (sizes .strips) (second .first))
 
       pub start-accepted : tested ≡ Accepted → (m s : List ℕ) → m ≡ unmarked (sizes .marks) marks
-          → s ≡ cleared (sizes .strips) strips → Promised Accepted m s
+          → s ≡ cleared 0 1 (sizes .strips) strips → Promised Accepted m s
       unfolding sizesOf marksAfterStart stripsAfterStart
       start-accepted f m s p q =
           let are = sizes-known plan known is sizes e .1 in

@@ -10,22 +10,24 @@ use borrow.Author.Tests.{lt-ltb, ne-eqb, not-false}
 use Rattle.refusal.specs.declared.Refusal.{Refusal}
 use Rattle.refusal.specs.declared.Outcome.{Outcome}
 use Rattle.refusal.specs.declared.Outcome.the-variants.{Accepted, Refused}
-use Rattle.refusal.specs.Table.{accepted, firstDue, answerOf, firstOf}
+use Rattle.refusal.specs.Refusals.{accepted}
+use Rattle.refusal.specs.Table.{firstDue, answerOf, firstOf}
 use Rattle.refusal.proofs.Table.{first-append, refused-before, accepted-before, not-due, first-accepted, second-accepted}
 use Rattle.plan.specs.declared.Plan.{Plan}
 use Rattle.plan.specs.declared.Sizes.{Sizes}
 use Rattle.plan.specs.declared.PlanSizes.{PlanSizes}
 use Rattle.plan.specs.declared.PlanSizes.the-variants.{Known, Refused as NoSizes}
 use Rattle.plan.specs.Rules.{keepsRules}
-use Rattle.plan.specs.Sizes.{blockRows, blockColumns, sizesOf, planSizes, sizesGiven, lengthRows}
+use Rattle.plan.specs.Sizes.{sizesOf, planSizes, sizesGiven, lengthRows}
 use Rattle.plan.proofs.Known.{sizes-known, sizes-refused}
 use Rattle.plan.proofs.Lengths.{long-enough}
-use Rattle.plan.proofs.Needed.{bounds}
-use Rattle.tasks.specs.Grid.{Lent}
+use Rattle.plan.proofs.Record.{rules}
+use Rattle.tasks.specs.Lent.{Lent}
 use Rattle.tasks.specs.Marks.{withBit}
 use Rattle.tasks.specs.Verdict.{verdictRows}
 use Rattle.tasks.proofs.Verdicts.{accepted-settable}
-use Rattle.task_words.specs.Writes.{mapOf, collected, linked, finished}
+use Rattle.filter.specs.PlanFilters.{mapOf}
+use Rattle.task_words.specs.Writes.{collected, linked, finished}
 use Rattle.job_spec.specs.Calls.{Buffers, lists, lentRows, taskAnswer, stripsAfter, outputAfter, performed, afterTask}
 use Rattle.job.specs.Fits.{Fits}
 
@@ -44,7 +46,7 @@ module _ (plan : Plan) (heights : List ℤ) (marks strips output : List ℕ) (t 
       -- Of a record that keeps the rules the lengths decide.
       lengths-lent : answerOf tested ≡ firstDue (lentRows plan heights (lists marks strips output))
       unfolding lentRows
-      lengths-lent = let (rules, are) = sizes-known plan known is sizes e in rw rules (rw are at lengths)
+      lengths-lent = let (keeps, are) = sizes-known plan known is sizes e in rw keeps (rw are at lengths)
 
       pub answer-short : (refusal : Refusal) → tested ≡ Refused refusal
           → answerOf (Refused refusal) ≡ taskAnswer plan heights (lists marks strips output) t k
@@ -52,29 +54,18 @@ module _ (plan : Plan) (heights : List ℤ) (marks strips output : List ℕ) (t 
       answer-short refusal f = refused-before (lentRows plan heights (lists marks strips output)) _ (rw f at lengths-lent)
 
       pub answer-marks : tested ≡ Accepted → (outcome : Outcome)
-          → answerOf outcome ≡ firstDue (verdictRows (sizes .«block_rows») (sizes .«block_columns») marks t k)
+          → answerOf outcome ≡ firstDue (verdictRows (plan .grid) marks t k)
           → answerOf outcome ≡ taskAnswer plan heights (lists marks strips output) t k
-      unfolding taskAnswer sizesOf
+      unfolding taskAnswer
       answer-marks f outcome v =
-          let are = sizes-known plan known is sizes e .1 in
-          rw (accepted-before (lentRows plan heights (lists marks strips output)) _ (rw f at lengths-lent)) (rw are at v)
+          rw (accepted-before (lentRows plan heights (lists marks strips output)) _ (rw f at lengths-lent)) v
 
-      pub marks-lent : tested ≡ Accepted → Lent (sizes .«block_rows») (sizes .«block_columns») (length marks)
+      pub marks-lent : tested ≡ Accepted → Lent (plan .grid) (length marks)
       unfolding sizesOf
       marks-lent f =
-          let (rules, are) = sizes-known plan known is sizes e in
-          let known-bounds = bounds plan rules in
+          let (keeps, are) = sizes-known plan known is sizes e in
           let long = long-enough sizes (length marks) (length strips) (length heights) (length output) (sym (rw f at lengths)) in
-          rw are
-          (record {
-            grid =
-                record {
-                  rows-high = known-bounds .block-rows-high;
-                  columns-low = known-bounds .block-columns-low;
-                  columns-high = known-bounds .block-columns-high;
-                };
-            enough = rw are at (long .marks-long);
-          })
+          record { kept = rules plan keeps .grid-kept; enough = rw are at (long .marks-long) }
 
 -- ---- an accepted call
 
@@ -90,13 +81,13 @@ unfolding taskAnswer lentRows sizesOf
 performable plan heights marks strips output t k e =
     let kept = not-due _ _ _ _ e in
     let lengths = lengthRows (sizesOf plan) (length marks) (length strips) (length heights) (length output) in
-    let verdict = verdictRows (blockRows plan) (blockColumns plan) marks t k in
+    let verdict = verdictRows (plan .grid) marks t k in
     let both : firstOf (firstDue lengths) (firstDue verdict) ≡ accepted = sym (first-append lengths verdict) ∙ kept .others in
     let long =
     long-enough (sizesOf plan) (length marks) (length strips) (length heights) (length output)
     (first-accepted (firstDue lengths) (firstDue verdict) both) in
     let settable =
-    accepted-settable (blockRows plan) (blockColumns plan) marks t k
+    accepted-settable (plan .grid) marks t k
     (second-accepted (firstDue lengths) (firstDue verdict) both) in
     record {
       fits =

@@ -1,4 +1,4 @@
--- What the inner functions ask of their callers.
+-- Inner: what the inner functions ask of their callers.
 use mathlib.Core.Path.{_≡_}
 use mathlib.Core.Bool.{true}
 use Prim.Native.Nat.{ℕ, _≤_, _<_}

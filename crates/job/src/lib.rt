@@ -5,9 +5,9 @@ use refusal::Outcome;
 ghost use mathlib.Core.Path.{_≡_};
 ghost use Prim.Native.Nat.{_≤_};
 ghost use lib.ListN.{length};
-ghost use Rattle.refusal.specs.Table.{accepted, answerOf, ifAccepted};
-ghost use Rattle.job_spec.specs.Calls.{lists, startAnswer, unmarked, cleared, marksAfterStart, stripsAfterStart};
-ghost use Rattle.job_spec.specs.Calls.{taskAnswer, stripsAfter, outputAfter, performed, afterTask, callsOf};
+ghost use Rattle.refusal.specs.Refusals.{accepted};
+ghost use Rattle.refusal.specs.Table.{answerOf, ifAccepted};
+ghost use Rattle.job_spec.specs.Calls.{lists, startAnswer, unmarked, marksAfterStart, stripsAfterStart, taskAnswer, stripsAfter, outputAfter, performed, afterTask, callsOf};
 ghost use Rattle.job.specs.Fits.{Fits};
 ghost use Rattle.job.specs.RunCalls.{Ran};
 
@@ -28,7 +28,7 @@ pub fn start(plan: Plan, marks: &mut [u32], strips: &mut [u64]) -> Outcome
                 return Outcome::Refused(refusal);
             }
             unmark(marks, sizes.marks);
-            clear(strips, sizes.strips);
+            buffer::clear_words(strips, 0, 1, sizes.strips);
             Outcome::Accepted
         }
         PlanSizes::Refused(refusal) => Outcome::Refused(refusal),
@@ -44,18 +44,6 @@ fn unmark(marks: &mut [u32], count: usize)
     while block < count {
         marks[block] = UNMARKED;
         block += 1;
-    }
-}
-
-// The first `count` words are 0.
-fn clear(words: &mut [u64], count: usize)
-    requires { ⌜ count ≤ length (now words) ⌝ }
-    ensures { λ _. ⌜ now (words .exit) ≡ cleared count (now (words .entry)) ⌝ }
-{
-    let mut place = 0;
-    while place < count {
-        words[place] = 0;
-        place += 1;
     }
 }
 
@@ -101,7 +89,7 @@ fn task_outcome(
             if let Outcome::Refused(refusal) = lengths {
                 return Outcome::Refused(refusal);
             }
-            tasks::verdict(sizes.block_rows, sizes.block_columns, marks, task, block)
+            tasks::verdict(plan.grid, marks, task, block)
         }
         PlanSizes::Refused(refusal) => Outcome::Refused(refusal),
     }
@@ -157,7 +145,7 @@ pub fn run_calls(
 ) -> usize
     ensures { λ r. ⌜ Ran plan (now (map .entry)) (callsOf (now (tasks .entry)) (now (blocks .entry))) (lists (now (marks .entry)) (now (strips .entry)) (now (output .entry))) (lists (now (marks .exit)) (now (strips .exit)) (now (output .exit))) r ⌝ }
 {
-    let count = tasks::smaller(tasks.len(), blocks.len());
+    let count = number::lesser(tasks.len(), blocks.len());
     let mut accepted = 0;
     let mut i = 0;
     while i < count {

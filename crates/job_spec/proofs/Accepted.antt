@@ -5,10 +5,10 @@ use mathlib.Core.Bool.{Bool, true, false, cond}
 use mathlib.Core.List.{List, [], _∷_}
 use Prim.Native.Nat.{ℕ, zero, suc, _+_, _<_}
 use native.Mathlib.Omega.{arith}
-use Rattle.refusal.specs.Table.{accepted, ifAccepted}
+use Rattle.refusal.specs.Refusals.{accepted}
+use Rattle.refusal.specs.Table.{ifAccepted}
 use Rattle.refusal.proofs.Table.{not-accepted}
 use Rattle.plan.specs.declared.Plan.{Plan}
-use Rattle.plan.specs.Sizes.{blockRows, blockColumns}
 use Rattle.tasks.specs.Tasks.{BlockTask, ready, nothingDone, alsoDone}
 use Rattle.tasks.specs.Counts.{doneCount}
 use Rattle.tasks.proofs.Counting.{count-nothing}
@@ -22,23 +22,23 @@ use Rattle.job_spec.proofs.Step.{clash}
 module _ (plan : Plan) where
   -- An accepted call makes one task more done, a refused one none.
   one-more : (done : ℕ → ℕ → Bool) (call : BlockTask)
-      → doneCount (blockRows plan) (blockColumns plan) (doneBy plan done call)
-      ≡ doneCount (blockRows plan) (blockColumns plan) done
+      → doneCount (plan .grid) (doneBy plan done call)
+      ≡ doneCount (plan .grid) done
       + ifAccepted (dueAnswer plan done call) 1 0
   unfolding doneBy
   one-more done call =
       rw (by-ready {A = ℕ} plan done call 1 0)
-      (by (ready (blockRows plan) (blockColumns plan) done (call .task) (call .block)) refl)
+      (by (ready (plan .grid) done (call .task) (call .block)) refl)
     where
-      by : (test : Bool) → ready (blockRows plan) (blockColumns plan) done (call .task) (call .block) ≡ test
-          → doneCount (blockRows plan) (blockColumns plan) (cond test (alsoDone done (call .task) (call .block)) done)
-          ≡ doneCount (blockRows plan) (blockColumns plan) done + cond test 1 0
-      by true r = count-ready (blockRows plan) (blockColumns plan) done (call .task) (call .block) r
+      by : (test : Bool) → ready (plan .grid) done (call .task) (call .block) ≡ test
+          → doneCount (plan .grid) (cond test (alsoDone done (call .task) (call .block)) done)
+          ≡ doneCount (plan .grid) done + cond test 1 0
+      by true r = count-ready (plan .grid) done (call .task) (call .block) r
       by false r = omega arith
 
   count-from : (done : ℕ → ℕ → Bool) (calls : List BlockTask)
-      → doneCount (blockRows plan) (blockColumns plan) (doneFrom plan done calls)
-      ≡ doneCount (blockRows plan) (blockColumns plan) done + acceptedCount (dueFrom plan done calls)
+      → doneCount (plan .grid) (doneFrom plan done calls)
+      ≡ doneCount (plan .grid) done + acceptedCount (dueFrom plan done calls)
   unfolding doneFrom dueFrom acceptedCount
   count-from done [] = omega arith
   count-from done (call ∷ calls) =
@@ -50,7 +50,7 @@ module _ (plan : Plan) where
   unfolding doneAfter
   accepted-done calls =
       let all = count-from nothingDone calls in
-      let none = count-nothing (blockRows plan) (blockColumns plan) in
+      let none = count-nothing (plan .grid) in
       omega arith
 
   -- ---- no task is accepted twice
@@ -58,7 +58,7 @@ module _ (plan : Plan) where
   -- A task that is done stays done.
   stays-done : (done : ℕ → ℕ → Bool) (call : BlockTask) (t k : ℕ) → done t k ≡ true → doneBy plan done call t k ≡ true
   unfolding doneBy
-  stays-done done call t k d = by (ready (blockRows plan) (blockColumns plan) done (call .task) (call .block))
+  stays-done done call t k d = by (ready (plan .grid) done (call .task) (call .block))
     where
       by : (test : Bool) → cond test (alsoDone done (call .task) (call .block)) done t k ≡ true
       by true = also-kept done (call .task) (call .block) t k d
@@ -75,7 +75,7 @@ module _ (plan : Plan) where
       → dueAnswer plan done call ≡ accepted → ⊥
   not-again done call d e =
       clash d
-      (ready-undone (blockRows plan) (blockColumns plan) done (call .task) (call .block)
+      (ready-undone (plan .grid) done (call .task) (call .block)
       (accepted-if-ready plan done call .0 e))
 
   -- nor is any later one of it.

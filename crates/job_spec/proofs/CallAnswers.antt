@@ -5,7 +5,6 @@ use mathlib.Core.List.{[], _∷_}
 use Prim.Native.Nat.{ℕ}
 use Rattle.refusal.specs.Table.{_at_when_, firstDue, ifAccepted}
 use Rattle.plan.specs.declared.Plan.{Plan}
-use Rattle.plan.specs.Sizes.{blockRows, blockColumns}
 use Rattle.tasks.specs.Tasks.{BlockTask, exists, needsOf, allDone, ready}
 use Rattle.tasks.specs.Verdict.{doneRows}
 use Rattle.tasks.proofs.Verdicts.{accepted-ready, ready-accepted}
@@ -13,11 +12,11 @@ use Rattle.job_spec.specs.Demand3.{dueAnswer, AcceptedIfReady}
 
 pub by-ready : {A : Type 0} (plan : Plan) (done : ℕ → ℕ → Bool) (call : BlockTask) (accepted refused : A)
     → ifAccepted (dueAnswer plan done call) accepted refused
-    ≡ cond (ready (blockRows plan) (blockColumns plan) done (call .task) (call .block)) accepted refused
+    ≡ cond (ready (plan .grid) done (call .task) (call .block)) accepted refused
 unfolding dueAnswer doneRows ready
 by-ready plan done call a b =
-    by (exists (blockRows plan) (blockColumns plan) (call .task) (call .block)) (done (call .task) (call .block))
-    (allDone done (needsOf (blockRows plan) (blockColumns plan) (call .task) (call .block)))
+    by (exists (plan .grid) (call .task) (call .block)) (done (call .task) (call .block))
+    (allDone done (needsOf (plan .grid) (call .task) (call .block)))
   where
     by : (x d y : Bool)
         → ifAccepted (firstDue (8 at 0 when not x ∷ 10 at 0 when d ∷ 11 at 0 when not y ∷ [])) a b
@@ -30,6 +29,6 @@ by-ready plan done call a b =
 pub accepted-if-ready : AcceptedIfReady
 unfolding dueAnswer
 accepted-if-ready plan done call = (
-  accepted-ready (blockRows plan) (blockColumns plan) done (call .task) (call .block),
-  ready-accepted (blockRows plan) (blockColumns plan) done (call .task) (call .block),
+  accepted-ready (plan .grid) done (call .task) (call .block),
+  ready-accepted (plan .grid) done (call .task) (call .block),
 )

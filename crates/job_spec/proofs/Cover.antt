@@ -6,23 +6,15 @@ use Prim.Native.Nat.{ℕ, zero, suc, _+_, _-_, _*_, _/_, _%_, _≤_, _<_}
 use native.Mathlib.Nat.{div-add-mod'}
 use native.Mathlib.Omega.{arith}
 use Rattle.plan.specs.declared.Plan.{Plan}
-use Rattle.plan.specs.Sizes.{orderSum, neededMarks, neededPixels}
-use Rattle.plan.proofs.Tests.{lt-or-ge}
-use Rattle.plan.proofs.Blocks.{place-counted, place-in-extent}
-use Rattle.passes.specs.Passes.{Axis, columns, rows, axisOf}
-use Rattle.task_words.specs.Geometry.{blockNumber, firstRow, firstColumn, rowsOf, columnsOf, blockPixelPlace}
-use Rattle.task_words.specs.Strips.{
-  orderOf,
-  slotWords,
-  slotStart,
-  stripStart,
-  placeInStrip,
-  lineInStrip,
-  placeInLine,
-  stripPlace,
-}
-use Rattle.filter.proofs.RowMajor.{row-below, column-below}
-use Rattle.task_words.proofs.Geometry.{number-below, row-of-number, column-of-number}
+use Rattle.plan.specs.Sizes.{orderSum, neededMarks, neededPixels, orderOf}
+use Rattle.number.specs.Numbers.{total}
+use Rattle.number.proofs.Tests.{lt-or-ge}
+use Rattle.grid.proofs.Extents.{place-counted, place-in-extent}
+use Rattle.axis.specs.Axis.{Axis, columns, rows, axisOf}
+use Rattle.grid.specs.Grid.{blockNumber, firstRow, firstColumn, rowsOf, columnsOf, blockPixelPlace}
+use Rattle.task_words.specs.Strips.{slotWords, slotStart, stripStart, placeInStrip, lineInStrip, placeInLine, stripPlace}
+use Rattle.number.proofs.RowMajor.{row-below, column-below}
+use Rattle.grid.proofs.Blocks.{number-below, row-of-number, column-of-number}
 use Rattle.task_words.proofs.Strips.{line-below, line-place-below}
 
 -- ---- words of a slot
@@ -33,26 +25,26 @@ place-back rows b r q = div-add-mod' q r
 
 -- A word that stands in no strip of block k stands outside its slot.
 module _ (plan : Plan) (k q : ℕ)
-    (out : (pass line place : ℕ) → pass < 4 → line < plan .side → place < orderOf plan pass
+    (out : (pass line place : ℕ) → pass < 4 → line < plan .grid .side → place < orderOf plan pass
     → q ≢ stripPlace plan k pass line place) where
-  no-strip : (pass p : ℕ) → pass < 4 → p < plan .side * orderOf plan pass → q ≢ stripStart plan k pass + p
+  no-strip : (pass p : ℕ) → pass < 4 → p < plan .grid .side * orderOf plan pass → q ≢ stripStart plan k pass + p
   unfolding stripPlace
   no-strip pass p h l e =
       let a = axisOf pass in
-      let b = plan .side in
+      let b = plan .grid .side in
       let r = orderOf plan pass in
       out pass _ _ h (line-below b r a p l) (line-place-below b r a p l)
       (e ∙ ap (stripStart plan k pass +_) (sym (place-back a b r p)))
 
-  first-strips : (n i : ℕ) → n ≤ 4 → i < plan .side * orderSum plan n → q ≢ slotStart plan k + i
-  unfolding orderSum
+  first-strips : (n i : ℕ) → n ≤ 4 → i < plan .grid .side * orderSum plan n → q ≢ slotStart plan k + i
+  unfolding total
   first-strips zero i h l e = omega arith
   first-strips (suc n) i h l e =
       ⊎-elim
-      (λ (below : i < plan .side * orderSum plan n). first-strips n i (omega arith) below e)
-      (λ (from : plan .side * orderSum plan n ≤ i).
-      no-strip n (i - plan .side * orderSum plan n) h (omega arith) (omega arith))
-      (lt-or-ge i (plan .side * orderSum plan n))
+      (λ (below : i < plan .grid .side * orderSum plan n). first-strips n i (omega arith) below e)
+      (λ (from : plan .grid .side * orderSum plan n ≤ i).
+      no-strip n (i - plan .grid .side * orderSum plan n) h (omega arith) (omega arith))
+      (lt-or-ge i (plan .grid .side * orderSum plan n))
 
   pub outside-slot : (i : ℕ) → i < slotWords plan → q ≢ slotStart plan k + i
   outside-slot i l e = first-strips 4 i (omega arith) l e
@@ -65,34 +57,34 @@ pub record PixelOf (plan : Plan) (q : ℕ) : Type 0 where
   pub y : ℕ
   pub x : ℕ
   pub block-below : block < neededMarks plan
-  pub row-below : y < rowsOf plan block
-  pub column-below : x < columnsOf plan block
-  pub row-is : firstRow plan block + y ≡ q / plan .columns
-  pub column-is : firstColumn plan block + x ≡ q % plan .columns
-  pub place-is : blockPixelPlace plan block y x ≡ q
+  pub row-below : y < rowsOf (plan .grid) block
+  pub column-below : x < columnsOf (plan .grid) block
+  pub row-is : firstRow (plan .grid) block + y ≡ q / plan .grid .columns
+  pub column-is : firstColumn (plan .grid) block + x ≡ q % plan .grid .columns
+  pub place-is : blockPixelPlace (plan .grid) block y x ≡ q
 
-pub pixel-of : (plan : Plan) → 1 ≤ plan .side → (q : ℕ) → q < neededPixels plan → PixelOf plan q
+pub pixel-of : (plan : Plan) → 1 ≤ plan .grid .side → (q : ℕ) → q < neededPixels plan → PixelOf plan q
 unfolding blockPixelPlace
 pixel-of plan side q h =
-    let b = plan .side in
-    let row = q / plan .columns in
-    let column = q % plan .columns in
-    let in-rows = row-below (plan .rows) (plan .columns) q h in
-    let in-columns = column-below (plan .rows) (plan .columns) q h in
-    let m = place-counted (plan .rows) b side row in-rows in
-    let n = place-counted (plan .columns) b side column in-columns in
-    let m-is = row-of-number plan (row / b) (column / b) n in
-    let n-is = column-of-number plan (row / b) (column / b) n in
+    let b = plan .grid .side in
+    let row = q / plan .grid .columns in
+    let column = q % plan .grid .columns in
+    let in-rows = row-below (plan .grid .rows) (plan .grid .columns) q h in
+    let in-columns = column-below (plan .grid .rows) (plan .grid .columns) q h in
+    let m = place-counted (plan .grid .rows) b side row in-rows in
+    let n = place-counted (plan .grid .columns) b side column in-columns in
+    let m-is = row-of-number (plan .grid) (row / b) (column / b) n in
+    let n-is = column-of-number (plan .grid) (row / b) (column / b) n in
     record {
-      block = blockNumber plan (row / b) (column / b);
+      block = blockNumber (plan .grid) (row / b) (column / b);
       y = row % b;
       x = column % b;
-      block-below = number-below plan (row / b) (column / b) m n;
-      row-below = rw m-is (place-in-extent (plan .rows) b row side in-rows);
-      column-below = rw n-is (place-in-extent (plan .columns) b column side in-columns);
+      block-below = number-below (plan .grid) (row / b) (column / b) m n;
+      row-below = rw m-is (place-in-extent (plan .grid .rows) b row side in-rows);
+      column-below = rw n-is (place-in-extent (plan .grid .columns) b column side in-columns);
       row-is = rw m-is (div-add-mod' row b);
       column-is = rw n-is (div-add-mod' column b);
       place-is =
           rw (m-is, n-is)
-          (ap₂ (λ v u. v * plan .columns + u) (div-add-mod' row b) (div-add-mod' column b) ∙ div-add-mod' q (plan .columns));
+          (ap₂ (λ v u. v * plan .grid .columns + u) (div-add-mod' row b) (div-add-mod' column b) ∙ div-add-mod' q (plan .grid .columns));
     }

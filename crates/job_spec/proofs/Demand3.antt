@@ -4,73 +4,53 @@ use mathlib.Core.Path.{_≡_, refl, ap, ap₂, sym, _∙_}
 use mathlib.Core.Bool.{Bool, true, false, cond, false≢true}
 use mathlib.Core.List.{List, [], _∷_, map}
 use mathlib.Core.Logic.{_⊎_, ⊎-elim}
-use Prim.Native.Nat.{ℕ, _/_, _%_, _≤_, _<_}
+use Prim.Native.Nat.{ℕ, _+_, _*_, _≤_, _<_}
 use native.Mathlib.Omega.{arith}
 use lib.IntN.{ℤ}
 use lib.Dec.{ltb}
 use lib.ListN.{length}
-use borrow.Author.Tests.{ltb-false, lt-ltb, le-ltb, not-false}
-use Rattle.refusal.specs.Table.{accepted, refused, _at_when_, firstDue}
-use Rattle.refusal.proofs.Table.{refused-before, not-due}
+use borrow.Author.Tests.{lt-ltb, le-ltb}
+use Rattle.refusal.specs.Refusals.{accepted, refused}
+use Rattle.refusal.specs.Table.{_at_when_, firstDue}
+use Rattle.refusal.proofs.Table.{refused-before}
 use Rattle.plan.specs.declared.Plan.{Plan}
 use Rattle.plan.specs.Rules.{keepsRules}
-use Rattle.plan.specs.Sizes.{blockRows, blockColumns, neededMarks, neededStrips, neededPixels, taskCount, sizesOf}
-use Rattle.plan.specs.Lists.{wordAt}
+use Rattle.plan.specs.Sizes.{neededMarks, neededStrips, neededPixels, taskCount, sizesOf}
+use Rattle.buffer.specs.Lists.{wordAt}
+use Rattle.buffer.specs.Written.{cleared}
 use Rattle.plan.proofs.Needed.{bounds}
 use Rattle.tasks.specs.Tasks.{BlockTask, hasTask, ready, nothingDone, alsoDone}
 use Rattle.tasks.specs.Counts.{doneCount}
 use Rattle.tasks.specs.Marks.{markOf}
-use Rattle.tasks.proofs.Places.{has-exists, exists-block}
+use Rattle.tasks.proofs.Existence.{has-exists, exists-block}
 use Rattle.tasks.proofs.Counting.{Only, task-count, all-of-count}
 use Rattle.tasks.proofs.Verdicts.{verdict-shown, ready-accepted}
 use Rattle.tasks.proofs.Progress.{Sound, sound-nothing}
 use Rattle.report.specs.Report.{progressOf, report}
 use Rattle.report.specs.Values.{valuesOf}
 use Rattle.report.proofs.Claims.{told, reported}
-use Rattle.task_words.specs.Writes.{mapOf}
-use Rattle.task_words.specs.Matching.{serialResult}
-use Rattle.filter.proofs.Written.{written-length, written-other, written-at}
-use Rattle.task_words.proofs.Geometry.{side-fits}
+use Rattle.filter.specs.PlanFilters.{mapOf, serialResult}
+use Rattle.buffer.proofs.Written.{written-length, written-other, written-at}
+use Rattle.serial.specs.Serial.{serialWords, serialOutput}
+use Rattle.serial.proofs.SerialAnswers.{long-enough as serial-accepts, output-of-accepted}
+use Rattle.serial.proofs.FirstWords.{first-words}
+use Rattle.grid.proofs.Blocks.{pixel-below}
+use Rattle.task_words.proofs.Places.{side-fits}
 use Rattle.task_words.proofs.Strips.{strip-place-below}
-use Rattle.job_spec.specs.Calls.{
-  Buffers,
-  startAnswer,
-  unmarked,
-  cleared,
-  marksAfterStart,
-  stripsAfterStart,
-  started,
-  lentRows,
-  taskAnswer,
-  performed,
-  afterTask,
-  afterCalls,
-  answersOf,
-  acceptedCount,
-}
-use Rattle.job_spec.specs.Demand3.{
-  doneBy,
-  doneFrom,
-  doneAfter,
-  dueAnswer,
-  dueFrom,
-  progressAfter,
-  Finished,
-  Demand3,
-  RefusedThroughout,
-  ShortRefused,
-}
+use Rattle.job_spec.specs.Calls.{Buffers, startAnswer, unmarked, marksAfterStart, stripsAfterStart, started, lentRows, taskAnswer, performed, afterTask, afterCalls, answersOf, acceptedCount}
+use Rattle.job_spec.specs.Demand3.{doneBy, doneFrom, doneAfter, dueAnswer, dueFrom, progressAfter, Finished, Demand3, RefusedThroughout, ShortRefused}
 use Rattle.job_spec.proofs.CallAnswers.{by-ready, accepted-if-ready}
 use Rattle.job_spec.proofs.Accepted.{accepted-done, once}
 use Rattle.job_spec.proofs.Cover.{pixel-of}
 use Rattle.job_spec.proofs.Invariant.{OutputKept, Kept, LongEnough}
 use Rattle.job_spec.proofs.Step.{step}
+use Rattle.job_spec.proofs.Start.{Accepts, start-tells}
 
 -- ---- one call
 
 module _ (plan : Plan) (heights : List ℤ) (before : Buffers) (enough : LongEnough plan heights before) where
-  only : (done : ℕ → ℕ → Bool) → Sound (blockRows plan) (blockColumns plan) done
-      → Only (blockRows plan) (blockColumns plan) done
+  only : (done : ℕ → ℕ → Bool) → Sound (plan .grid) done
+      → Only (plan .grid) done
   only done sound t k _ _ e = sound .exist t k e
 
   -- A call is answered by what is done.
@@ -85,7 +65,7 @@ module _ (plan : Plan) (heights : List ℤ) (before : Buffers) (enough : LongEno
         le-ltb (length heights) (neededPixels plan) (enough .map-long),
         le-ltb (length (now .output)) (neededPixels plan) (rw (kept .output-kept .long) (enough .output-long)),
       )
-      (verdict-shown (blockRows plan) (blockColumns plan) done (now .marks) (kept .marks-kept .shows) (only done (kept .sound))
+      (verdict-shown (plan .grid) done (now .marks) (kept .marks-kept .shows) (only done (kept .sound))
       (call .task) (call .block))
 
   call-kept : (done : ℕ → ℕ → Bool) (now : Buffers) → Kept plan heights before done now → (call : BlockTask)
@@ -96,9 +76,9 @@ module _ (plan : Plan) (heights : List ℤ) (before : Buffers) (enough : LongEno
         answered done now kept call,
         by-ready plan done call (performed plan heights (call .task) (call .block) now) now,
       )
-      (by (ready (blockRows plan) (blockColumns plan) done (call .task) (call .block)) refl)
+      (by (ready (plan .grid) done (call .task) (call .block)) refl)
     where
-      by : (test : Bool) → ready (blockRows plan) (blockColumns plan) done (call .task) (call .block) ≡ test
+      by : (test : Bool) → ready (plan .grid) done (call .task) (call .block) ≡ test
           → Kept plan heights before (cond test (alsoDone done (call .task) (call .block)) done)
           (cond test (performed plan heights (call .task) (call .block) now) now)
       by true r =
@@ -130,43 +110,27 @@ module _ (plan : Plan) (heights : List ℤ) (before : Buffers) (enough : LongEno
 
 -- ---- the start
 
-pub record Accepts (plan : Plan) (marks strips : List ℕ) : Type 0 where
-  pub rules : keepsRules plan ≡ true
-  pub marks-long : neededMarks plan ≤ length marks
-  pub strips-long : neededStrips plan ≤ length strips
-
-pub start-accepts : (plan : Plan) (marks strips : List ℕ) → startAnswer plan marks strips ≡ accepted
-    → Accepts plan marks strips
-unfolding startAnswer
-start-accepts plan marks strips e =
-    let kept = not-due _ _ _ _ e in
-    let marks-tested = not-due _ _ _ _ (kept .others) in
-    let strips-tested = not-due _ _ _ _ (marks-tested .others) in
-    record {
-      rules = not-false (keepsRules plan) (kept .first);
-      marks-long = ltb-false (length marks) (neededMarks plan) (marks-tested .first);
-      strips-long = ltb-false (length strips) (neededStrips plan) (strips-tested .first);
-    }
-
 -- The lists that the invariant compares with: marks and output as lent, strips as start leaves them.
 abbrev compared : Plan → Buffers → Buffers
 compared plan lent =
-    record { marks = lent .marks; strips = cleared (neededStrips plan) (lent .strips); output = lent .output }
+    record { marks = lent .marks; strips = cleared 0 1 (neededStrips plan) (lent .strips); output = lent .output }
 
 module _ (plan : Plan) (heights : List ℤ) (lent : Buffers) (start-accepted : startAnswer plan (lent .marks) (lent .strips) ≡ accepted)
     (accepts : Accepts plan (lent .marks) (lent .strips)) where
   -- The needed strip words are 0, the others as lent.
-  started-zero : (q : ℕ) → q < neededStrips plan → wordAt (cleared (neededStrips plan) (lent .strips)) q ≡ 0
+  started-zero : (q : ℕ) → q < neededStrips plan → wordAt (cleared 0 1 (neededStrips plan) (lent .strips)) q ≡ 0
   unfolding cleared
   started-zero q h =
-      written-at (λ q. q) (λ q. 0) (neededStrips plan) (lent .strips) (λ i j a b. omega arith)
+      let e : 0 + q * 1 ≡ q = omega arith in
+      ap (wordAt (cleared 0 1 (neededStrips plan) (lent .strips))) (sym e)
+      ∙ written-at (λ i. 0 + i * 1) (λ i. 0) (neededStrips plan) (lent .strips) (λ i j a b. omega arith)
       (λ i a. omega (arith, accepts .strips-long)) q h
 
-  started-past : (q : ℕ) → neededStrips plan ≤ q → wordAt (cleared (neededStrips plan) (lent .strips)) q ≡ wordAt (lent .strips) q
+  started-past : (q : ℕ) → neededStrips plan ≤ q → wordAt (cleared 0 1 (neededStrips plan) (lent .strips)) q ≡ wordAt (lent .strips) q
   unfolding cleared
   started-past q h = written-other _ _ (neededStrips plan) (lent .strips) q (λ i a. omega arith)
 
-  started-length : length (cleared (neededStrips plan) (lent .strips)) ≡ length (lent .strips)
+  started-length : length (cleared 0 1 (neededStrips plan) (lent .strips)) ≡ length (lent .strips)
   unfolding cleared
   started-length = written-length _ _ (neededStrips plan) (lent .strips)
 
@@ -186,7 +150,7 @@ module _ (plan : Plan) (heights : List ℤ) (lent : Buffers) (start-accepted : s
   start-kept =
       rw start-accepted
       (record {
-        sound = sound-nothing (blockRows plan) (blockColumns plan);
+        sound = sound-nothing (plan .grid);
         marks-kept =
             record {
               long = written-length _ _ (neededMarks plan) (lent .marks);
@@ -210,30 +174,37 @@ module _ (plan : Plan) (heights : List ℤ) (lent : Buffers) (start-accepted : s
 
 -- With all tasks done every block is finished.
 all-finished : (plan : Plan) → keepsRules plan ≡ true → (done : ℕ → ℕ → Bool)
-    → Sound (blockRows plan) (blockColumns plan) done
-    → doneCount (blockRows plan) (blockColumns plan) done ≡ taskCount plan → (k : ℕ) → k < neededMarks plan → Finished done k
+    → Sound (plan .grid) done
+    → doneCount (plan .grid) done ≡ taskCount plan → (k : ℕ) → k < neededMarks plan → Finished done k
 unfolding hasTask
 all-finished plan kept done sound all k h =
     let known = bounds plan kept in
-    all-of-count (blockRows plan) (blockColumns plan) done (λ t k _ _ e. sound .exist t k e)
-    (all ∙ sym (task-count (blockRows plan) (blockColumns plan) (known .block-rows-low) (known .block-columns-low)))
-    5 k (has-exists (blockRows plan) (blockColumns plan) k h 5 refl)
+    all-of-count (plan .grid) done (λ t k _ _ e. sound .exist t k e)
+    (all ∙ sym (task-count (plan .grid) (known .block-rows-low) (known .block-columns-low)))
+    5 k (has-exists (plan .grid) k h 5 refl)
 
--- With every block finished every word below h×w is the result of left.
-whole-output : (plan : Plan) → 1 ≤ plan .side → (X : ℕ → ℕ → ℕ) (before : List ℕ) (done : ℕ → ℕ → Bool) (output : List ℕ)
-    → OutputKept plan X before done output → ((k : ℕ) → k < neededMarks plan → Finished done k) → (q : ℕ)
-    → q < neededPixels plan → wordAt output q ≡ serialResult plan X 4 (q / plan .columns) (q % plan .columns)
-whole-output plan side X before done output kept all q h =
-    let pixel = pixel-of plan side q h in
+-- With every block finished the output is that of the serial call: its words below h×w are the result of left, and the others are
+-- in no block.
+whole-output : (plan : Plan) → keepsRules plan ≡ true → (heights : List ℤ) → neededPixels plan ≤ length heights
+    → (before : List ℕ) → neededPixels plan ≤ length before → (done : ℕ → ℕ → Bool) (output : List ℕ)
+    → OutputKept plan (mapOf plan heights) before done output → ((k : ℕ) → k < neededMarks plan → Finished done k)
+    → output ≡ serialOutput plan heights before
+unfolding serialWords
+whole-output plan rules heights map-long before long done output kept all =
+    first-words (neededPixels plan) _ before output long (kept .long)
+    (λ q h.
+    let pixel = pixel-of plan (side-fits plan rules .side-low) q h in
     ap (wordAt output) (sym (pixel .place-is))
     ∙ kept .finished (pixel .block) (pixel .y) (pixel .x) (all (pixel .block) (pixel .block-below)) (pixel .row-below)
     (pixel .column-below)
-    ∙ ap₂ (serialResult plan X 4) (pixel .row-is) (pixel .column-is)
+    ∙ ap₂ (serialResult plan (mapOf plan heights) 4) (pixel .row-is) (pixel .column-is))
+    (λ q past. kept .others q (λ k y x finished a b e. omega (arith, pixel-below (plan .grid) k y x a b)))
+    ∙ output-of-accepted plan heights before (serial-accepts plan (length heights) (length before) rules map-long long)
 
 pub demand3 : Demand3
 unfolding doneAfter progressOf dueAnswer
 demand3 plan heights lent start-accepted map-long output-long calls =
-    let accepts = start-accepts plan (lent .marks) (lent .strips) start-accepted in
+    let accepts = start-tells plan (lent .marks) (lent .strips) start-accepted in
     let before = compared plan lent in
     let enough = long-enough plan heights lent start-accepted accepts map-long output-long in
     let done = doneFrom plan nothingDone calls in
@@ -256,7 +227,7 @@ demand3 plan heights lent start-accepted map-long output-long calls =
       strips-past = λ q h.
           strips .others q
           (λ k pass line place c p a b e.
-          let here = exists-block (blockRows plan) (blockColumns plan) 0 k (kept .sound .exist 0 k c) in
+          let here = exists-block (plan .grid) 0 k (kept .sound .exist 0 k c) in
           omega (arith, strip-place-below plan k pass line place here p a b))
           ∙ started-past plan heights lent start-accepted accepts q h;
       marks-past = kept .marks-kept .past;
@@ -273,11 +244,11 @@ demand3 plan heights lent start-accepted map-long output-long calls =
           rw (made, e) (
             refl,
             answered plan heights before enough done _ kept (record { task = t; block = k })
-                ∙ ready-accepted (blockRows plan) (blockColumns plan) done t k (first .holds),
+                ∙ ready-accepted (plan .grid) done t k (first .holds),
           );
       names-none = λ all. let (none, tally) = says .none all in rw (made, none, tally, all);
       whole-job = λ all.
-          whole-output plan (side-fits plan (accepts .rules) .side-low) (mapOf plan heights) (lent .output) done _ (kept .output-kept)
+          whole-output plan (accepts .rules) heights map-long (lent .output) output-long done _ (kept .output-kept)
           (all-finished plan (accepts .rules) done (kept .sound) all);
     }
 
@@ -285,10 +256,10 @@ demand3 plan heights lent start-accepted map-long output-long calls =
 pub next-ready : (plan : Plan) (heights : List ℤ) (lent : Buffers) → startAnswer plan (lent .marks) (lent .strips) ≡ accepted
     → neededPixels plan ≤ length heights → neededPixels plan ≤ length (lent .output) → (calls : List BlockTask) (t k : ℕ)
     → taskAnswer plan heights (afterCalls plan heights calls (started plan lent)) t k ≡ accepted
-    → ready (blockRows plan) (blockColumns plan) (doneAfter plan calls) t k ≡ true
+    → ready (plan .grid) (doneAfter plan calls) t k ≡ true
 unfolding doneAfter
 next-ready plan heights lent start-accepted map-long output-long calls t k e =
-    let accepts = start-accepts plan (lent .marks) (lent .strips) start-accepted in
+    let accepts = start-tells plan (lent .marks) (lent .strips) start-accepted in
     let before = compared plan lent in
     let enough = long-enough plan heights lent start-accepted accepts map-long output-long in
     let start = start-kept plan heights lent start-accepted accepts in
@@ -331,7 +302,7 @@ short-lists : (plan : Plan) (heights : List ℤ) (lent : Buffers) → startAnswe
     → firstDue (lentRows plan heights (started plan lent)) ≡ refused 7 0
 unfolding lentRows sizesOf started
 short-lists plan heights lent e =
-    let rules = start-accepts plan (lent .marks) (lent .strips) e .rules in
+    let rules = start-tells plan (lent .marks) (lent .strips) e .rules in
     let marks = ltb (length (started plan lent .marks)) (neededMarks plan) in
     let strips = ltb (length (started plan lent .strips)) (neededStrips plan) in
     ⊎-elim

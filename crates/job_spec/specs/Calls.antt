@@ -6,15 +6,17 @@ use Prim.Native.Nat.{ℕ, zero, suc, _+_, min}
 use lib.IntN.{ℤ}
 use lib.Dec.{ltb, eqb}
 use lib.ListN.{length, getD}
-use Rattle.refusal.specs.Table.{Answer, Row, _at_when_, firstDue, ifAccepted}
+use Rattle.refusal.specs.Refusals.{Answer}
+use Rattle.refusal.specs.Table.{Row, _at_when_, firstDue, ifAccepted}
 use Rattle.plan.specs.declared.Plan.{Plan}
 use Rattle.plan.specs.Rules.{keepsRules}
-use Rattle.plan.specs.Sizes.{blockRows, blockColumns, neededMarks, neededStrips, sizesOf, lengthRows}
+use Rattle.plan.specs.Sizes.{neededMarks, neededStrips, sizesOf, lengthRows}
 use Rattle.tasks.specs.Tasks.{BlockTask, nothingDone}
 use Rattle.tasks.specs.Marks.{markOf, withBit}
 use Rattle.tasks.specs.Verdict.{verdictRows}
-use Rattle.filter.specs.Written.{written}
-use Rattle.task_words.specs.Writes.{mapOf, collected, linked, finished}
+use Rattle.buffer.specs.Written.{written, cleared}
+use Rattle.filter.specs.PlanFilters.{mapOf}
+use Rattle.task_words.specs.Writes.{collected, linked, finished}
 
 -- The lists that a job's calls write.
 pub record Buffers : Type 0 where
@@ -41,18 +43,14 @@ startAnswer plan marks strips =
 unfoldable pub unmarked : ℕ → List ℕ → List ℕ
 unmarked n marks = written (λ k. k) (λ k. markOf nothingDone k) n marks
 
--- Words of which the first n are 0.
-unfoldable pub cleared : ℕ → List ℕ → List ℕ
-cleared n words = written (λ q. q) (λ q. 0) n words
-
 -- The marks after a call of start: all needed marks are unmarked, or a refused call leaves them.
 unfoldable pub marksAfterStart : Plan → List ℕ → List ℕ → List ℕ
 marksAfterStart plan marks strips = ifAccepted (startAnswer plan marks strips) (unmarked (neededMarks plan) marks) marks
 
--- The strips after a call of start: all needed strip words are 0, or a refused call leaves them.
+-- The strips after a call of start: all needed strip words, the first and those after it, are 0; or a refused call leaves them.
 unfoldable pub stripsAfterStart : Plan → List ℕ → List ℕ → List ℕ
 stripsAfterStart plan marks strips =
-    ifAccepted (startAnswer plan marks strips) (cleared (neededStrips plan) strips) strips
+    ifAccepted (startAnswer plan marks strips) (cleared 0 1 (neededStrips plan) strips) strips
 
 -- The lists of a job after its start: marks and strips as start leaves them, and the output untouched.
 unfoldable pub started : Plan → Buffers → Buffers
@@ -75,7 +73,7 @@ lentRows plan heights buffers =
 unfoldable pub taskAnswer : Plan → List ℤ → Buffers → ℕ → ℕ → Answer
 taskAnswer plan heights buffers t k =
     firstDue
-    (lentRows plan heights buffers ++ verdictRows (blockRows plan) (blockColumns plan) (buffers .marks) t k)
+    (lentRows plan heights buffers ++ verdictRows (plan .grid) (buffers .marks) t k)
 
 -- The strips after an accepted task: collect writes the block's slot, a link the strip of its pass, finish none.
 unfoldable pub stripsAfter : Plan → List ℤ → ℕ → ℕ → List ℕ → List ℕ

@@ -4,43 +4,36 @@ use mathlib.Core.Path.{_≡_}
 use mathlib.Core.Bool.{Bool, true, false, cond}
 use mathlib.Core.Logic.{_≢_, _⊎_}
 use mathlib.Core.List.{List, [], _∷_, map}
-use Prim.Native.Nat.{ℕ, suc, _+_, _*_, _/_, _%_, _≤_, _<_}
+use Prim.Native.Nat.{ℕ, suc, _+_, _≤_, _<_}
 use lib.IntN.{ℤ}
 use lib.ListN.{length, getD}
-use Rattle.refusal.specs.Table.{Answer, accepted, refused, firstDue}
+use Rattle.refusal.specs.Refusals.{Answer, accepted, refused}
+use Rattle.refusal.specs.Table.{firstDue}
 use Rattle.plan.specs.declared.Plan.{Plan}
 use Rattle.plan.specs.Rules.{keepsRules}
-use Rattle.plan.specs.Sizes.{blockRows, blockColumns, neededMarks, neededStrips, neededPixels, taskCount}
-use Rattle.plan.specs.Lists.{wordAt}
+use Rattle.grid.specs.Grid.{firstRow, firstColumn, rowsOf, columnsOf, blockPixelPlace}
+use Rattle.plan.specs.Sizes.{neededMarks, neededStrips, neededPixels, taskCount, orderOf}
+use Rattle.buffer.specs.Lists.{wordAt}
 use Rattle.tasks.specs.Tasks.{BlockTask, ready, nothingDone, alsoDone}
 use Rattle.tasks.specs.Counts.{doneCount}
 use Rattle.tasks.specs.Marks.{markOf}
 use Rattle.tasks.specs.Verdict.{doneRows}
+use Rattle.serial.specs.Serial.{serialOutput}
 use Rattle.report.specs.declared.Progress.{Progress}
-use Rattle.report.specs.Tally.{blockArea as tallyArea, tally}
-use Rattle.report.specs.Report.{firstReady, report}
-use Rattle.report.specs.Values.{valuesOf}
-use Rattle.task_words.specs.Geometry.{firstRow, firstColumn, rowsOf, columnsOf, blockArea, blockPixelPlace}
-use Rattle.task_words.specs.Strips.{orderOf, stripPlace}
-use Rattle.task_words.specs.Writes.{mapOf, aloneWord}
-use Rattle.task_words.specs.Matching.{serialResult, matchingWord}
-use Rattle.job_spec.specs.Calls.{
-  Buffers,
-  startAnswer,
-  started,
-  lentRows,
-  taskAnswer,
-  afterCalls,
-  answersOf,
-  acceptedCount,
-}
+use Rattle.report.specs.Report.{progressOf, report}
+use Rattle.report.specs.Values.{valuesOf, allDoneValues}
+use Rattle.task_words.specs.Strips.{stripPlace}
+use Rattle.filter.specs.PlanFilters.{mapOf, serialResult}
+use Rattle.task_words.specs.Writes.{aloneWord}
+use Rattle.task_words.specs.Matching.{matchingWord}
+use Rattle.job_spec.specs.Calls.{Buffers, startAnswer, started, lentRows, taskAnswer, afterCalls, answersOf, acceptedCount}
 
 -- ---- what is done
 
 -- A call makes its task done if that task exists there, is not yet done and has all its needs done; no other call does.
 unfoldable pub doneBy : Plan → (ℕ → ℕ → Bool) → BlockTask → ℕ → ℕ → Bool
 doneBy plan done call =
-    cond (ready (blockRows plan) (blockColumns plan) done (call .task) (call .block))
+    cond (ready (plan .grid) done (call .task) (call .block))
     (alsoDone done (call .task) (call .block)) done
 
 -- What is done after more calls.
@@ -56,7 +49,7 @@ doneAfter plan calls = doneFrom plan nothingDone calls
 -- block, 10 where it is done, 11 where a need of it is not, each with place 0; else accepted. 9 cannot be due: marks that begin
 -- with an accepted start never break.
 unfoldable pub dueAnswer : Plan → (ℕ → ℕ → Bool) → BlockTask → Answer
-dueAnswer plan done call = firstDue (doneRows (blockRows plan) (blockColumns plan) done (call .task) (call .block))
+dueAnswer plan done call = firstDue (doneRows (plan .grid) done (call .task) (call .block))
 
 -- These answers for calls one after another.
 unfoldable pub dueFrom : Plan → (ℕ → ℕ → Bool) → List BlockTask → List Answer
@@ -65,16 +58,11 @@ dueFrom plan done (call ∷ calls) = dueAnswer plan done call ∷ dueFrom plan (
 
 -- How many tasks are done after a list of calls.
 abbrev pub countAfter : Plan → List BlockTask → ℕ
-countAfter plan calls = doneCount (blockRows plan) (blockColumns plan) (doneAfter plan calls)
+countAfter plan calls = doneCount (plan .grid) (doneAfter plan calls)
 
 -- What the report is to say after a list of calls: by what is done, with no look at marks.
 abbrev pub progressAfter : Plan → List BlockTask → Progress
-progressAfter plan calls =
-    record {
-      marked = countAfter plan calls;
-      tally = tally (plan .rows) (plan .columns) (plan .side) (blockRows plan) (blockColumns plan) (doneAfter plan calls);
-      next = firstReady (blockRows plan) (blockColumns plan) (doneAfter plan calls);
-    }
+progressAfter plan calls = progressOf (plan .grid) (doneAfter plan calls)
 
 -- ---- what the words of the demand mean, for any table of what is done
 
@@ -89,12 +77,12 @@ Finished done k = done 5 k ≡ true
 -- A word of the output outside finished blocks: it is no pixel of any, whether below h×w or past it.
 abbrev pub OutsideFinished : Plan → (ℕ → ℕ → Bool) → ℕ → Type 0
 OutsideFinished plan done q =
-    (k y x : ℕ) → Finished done k → y < rowsOf plan k → x < columnsOf plan k → q ≢ blockPixelPlace plan k y x
+    (k y x : ℕ) → Finished done k → y < rowsOf (plan .grid) k → x < columnsOf (plan .grid) k → q ≢ blockPixelPlace (plan .grid) k y x
 
 -- A word of the strips outside collected blocks: it stands in no strip of any.
 abbrev pub OutsideCollected : Plan → (ℕ → ℕ → Bool) → ℕ → Type 0
 OutsideCollected plan done q =
-    (k pass line place : ℕ) → Collected done k → pass < 4 → line < plan .side → place < orderOf plan pass
+    (k pass line place : ℕ) → Collected done k → pass < 4 → line < plan .grid .side → place < orderOf plan pass
     → q ≢ stripPlace plan k pass line place
 
 -- ---- the answers of a list of calls
@@ -114,21 +102,21 @@ callAt calls i = getD calls i (record { task = 0; block = 0 })
 pub record Claim (plan : Plan) (heights : List ℤ) (lent : Buffers) (calls : List BlockTask) (after : Buffers)
     (said : List Answer) : Type 0 where
   -- Each word of a finished block is the result of left over the whole map.
-  pub finished-blocks : (k y x : ℕ) → Finished (doneAfter plan calls) k → y < rowsOf plan k → x < columnsOf plan k
-      → wordAt (after .output) (blockPixelPlace plan k y x)
-      ≡ serialResult plan (mapOf plan heights) 4 (firstRow plan k + y) (firstColumn plan k + x)
+  pub finished-blocks : (k y x : ℕ) → Finished (doneAfter plan calls) k → y < rowsOf (plan .grid) k → x < columnsOf (plan .grid) k
+      → wordAt (after .output) (blockPixelPlace (plan .grid) k y x)
+      ≡ serialResult plan (mapOf plan heights) 4 (firstRow (plan .grid) k + y) (firstColumn (plan .grid) k + x)
   -- All output words outside finished blocks, those past h×w included, are as they were.
   pub other-output : (q : ℕ) → OutsideFinished plan (doneAfter plan calls) q
       → wordAt (after .output) q ≡ wordAt (lent .output) q
   -- A linked strip, the one that a done link writes, is its matching strip.
   pub linked-strips : (k pass line place : ℕ) → pass < 4 → doneAfter plan calls (suc pass) k ≡ true
-      → line < plan .side → place < orderOf plan pass
+      → line < plan .grid .side → place < orderOf plan pass
       → wordAt (after .strips) (stripPlace plan k pass line place)
       ≡ matchingWord plan (mapOf plan heights) k pass line place
   -- Each other strip of a collected block is what collect writes: that of the block filtered alone, or 0 where no neighbour
   -- needs it.
   pub collected-strips : (k pass line place : ℕ) → pass < 4 → Collected (doneAfter plan calls) k
-      → doneAfter plan calls (suc pass) k ≡ false → line < plan .side → place < orderOf plan pass
+      → doneAfter plan calls (suc pass) k ≡ false → line < plan .grid .side → place < orderOf plan pass
       → wordAt (after .strips) (stripPlace plan k pass line place) ≡ aloneWord plan (mapOf plan heights) k pass line place
   -- All other needed strip words are 0, as start left them.
   pub other-strips : (q : ℕ) → q < neededStrips plan → OutsideCollected plan (doneAfter plan calls) q
@@ -159,12 +147,10 @@ pub record Claim (plan : Plan) (heights : List ℤ) (lent : Buffers) (calls : Li
       (values .ready ≡ 1) × (taskAnswer plan heights after (values .task) (values .block) ≡ accepted)
   -- With that many done it names none, and the tally is two for each pixel.
   pub names-none : countAfter plan calls ≡ taskCount plan
-      → report plan (after .marks) .value
-      ≡ record { count = taskCount plan; tally = 2 * neededPixels plan; ready = 0; task = 0; block = 0 }
-  -- With that many done, each output word below h×w is the word that the serial passes give there.
-  pub whole-job : countAfter plan calls ≡ taskCount plan → (q : ℕ) → q < neededPixels plan
-      → wordAt (after .output) q
-      ≡ serialResult plan (mapOf plan heights) 4 (q / plan .columns) (q % plan .columns)
+      → report plan (after .marks) .value ≡ allDoneValues plan
+  -- With that many done, the output is the one that the serial call leaves of the same map and output, the words past h×w included.
+  -- That call accepts where demand 3 is claimed: the record keeps the rules, and map and output are long enough.
+  pub whole-job : countAfter plan calls ≡ taskCount plan → after .output ≡ serialOutput plan heights (lent .output)
 
 -- Demand 3: for every plan, map, lent marks and strips that start accepts, output of any words, map and output long enough,
 -- the claim holds of every list of calls, whatever their task and block numbers.
@@ -180,15 +166,9 @@ abbrev pub AcceptedIfReady : Type 0
 AcceptedIfReady =
     (plan : Plan) (done : ℕ → ℕ → Bool) (call : BlockTask)
     → (dueAnswer plan done call ≡ accepted
-    → ready (blockRows plan) (blockColumns plan) done (call .task) (call .block) ≡ true)
-    × (ready (blockRows plan) (blockColumns plan) done (call .task) (call .block) ≡ true
+    → ready (plan .grid) done (call .task) (call .block) ≡ true)
+    × (ready (plan .grid) done (call .task) (call .block) ≡ true
     → dueAnswer plan done call ≡ accepted)
-
--- The area that the tally counts for a block is the number of words that its finish writes.
-abbrev pub AreasAgree : Type 0
-AreasAgree =
-    (plan : Plan) (k : ℕ)
-    → tallyArea (plan .rows) (plan .columns) (plan .side) (blockColumns plan) k ≡ blockArea plan k
 
 -- Start accepts every record that keeps the rules, with marks and strips that are long enough: demand 3 speaks of all of
 -- these.

@@ -1,33 +1,33 @@
 -- The course of a link as the code chooses it by its number. Assumes nothing.
 use mathlib.Core.List.{List}
 use mathlib.Core.Path.{_≡_, refl, ap, _∙_}
-use mathlib.Core.Bool.{Bool, true}
-use Prim.Native.Nat.{ℕ, zero, suc, _+_, _-_, _%_, _<_, _≤_}
+use mathlib.Core.Bool.{true}
+use Prim.Native.Nat.{ℕ, zero, suc, _+_, _%_, _<_, _≤_}
 use native.Mathlib.Omega.{arith}
 use Rattle.word.specs.Word.{_⊗_}
-use Rattle.plan.proofs.Blocks.{extent-in-side, extent-positive}
+use Rattle.grid.proofs.Extents.{extent-positive}
 use Rattle.plan.proofs.Record.{rules, order-limited-at}
 use Rattle.plan.specs.Rules.{orderLimit, passAt, keepsRules}
-use Rattle.plan.specs.Sizes.{neededMarks}
+use Rattle.plan.specs.Sizes.{neededMarks, orderOf}
 use Rattle.plan.specs.declared.Plan.{Plan}
 use Rattle.passes.specs.Filter.{Filter}
 use Rattle.passes.specs.Gains.{unitGain}
-use Rattle.passes.specs.Passes.{Axis, columns, rows, Direction, forward, backward, axisOf, directionOf, along, across}
+use Rattle.axis.specs.Axis.{Axis, columns, rows, Direction, forward, backward, axisOf, directionOf, along, across}
 use Rattle.filter.proofs.Filters.{filterWords-filter}
-use Rattle.filter.specs.Filters.{filterOf, filtersOf}
-use Rattle.filter.specs.Windows.{isBackward, ifForward}
+use Rattle.filter.specs.PlanFilters.{filterOf, filtersOf}
 use Rattle.filter.specs.declared.FilterWords.{FilterWords}
-use Rattle.task_words.proofs.Geometry.{block-row-below, block-column-below}
-use Rattle.task_words.specs.Geometry.{blockRow, blockColumn, rowsOf, columnsOf}
-use Rattle.task_words.specs.Strips.{orderOf, fromEdge}
+use Rattle.grid.proofs.Blocks.{block-row-below, block-column-below, lines-in-side}
+use Rattle.grid.specs.Grid.{blockRow, blockColumn, rowsOf, columnsOf}
+use Rattle.task_words.specs.Strips.{fromEdge}
 use Rattle.strips.proofs.StripRecords.{before-fits, past-edges-read}
-use Rattle.strips.specs.StripRecord.{stripBefore, stripRead, StripFits}
-use Rattle.strips.specs.Shapes.{shapeOf}
-use Rattle.strips.specs.declared.BlockShape.{BlockShape}
+use Rattle.strips.specs.StripRecord.{edgeStart, stripBefore, stripRead, StripFits}
+use Rattle.grid.specs.Shapes.{shapeOf}
+use Rattle.grid.specs.declared.BlockShape.{BlockShape}
 use Rattle.strips.specs.declared.Strip.{Strip}
+use Rattle.squares.proofs.LinePasses.{axis-passes}
 use Rattle.squares.specs.LinePasses.{axisStart, axisPasses}
-use Rattle.squares.specs.Lines.{filterAt, OrdersFit}
-use Rattle.link.specs.Courses.{unitGainFilters, gainsAfter, scaledEdges, endsFrom, courseAlong, courseOf, CourseFits, LinkFits}
+use Rattle.squares.specs.LineBuffers.{filterAt, OrdersFit}
+use Rattle.link.specs.Courses.{unitGainFilters, gainsAfter, scaledEdges, courseAlong, courseOf, CourseFits, LinkFits}
 use Rattle.link.specs.declared.Course.{Course}
 
 axis-start : (pass : ℕ) → along (axisOf pass) 0 2 ≡ axisStart pass
@@ -35,34 +35,23 @@ axis-start zero = refl
 axis-start (suc zero) = refl
 axis-start (suc (suc pass)) = refl
 
-axis-passes : (pass : ℕ) → 1 + pass % 2 ≡ axisPasses pass
-axis-passes zero = refl
-axis-passes (suc zero) = refl
-axis-passes (suc (suc pass)) = omega (arith, axis-passes pass)
-
-ends-from : (d : Direction) (n order : ℕ)
-    → (orderLimit + ifForward (isBackward d) n) - ifForward (isBackward d) order ≡ endsFrom d n order
-ends-from forward n order = refl
-ends-from backward n order = omega arith
-
-pub course-along-is : (pass first n lines order : ℕ) {turned : Bool} {forth back : ℕ} → turned ≡ isBackward (directionOf pass)
-    → forth ≡ ifForward turned n → back ≡ ifForward turned order
+pub course-along-is : (pass first n lines order : ℕ) {from : ℕ} → from ≡ edgeStart (directionOf pass) order n
     → record {
       pass = pass;
       first = first;
       passes = 1 + pass % 2;
       places = n;
       lines = lines;
-      from = (orderLimit + forth) - back;
+      from = from;
       order = order;
     }
     ≡ courseAlong pass first n lines order
-course-along-is pass first n lines order t f b = rw (f, b, t, axis-passes pass, ends-from (directionOf pass) n order)
+course-along-is pass first n lines order e = rw (e, axis-passes pass)
 
 -- ---- the course of block k's link
 
-pub course-is : (plan : Plan) (k pass : ℕ) {shape : BlockShape} {first n lines : ℕ} {course : Course} → shape ≡ shapeOf plan k
-    → first ≡ along (axisOf pass) 0 2 → n ≡ along (axisOf pass) (shape .rows) (shape .columns)
+pub course-is : (plan : Plan) (k pass : ℕ) {shape : BlockShape} {first n lines : ℕ} {course : Course}
+    → shape ≡ shapeOf (plan .grid) k → first ≡ along (axisOf pass) 0 2 → n ≡ along (axisOf pass) (shape .rows) (shape .columns)
     → lines ≡ across (axisOf pass) (shape .rows) (shape .columns)
     → course ≡ courseAlong pass first n lines (orderOf plan pass) → course ≡ courseOf plan k pass
 unfolding courseOf shapeOf
@@ -73,13 +62,15 @@ of-axis columns P h w p q = (p, q)
 of-axis rows P h w p q = (q, p)
 
 module _ (plan : Plan) (kept : keepsRules plan ≡ true) where
-  pub few-rows : (k : ℕ) → rowsOf plan k ≤ 32
-  few-rows k = omega (arith, rules plan kept .side-high, extent-in-side (plan .rows) (plan .side) (blockRow plan k))
+  pub few-rows : (k : ℕ) → rowsOf (plan .grid) k ≤ 32
+  few-rows k =
+      omega (arith, rules plan kept .side-high, lines-in-side (plan .grid) k rows)
 
-  pub few-columns : (k : ℕ) → columnsOf plan k ≤ 32
-  few-columns k = omega (arith, rules plan kept .side-high, extent-in-side (plan .columns) (plan .side) (blockColumn plan k))
+  pub few-columns : (k : ℕ) → columnsOf (plan .grid) k ≤ 32
+  few-columns k =
+      omega (arith, rules plan kept .side-high, lines-in-side (plan .grid) k columns)
 
-  pub few-places : (k pass : ℕ) (shape : BlockShape) → shape ≡ shapeOf plan k
+  pub few-places : (k pass : ℕ) (shape : BlockShape) → shape ≡ shapeOf (plan .grid) k
       → along (axisOf pass) (shape .rows) (shape .columns) ≤ 32
   unfolding shapeOf
   few-places k pass shape e = rw e (of-axis (axisOf pass) (λ z. z ≤ 32) _ _ (few-rows k) (few-columns k) .0)
@@ -117,21 +108,22 @@ last-of-axis (suc (suc zero)) h = refl
 last-of-axis (suc (suc (suc zero))) h = refl
 last-of-axis (suc (suc (suc (suc pass)))) h = absurd (omega arith)
 
-ends-in-line : (d : Direction) (n order : ℕ) → endsFrom d n order ≤ orderLimit + n
-ends-in-line forward n order = omega arith
-ends-in-line backward n order = omega arith
+ends-in-line : (d : Direction) (order n : ℕ) → edgeStart d order n ≤ orderLimit + n
+ends-in-line forward order n = omega arith
+ends-in-line backward order n = omega arith
 
 -- The course of a link whose order is not 0 fits the buffers.
 pub course-fits : (plan : Plan) (k pass : ℕ) → keepsRules plan ≡ true → k < neededMarks plan → pass < 4
     → 0 < orderOf plan pass → CourseFits (courseOf plan k pass)
 unfolding courseOf
 course-fits plan k pass kept here h some =
+    let grid = plan .grid in
     let low =
-    of-axis (axisOf pass) (λ z. 0 < z) (rowsOf plan k) (columnsOf plan k)
-    (extent-positive (plan .rows) (plan .side) (blockRow plan k) (block-row-below plan k here))
-    (extent-positive (plan .columns) (plan .side) (blockColumn plan k) (block-column-below plan k here)) in
+    of-axis (axisOf pass) (λ z. 0 < z) (rowsOf grid k) (columnsOf grid k)
+    (extent-positive (grid .rows) (grid .side) (blockRow grid k) (block-row-below grid k here))
+    (extent-positive (grid .columns) (grid .side) (blockColumn grid k) (block-column-below grid k here)) in
     let high =
-    of-axis (axisOf pass) (λ z. z ≤ 32) (rowsOf plan k) (columnsOf plan k) (few-rows plan kept k) (few-columns plan kept k) in
+    of-axis (axisOf pass) (λ z. z ≤ 32) (rowsOf grid k) (columnsOf grid k) (few-rows plan kept k) (few-columns plan kept k) in
     let c = counted pass in
     record {
       some-places = low .0;
@@ -140,7 +132,7 @@ course-fits plan k pass kept here h some =
       few-lines = high .1;
       some-order = some;
       order-limited = order-limited-at plan kept pass h;
-      inside = ends-in-line (directionOf pass) _ (orderOf plan pass);
+      inside = ends-in-line (directionOf pass) (orderOf plan pass) _;
       some-passes = c .some-passes;
       few-passes = c .few-passes;
       first-low = c .first-low;
@@ -160,7 +152,8 @@ filter-is plan (suc (suc zero)) h = ap unitGain (filterWords-filter (passAt plan
 filter-is plan (suc (suc (suc zero))) h = ap unitGain (filterWords-filter (passAt plan 3))
 filter-is plan (suc (suc (suc (suc pass)))) h = absurd (omega arith)
 
-module _ {plan : Plan} {k : ℕ} {course : Course} {filters : List FilterWords} {n : ℕ} (fits : LinkFits plan k course filters n) where
+module _ {plan : Plan} {k : ℕ} {course : Course} {filters : List FilterWords} {n : ℕ}
+    (fits : LinkFits plan k course filters n) where
   order-is : (pass : ℕ) → pass < 4 → filterAt filters pass .order ≡ orderOf plan pass
   unfolding filterOf
   order-is pass h = rw (fits .filters-are) (ap (λ (f : Filter). f .order) (filter-is plan pass h))

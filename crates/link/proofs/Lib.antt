@@ -1,8 +1,4 @@
-pub mod Gains
 pub mod Courses
-pub mod Buffers
-pub mod EdgeReads
-pub mod Weights
-pub mod Crossing
-pub mod Carrying
-pub mod Writing
+pub mod Turns
+pub mod OwnStrip
+pub mod Linked

@@ -1,18 +1,20 @@
--- The course of a link: along which passes and lines its words come.
+-- Inner: the course of a link: along which passes and lines its words come.
 use mathlib.Core.Path.{_≡_}
 use mathlib.Core.List.{List, [], _∷_}
 use mathlib.Core.Bool.{true}
 use Prim.Native.Nat.{ℕ, suc, _+_, _-_, _<_, _≤_}
 use Rattle.word.specs.Word.{_⊗_}
 use Rattle.plan.specs.Rules.{orderLimit, passAt, keepsRules}
-use Rattle.plan.specs.Sizes.{neededMarks, neededStrips}
+use Rattle.plan.specs.Sizes.{neededMarks, neededStrips, orderOf}
 use Rattle.plan.specs.declared.Plan.{Plan}
 use Rattle.passes.specs.Gains.{gainsFrom}
-use Rattle.passes.specs.Passes.{Direction, forward, backward, axisOf, directionOf, along, across}
-use Rattle.filter.specs.Filters.{filtersOf, filterWords, withGain}
+use Rattle.axis.specs.Axis.{axisOf, directionOf, along, across}
+use Rattle.filter.specs.PlanFilters.{filtersOf}
+use Rattle.filter.specs.FilterWords.{filterWords, withGain}
 use Rattle.filter.specs.declared.FilterWords.{FilterWords}
-use Rattle.task_words.specs.Geometry.{rowsOf, columnsOf}
-use Rattle.task_words.specs.Strips.{orderOf, pastEdges}
+use Rattle.grid.specs.Grid.{rowsOf, columnsOf, sideLimit}
+use Rattle.task_words.specs.Strips.{pastEdges}
+use Rattle.strips.specs.StripRecord.{StripAt, edgeStart}
 use Rattle.squares.specs.LinePasses.{axisStart, axisPasses}
 use Rattle.link.specs.declared.Course.{Course}
 
@@ -33,12 +35,6 @@ gainsAfter plan pass last = gainsFrom (filtersOf plan) (suc pass) (last - pass)
 unfoldable pub scaledEdges : Plan → List ℕ → (k last pass line distance : ℕ) → ℕ
 scaledEdges plan strips k last pass line distance = gainsAfter plan pass last ⊗ pastEdges plan strips k pass line distance
 
--- The column, in a row of lines, of the first place of a strip of an order, where the lines have n places: the strip has
--- the last places of a line where the pass runs forward, the first where it runs backward.
-abbrev pub endsFrom : Direction → (n order : ℕ) → ℕ
-endsFrom forward n order = (orderLimit + n) - order
-endsFrom backward n order = orderLimit
-
 -- The course of a link of a pass along lines of n places.
 abbrev pub courseAlong : (pass first n lines order : ℕ) → Course
 courseAlong pass first n lines order =
@@ -48,15 +44,15 @@ courseAlong pass first n lines order =
       passes = axisPasses pass;
       places = n;
       lines = lines;
-      from = endsFrom (directionOf pass) n order;
+      from = edgeStart (directionOf pass) order n;
       order = order;
     }
 
 -- The course of the link of a pass of block k.
 unfoldable pub courseOf : Plan → ℕ → ℕ → Course
 courseOf plan k pass =
-    courseAlong pass (axisStart pass) (along (axisOf pass) (rowsOf plan k) (columnsOf plan k))
-    (across (axisOf pass) (rowsOf plan k) (columnsOf plan k)) (orderOf plan pass)
+    courseAlong pass (axisStart pass) (along (axisOf pass) (rowsOf (plan .grid) k) (columnsOf (plan .grid) k))
+    (across (axisOf pass) (rowsOf (plan .grid) k) (columnsOf (plan .grid) k)) (orderOf plan pass)
 
 -- A place of a strip lies in the lines.
 pub record Inside (course : Course) (place : ℕ) : Type 0 where
@@ -71,9 +67,9 @@ indexAt course place = (course .from + place) - orderLimit
 -- What the buffers want of a course.
 pub record CourseFits (course : Course) : Type 0 where
   pub some-places : 0 < course .places
-  pub few-places : course .places ≤ 32
+  pub few-places : course .places ≤ sideLimit
   pub some-lines : 0 < course .lines
-  pub few-lines : course .lines ≤ 32
+  pub few-lines : course .lines ≤ sideLimit
   pub some-order : 0 < course .order
   pub order-limited : course .order ≤ orderLimit
   pub inside : course .from ≤ orderLimit + course .places
@@ -84,6 +80,11 @@ pub record CourseFits (course : Course) : Type 0 where
   pub first-is : course .first ≡ axisStart (course .pass)
   pub passes-are : course .passes ≡ axisPasses (course .pass)
   pub last-is : course .first + course .passes ≡ suc (course .pass)
+
+-- What is asked of a plan, a block and a pass whose link is meant, with strips of so many words.
+pub record LinkAt (plan : Plan) (k pass strips : ℕ) : Type 0 where
+  pub strip-at : StripAt plan k pass
+  pub strips-long : neededStrips plan ≤ strips
 
 -- What a link of block k along a course wants, with strips of so many words: the filters are the plan's,
 -- with gain 1.

@@ -1,2 +1,5 @@
 pub mod Courses
-pub mod Words
+pub mod Lines
+pub mod Crossing
+pub mod Carrying
+pub mod Writing

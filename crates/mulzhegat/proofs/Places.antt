@@ -9,30 +9,18 @@ use lib.IntN.{ℤ}
 use lib.ListN.{length}
 use borrow.Author.Tests.{leb-true, ltb-true, not-false}
 use Rattle.refusal.specs.declared.Refusal.{Refusal}
-use Rattle.refusal.specs.Refusals.{placeOf}
-use Rattle.refusal.specs.Table.{refused, Row, _at_when_, firstDue, placeIn}
+use Rattle.refusal.specs.Refusals.{placeOf, refused, placeIn}
+use Rattle.refusal.specs.Table.{Row, _at_when_, firstDue}
 use Rattle.plan.specs.declared.Plan.{Plan}
 use Rattle.plan.specs.declared.PlanSizes.{PlanSizes}
 use Rattle.plan.specs.declared.PlanSizes.the-variants as sizes
 use Rattle.plan.specs.Rules.{keepsRules}
-use Rattle.plan.specs.Sizes.{wordCount, blockRows, blockColumns, neededMarks, neededStrips, neededPixels, sizesOf, planSizes, sizesGiven}
+use Rattle.plan.specs.Sizes.{wordCount, neededMarks, neededStrips, neededPixels, sizesOf, planSizes, sizesGiven}
+use Rattle.grid.specs.Grid.{blockTotal}
 use Rattle.plan.proofs.Needed.{bounds}
 use Rattle.plan_reader.specs.PlanWords.{sizeAllowed, sideAllowed, passAllowed, endAllowed}
-use Rattle.plan_reader.specs.ReadPlan.{
-  payloadAt,
-  orderAt,
-  passPlace,
-  wordRows,
-  headRows,
-  coefficientRows,
-  passRows,
-  passesRows,
-  endRows,
-  sideRows,
-  planRows,
-  readPlan,
-}
-use Rattle.plan_reader.proofs.Places.{order-bounded, pass-place-bounded}
+use Rattle.plan_reader.specs.ReadPlan.{payloadAt, orderAt, passPlace, wordRows, headRows, coefficientRows, passRows, passesRows, endRows, sideRows, planRows, readPlan}
+use Rattle.plan_reader.proofs.PassPlaces.{order-bounded, pass-place-bounded}
 use Rattle.plan_writer.specs.declared.PlanWritten.{PlanWritten}
 use Rattle.plan_writer.specs.declared.PlanWritten.the-variants as written
 use Rattle.plan_writer.specs.WritePlan.{writePlan, writtenGiven}
@@ -45,7 +33,7 @@ use Rattle.job_spec.specs.Calls.{Buffers, startAnswer, lentRows, taskAnswer}
 use Rattle.report.specs.declared.ReportAnswer.{ReportAnswer}
 use Rattle.report.specs.declared.ReportAnswer.the-variants as reported
 use Rattle.report.specs.Values.{reportGiven}
-use Rattle.report.specs.Report.{firstBroken, report}
+use Rattle.report.specs.Report.{marksRows, report}
 use Rattle.mulzhegat.specs.Places.{PlacesFit}
 
 -- ---- rows
@@ -148,9 +136,9 @@ module _ (words : List ℕ) where
 
 module _ (plan : Plan) where
   -- The place of the least broken mark, where the record was tested first.
-  block-place : (k : ℕ) → not (keepsRules plan) ≡ false → ltb k (blockRows plan * blockColumns plan) ≡ true → k < half
+  block-place : (k : ℕ) → not (keepsRules plan) ≡ false → ltb k (blockTotal (plan .grid)) ≡ true → k < half
   block-place k kept broken =
-      omega (arith, ltb-true k (blockRows plan * blockColumns plan) broken, bounds plan (not-false (keepsRules plan) kept) .marks-high)
+      omega (arith, ltb-true k (blockTotal (plan .grid)) broken, bounds plan (not-false (keepsRules plan) kept) .marks-high)
 
   pub start-place : (marks strips : List ℕ) → placeIn (startAnswer plan marks strips) < half
   unfolding startAnswer
@@ -165,21 +153,15 @@ module _ (plan : Plan) where
   pub task-place : (heights : List ℤ) (buffers : Buffers) (t k : ℕ) → placeIn (taskAnswer plan heights buffers t k) < half
   unfolding taskAnswer lentRows sizesOf verdictRows
   task-place heights buffers t k =
-      in-half (lentRows plan heights buffers ++ verdictRows (blockRows plan) (blockColumns plan) (buffers .marks) t k) (
+      in-half (lentRows plan heights buffers ++ verdictRows (plan .grid) (buffers .marks) t k) (
         at-0,
         λ kept. (at-0, λ n. (at-0, λ n. (at-0, λ n. (at-0, λ n. (at-0, λ n. (block-place _ kept, λ n. (at-0, λ n. (at-0, λ n. tt)))))))),
       )
 
   report-place : (marks : List ℕ) → placeIn (report plan marks .answer) < half
-  unfolding report
+  unfolding report marksRows
   report-place marks =
-      let M = blockRows plan in
-      let N = blockColumns plan in
-      in-half
-      (6 at 0 when not (keepsRules plan)
-      ∷ 7 at 0 when ltb (length marks) (M * N)
-      ∷ 9 at firstBroken M N marks when ltb (firstBroken M N marks) (M * N)
-      ∷ [])
+      in-half (6 at 0 when not (keepsRules plan) ∷ marksRows (plan .grid) marks)
       (at-0, λ kept. (at-0, λ n. (block-place _ kept, λ n. tt)))
 
   -- ---- the other calls: their refusals have place 0

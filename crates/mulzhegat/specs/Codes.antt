@@ -1,7 +1,7 @@
 -- What a call answers in C: one number, and beside it the words that it writes through a pointer.
 use mathlib.Core.List.{List, [], _∷_}
 use Prim.Native.Nat.{ℕ, _+_, _*_}
-use Rattle.refusal.specs.Table.{Answer, numberIn, placeIn}
+use Rattle.refusal.specs.Refusals.{Answer, numberIn, placeIn}
 use Rattle.plan.specs.declared.Sizes.{Sizes}
 use Rattle.report.specs.Values.{Values}
 

@@ -2,7 +2,7 @@
 use mathlib.Core.List.{List}
 use Prim.Native.Nat.{ℕ, _<_}
 use lib.IntN.{ℤ}
-use Rattle.refusal.specs.Table.{Answer, placeIn}
+use Rattle.refusal.specs.Refusals.{Answer, placeIn}
 use Rattle.plan.specs.declared.Plan.{Plan}
 use Rattle.plan.specs.Sizes.{planSizes}
 use Rattle.plan_reader.specs.ReadPlan.{readPlan}

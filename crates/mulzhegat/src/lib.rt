@@ -10,10 +10,9 @@ use report::Next;
 use report::Progress;
 use report::ReportAnswer;
 ghost use mathlib.Core.Path.{_≡_};
-ghost use Prim.Native.Nat.{_<_};
 ghost use lib.ListN.{length};
-ghost use Rattle.refusal.specs.Refusals.{numberOf, placeOf};
-ghost use Rattle.refusal.specs.Table.{refused, answerOf, placeIn};
+ghost use Rattle.refusal.specs.Refusals.{refusedFor};
+ghost use Rattle.refusal.specs.Table.{answerOf};
 ghost use Rattle.plan.specs.Sizes.{planSizes};
 ghost use Rattle.plan_reader.specs.ReadPlan.{readPlan};
 ghost use Rattle.plan_writer.specs.WritePlan.{writePlan, writtenWords};
@@ -23,6 +22,7 @@ ghost use Rattle.rectangle.specs.Rectangle.{rectangleCall};
 ghost use Rattle.job_spec.specs.Calls.{lists, startAnswer, marksAfterStart, stripsAfterStart, taskAnswer, afterTask};
 ghost use Rattle.report.specs.Values.{valuesOf};
 ghost use Rattle.report.specs.Report.{report};
+ghost use Rattle.mulzhegat.specs.Places.{Fits};
 ghost use Rattle.mulzhegat.specs.Codes.{codeOf, sizesRecord, progressRecord};
 
 // ---- plans
@@ -176,7 +176,7 @@ pub extern "C" fn mzg_rectangle(
 // ---- answers
 
 fn outcome_code(outcome: Outcome) -> u64
-    requires { ⌜ placeIn (answerOf outcome) < 4294967296 ⌝ }
+    requires { ⌜ Fits (answerOf outcome) ⌝ }
     ensures { λ r. ⌜ r ≡ codeOf (answerOf outcome) ⌝ }
 {
     match outcome {
@@ -186,8 +186,8 @@ fn outcome_code(outcome: Outcome) -> u64
 }
 
 fn refusal_code(refusal: Refusal) -> u64
-    requires { ⌜ placeOf refusal < 4294967296 ⌝ }
-    ensures { λ r. ⌜ r ≡ codeOf (refused (numberOf refusal) (placeOf refusal)) ⌝ }
+    requires { ⌜ Fits (refusedFor refusal) ⌝ }
+    ensures { λ r. ⌜ r ≡ codeOf (refusedFor refusal) ⌝ }
 {
     (refusal.number() as u64) * 4294967296 + (refusal.place() as u64)
 }

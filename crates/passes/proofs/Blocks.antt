@@ -6,24 +6,8 @@ use Prim.Native.Nat.{ℕ, zero, suc, _+_, _-_, _≤_, _<_}
 use native.Mathlib.Omega.{arith}
 use Rattle.passes.specs.Line.{output, wordsBefore}
 use Rattle.passes.specs.Filter.{Filter, filterStep}
-use Rattle.passes.specs.Passes.{
-  Axis,
-  columns,
-  rows,
-  Direction,
-  forward,
-  backward,
-  axisOf,
-  directionOf,
-  along,
-  across,
-  lineOf,
-  reflect,
-  filterLine,
-  filterLines,
-  passesOver,
-  serialPasses,
-}
+use Rattle.axis.specs.Axis.{Axis, columns, rows, Direction, forward, backward, axisOf, directionOf, along, across, lineOf}
+use Rattle.passes.specs.Passes.{reflect, filterLine, filterLines, passesOver, serialPasses}
 use Rattle.passes.proofs.Line.{output-part, wordsBefore-history}
 use Rattle.passes.proofs.Linear.{Linear, filterStep-reads}
 use Rattle.passes.proofs.Passes.{reflect-lt, filterLines-linear}

@@ -5,19 +5,8 @@ use mathlib.Core.Path.{_≡_, refl, ap, _∙_, fun-ext}
 use Prim.Native.Nat.{ℕ, zero, suc, _≤_}
 use native.Mathlib.Omega.{arith}
 use Rattle.passes.specs.Filter.{Filter}
-use Rattle.passes.specs.Passes.{
-  Axis,
-  columns,
-  rows,
-  Direction,
-  forward,
-  backward,
-  lineOf,
-  filterLine,
-  filterLines,
-  passesOver,
-  serialPasses,
-}
+use Rattle.axis.specs.Axis.{Axis, columns, rows, Direction, forward, backward, lineOf}
+use Rattle.passes.specs.Passes.{filterLine, filterLines, passesOver, serialPasses}
 use Rattle.passes.proofs.Linear.{Linear, linear-zero}
 use Rattle.passes.proofs.Passes.{filterLine-linear}
 use Rattle.passes.proofs.Square.{linear-none, linear-place, linear-filterLine}

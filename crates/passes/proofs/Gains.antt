@@ -8,19 +8,8 @@ use Rattle.word.proofs.Ring.{mul-comm, mul-assoc, mul-zero, one-mul, mul-reduce
 use Rattle.passes.specs.Line.{history, output}
 use Rattle.passes.specs.Filter.{Filter, lessFeedback, filterStep}
 use Rattle.passes.specs.Gains.{unitGain, gainsFrom, gainsFirst}
-use Rattle.passes.specs.Passes.{
-  Axis,
-  columns,
-  rows,
-  Direction,
-  axisOf,
-  directionOf,
-  along,
-  reflect,
-  filterLine,
-  filterLines,
-  passesOver,
-}
+use Rattle.axis.specs.Axis.{Axis, columns, rows, Direction, axisOf, directionOf, along}
+use Rattle.passes.specs.Passes.{reflect, filterLine, filterLines, passesOver}
 use Rattle.passes.proofs.Linear.{linear-mul, linear-reduce}
 use Rattle.passes.proofs.Passes.{filterLines-linear, passesOver-small}
 

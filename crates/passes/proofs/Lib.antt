@@ -6,6 +6,5 @@ pub mod Gains
 pub mod Link
 pub mod Square
 pub mod Exchange
-pub mod Pixel
 pub mod Table
 pub mod Examples

@@ -5,19 +5,7 @@ use mathlib.Core.Bool.{Bool, true, false}
 use Prim.Native.Nat.{ℕ, zero, suc, _%_, _<_, _^_}
 use native.Mathlib.Omega.{arith}
 use Rattle.word.specs.Word.{modulus, _⊕_, _⊖_, _⊗_}
-use Rattle.word.proofs.Ring.{
-  add-sub,
-  sub-sub,
-  mul-add,
-  mul-sub,
-  mul-left-comm,
-  zero-mul,
-  one-mul,
-  reduce-sub,
-  reduce-mul,
-  sub-small,
-  mul-small,
-}
+use Rattle.word.proofs.Ring.{add-sub, sub-sub, mul-add, mul-sub, mul-left-comm, zero-mul, one-mul, reduce-sub, reduce-mul, sub-small, mul-small}
 use Rattle.passes.specs.Filter.{Filter, lessFeedback, filterStep}
 use Rattle.passes.proofs.Line.{Reads, Commutes}
 

@@ -6,7 +6,8 @@ use Prim.Native.Nat.{ℕ, suc, _<_}
 use Rattle.word.specs.Word.{_⊕_}
 use Rattle.word.proofs.Ring.{zero-left, zero-right, reduced-small}
 use Rattle.passes.specs.Filter.{Filter}
-use Rattle.passes.specs.Passes.{axisOf, directionOf, across, passesOver, serialPasses}
+use Rattle.axis.specs.Axis.{axisOf, directionOf, across}
+use Rattle.passes.specs.Passes.{passesOver, serialPasses}
 use Rattle.passes.proofs.Linear.{pair, linear-add, linear-reduce}
 use Rattle.passes.proofs.Passes.{passesOver-small}
 use Rattle.passes.proofs.Blocks.{BlockPlace, blockOf, wordsBeside, passesOver-linear, passesOver-part}

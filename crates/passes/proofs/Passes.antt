@@ -7,31 +7,10 @@ use native.Mathlib.Omega.{arith}
 use Rattle.word.specs.Word.{modulus}
 use Rattle.passes.specs.Line.{output}
 use Rattle.passes.specs.Filter.{Filter, filterStep}
-use Rattle.passes.specs.Passes.{
-  Axis,
-  columns,
-  rows,
-  Direction,
-  forward,
-  backward,
-  axisOf,
-  directionOf,
-  along,
-  across,
-  reflect,
-  filterLine,
-  filterLines,
-  passesOver,
-  serialPasses,
-}
+use Rattle.axis.specs.Axis.{Axis, columns, rows, Direction, forward, backward, axisOf, directionOf, along, across}
+use Rattle.passes.specs.Passes.{reflect, filterLine, filterLines, passesOver, serialPasses}
 use Rattle.passes.proofs.Line.{output-reads, output-commutes}
-use Rattle.passes.proofs.Linear.{
-  Linear,
-  filterStep-reads,
-  filterStep-small,
-  filterStep-linear,
-  filterStep-unchanged,
-}
+use Rattle.passes.proofs.Linear.{Linear, filterStep-reads, filterStep-small, filterStep-linear, filterStep-unchanged}
 
 pub reflect-lt : (d : Direction) (n i : ℕ) → i < n → reflect d n i < n
 reflect-lt forward n i h = h

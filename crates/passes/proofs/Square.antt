@@ -7,19 +7,10 @@ use Prim.Native.Nat.{ℕ, zero, suc, _%_, _≤_, _<_, _^_}
 use native.Mathlib.Nat.{mod-mod, eq-or-lt-of-le}
 use native.Mathlib.Omega.{arith}
 use Rattle.word.specs.Word.{modulus, minusOne, _⊕_, _⊖_, _⊗_}
-use Rattle.word.proofs.Ring.{
-  zero-left,
-  zero-right,
-  zero-add,
-  zero-sub,
-  mul-zero,
-  one-mul,
-  mul-comm,
-  feedback-adds,
-  reduced-small,
-}
+use Rattle.word.proofs.Ring.{zero-left, zero-right, zero-add, zero-sub, mul-zero, one-mul, mul-comm, feedback-adds, reduced-small}
 use Rattle.passes.specs.Filter.{Filter}
-use Rattle.passes.specs.Passes.{Direction, filterLine}
+use Rattle.axis.specs.Axis.{Direction}
+use Rattle.passes.specs.Passes.{filterLine}
 use Rattle.passes.specs.Square.{unitHistory, linkSquare, weightedSum}
 use Rattle.passes.proofs.Linear.{Linear, pair, linear-zero, linear-add, linear-sub, linear-mul, linear-reduce}
 use Rattle.passes.proofs.Passes.{filterLine-linear, filterLine-history, filterLine-small}

@@ -7,35 +7,15 @@ use native.Mathlib.Nat.{add-suc, add-zero, zero-mod}
 use native.Mathlib.Omega.{arith}
 use lib.IntN.{ℤ}
 use Rattle.word.specs.Word.{modulus, minusOne, _⊕_, _⊖_, _⊗_, residue}
-use Rattle.word.proofs.Ring.{
-  feedback-adds,
-  corners,
-  add-then-sub,
-  add-reduced,
-  add-sub,
-  add-small,
-  zero-add,
-  zero-sub,
-  zero-right,
-  add-assoc,
-}
+use Rattle.word.proofs.Ring.{feedback-adds, corners, add-then-sub, add-reduced, add-sub, add-small, zero-add, zero-sub, zero-right, add-assoc}
 use Rattle.passes.specs.Line.{history, output}
 use Rattle.passes.specs.Filter.{lessFeedback, filterStep}
-use Rattle.passes.specs.Passes.{forward, backward, filterLine, filterLines, passesOver, serialPasses}
-use Rattle.passes.specs.Pixel.{pixel}
-use Rattle.passes.specs.Table.{
-  runningSum,
-  unchanged,
-  summedAreaTable,
-  sumOf,
-  sumInside,
-  cornerOf,
-  rectangleSum,
-  signedSumOf,
-  heightsInside,
-}
+use Rattle.axis.specs.Axis.{forward, backward}
+use Rattle.passes.specs.Passes.{filterLine, filterLines, passesOver, serialPasses}
+use Rattle.buffer.specs.Pixel.{pixel}
+use Rattle.passes.specs.Table.{runningSum, unchanged, summedAreaTable, sumOf, sumInside, cornerOf, rectangleSum, signedSumOf, heightsInside}
 use Rattle.passes.proofs.Passes.{filterLine-unchanged}
-use Rattle.passes.proofs.Pixel.{residue-add, residue-zero}
+use Rattle.word.proofs.Residues.{residue-add, residue-zero}
 
 -- ---- sums
 

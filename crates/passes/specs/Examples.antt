@@ -7,7 +7,7 @@ use lib.IntN.{ℤ, pos, negℤ}
 use Rattle.word.specs.Word.{residue}
 use Rattle.passes.specs.Filter.{Filter}
 use Rattle.passes.specs.Passes.{serialPasses}
-use Rattle.passes.specs.Pixel.{heightMap}
+use Rattle.buffer.specs.Pixel.{heightMap}
 use Rattle.passes.specs.Table.{runningSum, unchanged, summedAreaTable, rectangleSum}
 
 -- The words that the definitions compute, and those that they should.

@@ -1,4 +1,4 @@
--- Filters with their gains moved: what passes with gains are in terms of passes of gain 1.
+-- Inner: filters with their gains moved: what passes with gains are in terms of passes of gain 1.
 use Prim.Native.Nat.{ℕ, zero, suc}
 use Rattle.word.specs.Word.{_⊗_}
 use Rattle.passes.specs.Filter.{Filter}

@@ -1,7 +1,6 @@
 pub mod Line
 pub mod Filter
 pub mod Passes
-pub mod Pixel
 pub mod Square
 pub mod Table
 pub mod Examples

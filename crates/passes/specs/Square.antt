@@ -1,8 +1,9 @@
--- How a history moves across a line of zero inputs: document 01, the square of order × order words of a link.
+-- Inner: how a history moves across a line of zero inputs: document 01, the square of order × order words of a link.
 use Prim.Native.Nat.{ℕ, zero, suc}
 use Rattle.word.specs.Word.{_⊕_, _⊗_}
 use Rattle.passes.specs.Filter.{Filter}
-use Rattle.passes.specs.Passes.{Direction, filterLine}
+use Rattle.axis.specs.Axis.{Direction}
+use Rattle.passes.specs.Passes.{filterLine}
 
 -- The history that is 1 at place j and 0 at all others.
 unfoldable pub unitHistory : ℕ → ℕ → ℕ

@@ -3,8 +3,8 @@ use mathlib.Core.Path.{_≡_, refl, ap, sym}
 use mathlib.Core.Bool.{Bool, true, false, not}
 use mathlib.Core.List.{List, [], _∷_}
 use Rattle.refusal.specs.declared.Refusal.{Refusal}
-use Rattle.refusal.specs.Refusals.{numberOf, placeOf}
-use Rattle.refusal.specs.Table.{accepted, refused, Row, _at_when_, firstDue, Given, given}
+use Rattle.refusal.specs.Refusals.{refusedFor, accepted, refused}
+use Rattle.refusal.specs.Table.{Row, _at_when_, firstDue, Given, given}
 use Rattle.refusal.proofs.Table.{not-accepted}
 use Rattle.plan.specs.declared.Plan.{Plan}
 use Rattle.plan.specs.declared.Sizes.{Sizes}
@@ -35,15 +35,15 @@ module _ (plan : Plan) (answer : PlanSizes) (is : sizesGiven answer ≡ planSize
 
   -- A plan of which they are refused breaks a rule, and is refused by 6.
   pub sizes-refused : (refusal : Refusal) → answer ≡ Refused refusal
-      → (keepsRules plan ≡ false) × (refused (numberOf refusal) (placeOf refusal) ≡ refused 6 0)
+      → (keepsRules plan ≡ false) × (refusedFor refusal ≡ refused 6 0)
   unfolding givenBy
   sizes-refused refusal e = by (keepsRules plan) (ap (λ (h : Given Sizes). h .answer) (rw e at by-rules))
     where
-      by : (kept : Bool) → refused (numberOf refusal) (placeOf refusal) ≡ givenBy kept (sizesOf plan) .answer
-          → (kept ≡ false) × (refused (numberOf refusal) (placeOf refusal) ≡ refused 6 0)
+      by : (kept : Bool) → refusedFor refusal ≡ givenBy kept (sizesOf plan) .answer
+          → (kept ≡ false) × (refusedFor refusal ≡ refused 6 0)
       by true g = absurd (not-accepted g)
       by false g = (refl, g)
 
   pub record-refused : (refusal : Refusal) → answer ≡ Refused refusal → (rows : List Row)
-      → refused (numberOf refusal) (placeOf refusal) ≡ firstDue (6 at 0 when not (keepsRules plan) ∷ rows)
+      → refusedFor refusal ≡ firstDue (6 at 0 when not (keepsRules plan) ∷ rows)
   record-refused refusal e rows = let (broken, same) = sizes-refused refusal e in rw (same, broken)

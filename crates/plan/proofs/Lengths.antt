@@ -4,7 +4,8 @@ use mathlib.Core.List.{[], _∷_}
 use Prim.Native.Nat.{ℕ, _≤_}
 use lib.Dec.{ltb}
 use borrow.Author.Tests.{ltb-false}
-use Rattle.refusal.specs.Table.{Answer, accepted, _at_when_, firstDue, firstOf}
+use Rattle.refusal.specs.Refusals.{Answer, accepted}
+use Rattle.refusal.specs.Table.{_at_when_, firstDue, firstOf}
 use Rattle.refusal.proofs.Table.{tests-rows, not-due}
 use Rattle.plan.specs.declared.Sizes.{Sizes}
 use Rattle.plan.specs.Sizes.{lengthRows}

@@ -5,15 +5,15 @@ use Prim.Native.Nat.{ℕ, zero, suc, _*_, _<_, _≤_}
 use native.Mathlib.Omega.{arith}
 use lib.Dec.{leb}
 use borrow.Author.Tests.{leb-true}
+use Rattle.grid.specs.Grid.{gridKept}
+use Rattle.grid.specs.Shapes.{InGrid}
+use Rattle.grid.proofs.Blocks.{ranges}
 use Rattle.plan.specs.declared.Pass.{Pass}
 use Rattle.plan.specs.declared.Plan.{Plan}
-use Rattle.plan.specs.Rules.{orderLimit, within, inSigned28, coefficientAt, coefficientKept, coefficientsKept, passKept, passAt, passesKept, keepsRules}
-use Rattle.plan.specs.Sizes.{orderSum}
-use Rattle.plan.proofs.Tests.{and-left, and-right, all-at}
-
-pub within-bounds : (number most : ℕ) → within number most ≡ true → (1 ≤ number) × (number ≤ most)
-within-bounds number most e =
-    (leb-true 1 number (and-left (leb 1 number) (leb number most) e), leb-true number most (and-right (leb 1 number) (leb number most) e))
+use Rattle.plan.specs.Rules.{orderLimit, inSigned28, coefficientAt, coefficientKept, coefficientsKept, passKept, passAt, passesKept, keepsRules}
+use Rattle.number.specs.Numbers.{total}
+use Rattle.plan.specs.Sizes.{orderSum, neededMarks}
+use Rattle.number.proofs.Tests.{and-left, and-right, all-at}
 
 -- What the check of one pass says.
 pub record PassRules (side : ℕ) (pass : Pass) : Type 0 where
@@ -40,41 +40,41 @@ pass-rules side pass e =
 
 -- What the check of the record says.
 pub record Rules (plan : Plan) : Type 0 where
-  pub rows-low : 1 ≤ plan .rows
-  pub rows-high : plan .rows ≤ 4096
-  pub columns-low : 1 ≤ plan .columns
-  pub columns-high : plan .columns ≤ 4096
-  pub side-low : 1 ≤ plan .side
-  pub side-high : plan .side ≤ 32
-  pub pass-kept : (i : ℕ) → i < 4 → PassRules (plan .side) (passAt plan i)
+  pub grid-kept : gridKept (plan .grid) ≡ true
+  pub rows-low : 1 ≤ plan .grid .rows
+  pub rows-high : plan .grid .rows ≤ 4096
+  pub columns-low : 1 ≤ plan .grid .columns
+  pub columns-high : plan .grid .columns ≤ 4096
+  pub side-low : 1 ≤ plan .grid .side
+  pub side-high : plan .grid .side ≤ 32
+  pub pass-kept : (i : ℕ) → i < 4 → PassRules (plan .grid .side) (passAt plan i)
 
 pub rules : (plan : Plan) → keepsRules plan ≡ true → Rules plan
 unfolding keepsRules passesKept
 rules plan e =
-    let rows = within (plan .rows) 4096 in
-    let columns = within (plan .columns) 4096 in
-    let side = within (plan .side) 32 in
-    let passes = passesKept plan in
-    let after-rows = and-right rows (columns && (side && passes)) e in
-    let after-columns = and-right columns (side && passes) after-rows in
-    let r = within-bounds (plan .rows) 4096 (and-left rows (columns && (side && passes)) e) in
-    let k = within-bounds (plan .columns) 4096 (and-left columns (side && passes) after-rows) in
-    let s = within-bounds (plan .side) 32 (and-left side passes after-columns) in
+    let sizes = and-left (gridKept (plan .grid)) (passesKept plan) e in
+    let known = ranges (plan .grid) sizes in
     record {
-      rows-low = r .0;
-      rows-high = r .1;
-      columns-low = k .0;
-      columns-high = k .1;
-      side-low = s .0;
-      side-high = s .1;
-      pass-kept = λ i h. pass-rules (plan .side) (passAt plan i) (all-at _ 4 i (and-right side passes after-columns) h);
+      grid-kept = sizes;
+      rows-low = known .rows-low;
+      rows-high = known .rows-high;
+      columns-low = known .columns-low;
+      columns-high = known .columns-high;
+      side-low = known .side-low;
+      side-high = known .side-high;
+      pass-kept =
+          λ i h. pass-rules (plan .grid .side) (passAt plan i) (all-at _ 4 i (and-right (gridKept (plan .grid)) (passesKept plan) e) h);
     }
 
 module _ (plan : Plan) (kept : keepsRules plan ≡ true) where
+  -- A block of the plan's map.
+  pub in-grid : (k : ℕ) → k < neededMarks plan → InGrid (plan .grid) k
+  in-grid k h = record { kept = rules plan kept .grid-kept; inside = h }
+
   pub order-limited-at : (i : ℕ) → i < 4 → passAt plan i .order ≤ orderLimit
   order-limited-at i h = rules plan kept .pass-kept i h .order-limited
 
   pub order-sum-limited : (count : ℕ) → count ≤ 4 → orderSum plan count ≤ orderLimit * count
-  unfolding orderSum
+  unfolding total
   order-sum-limited zero h = omega arith
   order-sum-limited (suc count) h = omega (arith, order-sum-limited count (omega arith), order-limited-at count (omega arith))

@@ -1,3 +1,2 @@
-pub mod Lists
 pub mod Rules
 pub mod Sizes

@@ -1,20 +1,18 @@
 -- The rules that a plan record keeps. Document 01, 'Plan words'.
-use mathlib.Core.Bool.{Bool, true, false, _&&_, cond}
+use mathlib.Core.Bool.{Bool, false, _&&_, cond}
 use mathlib.Core.List.{[]}
-use Prim.Native.Nat.{ℕ, zero, suc}
+use Prim.Native.Nat.{ℕ}
 use lib.IntN.{ℤ, pos, negsuc}
 use lib.Dec.{ltb, leb, eqb}
 use lib.ListN.{getD}
+use Rattle.number.specs.Numbers.{allBelow}
+use Rattle.grid.specs.Grid.{gridKept}
 use Rattle.plan.specs.declared.Pass.{Pass}
 use Rattle.plan.specs.declared.Plan.{Plan}
 
 -- The largest order of a pass.
 abbrev pub orderLimit : ℕ
 orderLimit = 4
-
--- From 1 to `most`.
-abbrev pub within : ℕ → ℕ → Bool
-within number most = leb 1 number && leb number most
 
 -- From -134217728 to 134217727, the numbers of signed 28 bits: `negsuc n` is -(n + 1).
 abbrev pub inSigned28 : ℤ → Bool
@@ -25,11 +23,6 @@ inSigned28 (negsuc n) = ltb n 134217728
 abbrev pub isZero : ℤ → Bool
 isZero (pos n) = eqb n 0
 isZero (negsuc n) = false
-
--- A test holds of every number below n.
-unfoldable pub allBelow : (ℕ → Bool) → ℕ → Bool
-allBelow test zero = true
-allBelow test (suc n) = allBelow test n && test n
 
 -- Coefficient d(j+1) of a pass.
 abbrev pub coefficientAt : Pass → ℕ → ℤ
@@ -54,9 +47,8 @@ passAt plan i = getD (plan .passes) i (record { order = 0; gain = pos 0; coeffic
 
 -- All four passes are as they may be.
 unfoldable pub passesKept : Plan → Bool
-passesKept plan = allBelow (λ i. passKept (plan .side) (passAt plan i)) 4
+passesKept plan = allBelow (λ i. passKept (plan .grid .side) (passAt plan i)) 4
 
 -- 1 to 4,096 rows and columns, a block side of 1 to 32, and four passes that keep their rules.
 unfoldable pub keepsRules : Plan → Bool
-keepsRules plan =
-    within (plan .rows) 4096 && (within (plan .columns) 4096 && (within (plan .side) 32 && passesKept plan))
+keepsRules plan = gridKept (plan .grid) && passesKept plan

@@ -1,16 +1,21 @@
-// The plan record, its check, and what follows from its sizes: blocks, and the lengths of the buffers a job needs.
+// The plan record, its check, and the lengths of the buffers that a job needs.
+use grid::Grid;
 use refusal::Outcome;
 use refusal::Refusal;
 ghost use mathlib.Core.Path.{_≡_};
 ghost use mathlib.Core.Bool.{true};
 ghost use mathlib.Core.List.{[], _∷_};
 ghost use lib.Dec.{ltb};
+ghost use Prim.Native.Nat.{_≤_};
 ghost use Rattle.refusal.specs.Table.{_at_when_, firstDue, answerOf};
-ghost use Rattle.plan.specs.Rules.{inSigned28, isZero, coefficientKept, coefficientsKept, passKept, passesKept, within, keepsRules};
-ghost use Rattle.plan.specs.Sizes.{blockCount, blockExtent, blockRows, blockColumns, blockHeight, blockWidth, orderSum, sizesOf, planSizes, sizesGiven, lengthRows};
+ghost use Rattle.plan.specs.Rules.{inSigned28, isZero, coefficientKept, coefficientsKept, passKept, passesKept, keepsRules};
+ghost use Rattle.plan.specs.Sizes.{orderSum, sizesOf, planSizes, sizesGiven, lengthRows};
 
 // The largest order of a pass: `orderLimit` of specs/Rules.antt is the same number.
 pub const ORDER_LIMIT: usize = 4;
+
+// The most words that a plan can have: `wordLimit` of specs/Sizes.antt is the same number.
+pub const WORD_LIMIT: usize = 11 + 4 * ORDER_LIMIT;
 
 // One pass: its order, its gain and its coefficients, zero past the order.
 pub struct Pass {
@@ -19,11 +24,9 @@ pub struct Pass {
     pub coefficients: [i64; ORDER_LIMIT],
 }
 
-// A plan (document 01's term): the size of the map, the block side, and the passes down, up, right and left.
+// A plan (document 01's term): the size of the map and the block side, and the passes down, up, right and left.
 pub struct Plan {
-    pub rows: usize,
-    pub columns: usize,
-    pub side: usize,
+    pub grid: Grid,
     pub passes: [Pass; 4],
 }
 
@@ -48,44 +51,11 @@ impl Plan {
     pub fn check(self) -> bool
         ensures { λ r. ⌜ r ≡ keepsRules self ⌝ }
     {
-        if !within(self.rows, 4096) {
-            return false;
-        }
-        if !within(self.columns, 4096) {
-            return false;
-        }
-        if !within(self.side, 32) {
+        let grid = self.grid;
+        if !grid.check() {
             return false;
         }
         self.passes_kept()
-    }
-
-    // The number of rows of blocks.
-    pub fn block_rows(self) -> usize
-        ensures { λ r. ⌜ r ≡ blockRows self ⌝ }
-    {
-        block_count(self.rows, self.side)
-    }
-
-    // The number of columns of blocks.
-    pub fn block_columns(self) -> usize
-        ensures { λ r. ⌜ r ≡ blockColumns self ⌝ }
-    {
-        block_count(self.columns, self.side)
-    }
-
-    // The rows of the blocks in a row of blocks: the last may have fewer than the side; there are none past it.
-    pub fn block_height(self, block_row: usize) -> usize
-        ensures { λ r. ⌜ r ≡ blockHeight self «block_row» ⌝ }
-    {
-        block_extent(self.rows, self.side, block_row)
-    }
-
-    // The columns of the blocks in a column of blocks.
-    pub fn block_width(self, block_column: usize) -> usize
-        ensures { λ r. ⌜ r ≡ blockWidth self «block_column» ⌝ }
-    {
-        block_extent(self.columns, self.side, block_column)
     }
 
     // The sizes that follow from the record, or refusal 6.
@@ -102,28 +72,30 @@ impl Plan {
         requires { ⌜ keepsRules self ≡ true ⌝ }
         ensures { λ r. ⌜ r ≡ sizesOf self ⌝ }
     {
-        let block_rows = self.block_rows();
-        let block_columns = self.block_columns();
-        let orders = self.order_sum();
+        let grid = self.grid;
+        let block_rows = grid.block_rows();
+        let block_columns = grid.block_columns();
+        let orders = self.order_sum(4);
         let marks = block_rows * block_columns;
         Sizes {
             words: 11 + orders,
             block_rows: block_rows,
             block_columns: block_columns,
             marks: marks,
-            strips: marks * self.side * orders,
-            pixels: self.rows * self.columns,
+            strips: marks * grid.side * orders,
+            pixels: grid.rows * grid.columns,
             tasks: 6 * marks - 2 * block_rows - 2 * block_columns,
         }
     }
 
-    fn order_sum(self) -> usize
-        requires { ⌜ keepsRules self ≡ true ⌝ }
-        ensures { λ r. ⌜ r ≡ orderSum self 4 ⌝ }
+    // The sum of the orders of the first `count` passes.
+    pub fn order_sum(self, count: usize) -> usize
+        requires { ⌜ (keepsRules self ≡ true) × (count ≤ 4) ⌝ }
+        ensures { λ r. ⌜ r ≡ orderSum self count ⌝ }
     {
         let mut sum = 0;
         let mut i = 0;
-        while i < 4 {
+        while i < count {
             let pass = self.passes[i];
             sum += pass.order;
             i += 1;
@@ -134,7 +106,7 @@ impl Plan {
     fn passes_kept(self) -> bool
         ensures { λ r. ⌜ r ≡ passesKept self ⌝ }
     {
-        let side = self.side;
+        let side = self.grid.side;
         let mut i = 0;
         while i < 4 {
             let pass = self.passes[i];
@@ -233,39 +205,4 @@ fn is_zero(value: i64) -> bool
     ensures { λ r. ⌜ r ≡ isZero value ⌝ }
 {
     value == 0
-}
-
-// From 1 to `most`.
-pub fn within(number: usize, most: usize) -> bool
-    ensures { λ r. ⌜ r ≡ within number most ⌝ }
-{
-    if 1 <= number { number <= most } else { false }
-}
-
-// How many blocks of a side cover a length; 0 where the side is 0.
-fn block_count(length: usize, side: usize) -> usize
-    ensures { λ r. ⌜ r ≡ blockCount length side ⌝ }
-{
-    if side == 0 {
-        return 0;
-    }
-    if length % side == 0 {
-        length / side
-    } else {
-        length / side + 1
-    }
-}
-
-// How much of a length a block has.
-fn block_extent(length: usize, side: usize, block: usize) -> usize
-    ensures { λ r. ⌜ r ≡ blockExtent length side block ⌝ }
-{
-    if block < block_count(length, side) {
-        let left = length - block * side;
-        if left < side {
-            return left;
-        }
-        return side;
-    }
-    0
 }

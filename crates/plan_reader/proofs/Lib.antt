@@ -1,6 +1,6 @@
 pub mod Conjunction
-pub mod Signed
-pub mod Places
-pub mod Rows
-pub mod Record
+pub mod SignedPayload
+pub mod PassPlaces
+pub mod RefusalRows
+pub mod RecordParts
 pub mod ReadAnswers

@@ -2,7 +2,8 @@
 use mathlib.Core.Path.{_≡_}
 use mathlib.Core.List.{List}
 use Prim.Native.Nat.{ℕ}
-use Rattle.refusal.specs.Table.{accepted, refused, firstDue}
+use Rattle.refusal.specs.Refusals.{accepted, refused}
+use Rattle.refusal.specs.Table.{firstDue}
 use Rattle.plan.specs.declared.Plan.{Plan}
 use Rattle.plan_reader.specs.ReadPlan.{planRows, planFrom, zeroPlan, readPlan}
 

@@ -3,7 +3,9 @@ use mathlib.Core.Bool.{Bool, _&&_, cond}
 use Prim.Native.Nat.{ℕ, suc, _-_, _/_, _%_}
 use lib.IntN.{ℤ, pos, negsuc}
 use lib.Dec.{ltb, leb, eqb}
-use Rattle.plan.specs.Rules.{orderLimit, within}
+use Rattle.plan.specs.Rules.{orderLimit}
+use Rattle.number.specs.Numbers.{within}
+use Rattle.grid.specs.Grid.{sizeLimit, sideLimit}
 
 -- The kind of a word of 32 bits: its top four bits.
 abbrev pub kindOf : ℕ → ℕ
@@ -24,11 +26,11 @@ columnsIn payload = payload % 8192
 -- Size, kind 1: rows and columns from 1 to 4,096, bits 26 and 27 zero.
 abbrev pub sizeAllowed : ℕ → Bool
 sizeAllowed payload =
-    within (rowsIn payload) 4096 && (within (columnsIn payload) 4096 && eqb (payload / 67108864) 0)
+    within (rowsIn payload) sizeLimit && (within (columnsIn payload) sizeLimit && eqb (payload / 67108864) 0)
 
 -- Block, kind 2: the block side, from 1 to 32.
 abbrev pub sideAllowed : ℕ → Bool
-sideAllowed payload = within payload 32
+sideAllowed payload = within payload sideLimit
 
 -- Pass, kind 3: the order in bits 0 to 3.
 abbrev pub orderIn : ℕ → ℕ

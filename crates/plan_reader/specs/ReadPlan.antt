@@ -9,21 +9,11 @@ use lib.ListN.{length, replicate}
 use Rattle.refusal.specs.Table.{Row, _at_when_, firstDue, answerOf, Given, given}
 use Rattle.plan.specs.declared.Pass.{Pass}
 use Rattle.plan.specs.declared.Plan.{Plan}
-use Rattle.plan.specs.Rules.{orderLimit, allBelow}
-use Rattle.plan.specs.Lists.{wordAt, listOf}
+use Rattle.plan.specs.Rules.{orderLimit}
+use Rattle.number.specs.Numbers.{allBelow}
+use Rattle.buffer.specs.Lists.{wordAt, listOf}
 use Rattle.plan_reader.specs.declared.PlanRead.{PlanRead}
-use Rattle.plan_reader.specs.PlanWords.{
-  kindOf,
-  payloadOf,
-  rowsIn,
-  columnsIn,
-  sizeAllowed,
-  sideAllowed,
-  orderIn,
-  passAllowed,
-  endAllowed,
-  signed28,
-}
+use Rattle.plan_reader.specs.PlanWords.{kindOf, payloadOf, rowsIn, columnsIn, sizeAllowed, sideAllowed, orderIn, passAllowed, endAllowed, signed28}
 
 -- The payload of the word at a place.
 abbrev pub payloadAt : List ℕ → ℕ → ℕ
@@ -109,9 +99,12 @@ passFrom words place =
 unfoldable pub planFrom : List ℕ → Plan
 planFrom words =
     record {
-      rows = rowsIn (payloadAt words 0);
-      columns = columnsIn (payloadAt words 0);
-      side = payloadAt words 1;
+      grid =
+          record {
+            rows = rowsIn (payloadAt words 0);
+            columns = columnsIn (payloadAt words 0);
+            side = payloadAt words 1;
+          };
       passes = listOf (λ i. passFrom words (passPlace words i)) 4;
     }
 
@@ -121,7 +114,7 @@ zeroPass = record { order = 0; gain = pos 0; coefficients = replicate orderLimit
 
 -- A record of zeros.
 abbrev pub zeroPlan : Plan
-zeroPlan = record { rows = 0; columns = 0; side = 0; passes = replicate 4 zeroPass }
+zeroPlan = record { grid = record { rows = 0; columns = 0; side = 0 }; passes = replicate 4 zeroPass }
 
 -- The record that a list of plan words holds, or the first refusal and a record of zeros.
 unfoldable pub readPlan : List ℕ → Given Plan

@@ -1,4 +1,5 @@
 // Reads a plan from its words.
+use grid::Grid;
 use plan::Pass;
 use plan::Plan;
 use refusal::Outcome;
@@ -7,7 +8,7 @@ ghost use mathlib.Core.Path.{_≡_};
 ghost use Prim.Native.Nat.{_+_, _<_, _≤_, _%_};
 ghost use Rattle.refusal.specs.Table.{firstDue, answerOf};
 ghost use Rattle.plan.specs.Rules.{orderLimit};
-ghost use Rattle.plan.specs.Lists.{wordAt, listOf};
+ghost use Rattle.buffer.specs.Lists.{wordAt, listOf};
 ghost use Rattle.plan_reader.specs.PlanWords.{sizeAllowed, passAllowed, signed28};
 ghost use Rattle.plan_reader.specs.ReadPlan.{payloadAt, orderAt, passPlace, wordRows, headRows, coefficientRows, passRows, passesRows, endRows, sideRows, planRows, coefficientIn, passFrom, planFrom, zeroPass, zeroPlan, readPlan, readGiven};
 
@@ -72,10 +73,10 @@ fn pass_place(words: &[u32], i: usize) -> usize
 fn size_allowed(payload: u32) -> bool
     ensures { λ r. ⌜ r ≡ sizeAllowed payload ⌝ }
 {
-    if !plan::within((payload / 8192 % 8192) as usize, 4096) {
+    if !number::within((payload / 8192 % 8192) as usize, grid::SIZE_LIMIT) {
         return false;
     }
-    if !plan::within((payload % 8192) as usize, 4096) {
+    if !number::within((payload % 8192) as usize, grid::SIZE_LIMIT) {
         return false;
     }
     payload / 67108864 == 0
@@ -127,7 +128,12 @@ fn head_outcome(words: &[u32]) -> Outcome
     ensures { λ r. ⌜ answerOf r ≡ firstDue (headRows (now (words .entry))) ⌝ }
 {
     let size = word_outcome(words, 0, 1, size_allowed(payload_at(words, 0)));
-    let block = word_outcome(words, 1, 2, plan::within(payload_at(words, 1) as usize, 32));
+    let block = word_outcome(
+        words,
+        1,
+        2,
+        number::within(payload_at(words, 1) as usize, grid::SIDE_LIMIT),
+    );
     size.or_first(block)
 }
 
@@ -263,10 +269,13 @@ fn plan_from(words: &[u32]) -> Plan
     let size = payload_at(words, 0);
     let side = payload_at(words, 1);
     let passes = passes_from(words);
-    Plan {
+    let grid = Grid {
         rows: (size / 8192 % 8192) as usize,
         columns: (size % 8192) as usize,
         side: side as usize,
+    };
+    Plan {
+        grid: grid,
         passes: passes,
     }
 }
@@ -285,10 +294,13 @@ fn zero_plan() -> Plan
     ensures { λ r. ⌜ r ≡ zeroPlan ⌝ }
 {
     let pass = zero_pass();
-    Plan {
+    let grid = Grid {
         rows: 0,
         columns: 0,
         side: 0,
+    };
+    Plan {
+        grid: grid,
         passes: [pass; 4],
     }
 }

@@ -12,21 +12,11 @@ use lib.Seq.{getD-append-add}
 use Rattle.plan.specs.declared.Plan.{Plan}
 use Rattle.plan.specs.Rules.{orderLimit, passAt, keepsRules}
 use Rattle.plan.proofs.Record.{rules}
-use Rattle.plan.proofs.Listed.{listed-only}
-use Rattle.plan_reader.proofs.Record.{same-pass, same-plan}
-use Rattle.plan_writer.specs.Shape.{WellShaped}
-use Rattle.plan_record.specs.Records.{
-  passLength,
-  numberAt,
-  sizeFrom,
-  passOfRecord,
-  planOfRecord,
-  numberFrom,
-  recordOfPass,
-  recordOfPasses,
-  recordOfPlan,
-}
-use Rattle.plan_record.proofs.Words.{number-held}
+use Rattle.buffer.proofs.Listed.{listed-only}
+use Rattle.plan_reader.proofs.RecordParts.{same-pass, same-plan}
+use Rattle.plan_writer.specs.RecordType.{WellShaped}
+use Rattle.plan_record.specs.Records.{passLength, numberAt, sizeFrom, passOfRecord, planOfRecord, numberFrom, recordOfPass, recordOfPasses, recordOfPlan}
+use Rattle.plan_record.proofs.RecordWords.{number-held}
 
 size-back : (size : ℕ) {number : ℤ} → size < 2 ^ 63 → number ≡ numberFrom size → sizeFrom number ≡ size
 size-back size h e = ap sizeFrom (e ∙ number-held size h)
@@ -84,11 +74,14 @@ module _ (plan : Plan) (shape : WellShaped plan) where
 
     -- The record of a plan stands for the plan.
     pub record-read-back :
-        plan .rows < 2 ^ 63 → plan .columns < 2 ^ 63 → plan .side < 2 ^ 63 → planOfRecord (recordOfPlan plan) ≡ plan
+        plan .grid .rows < 2 ^ 63 → plan .grid .columns < 2 ^ 63 → plan .grid .side < 2 ^ 63
+        → planOfRecord (recordOfPlan plan) ≡ plan
     unfolding planOfRecord recordOfPlan
     record-read-back rows columns side =
-        same-plan (size-back (plan .rows) rows refl) (size-back (plan .columns) columns refl) (size-back (plan .side) side refl)
-        (sym (listed-only _ (plan .passes) 4 (record { order = 0; gain = pos 0; coefficients = [] }) (shape .passCount) pass-back))
+        same-plan (size-back (plan .grid .rows) rows refl) (size-back (plan .grid .columns) columns refl)
+        (size-back (plan .grid .side) side refl)
+        (sym (listed-only _ (plan .passes) 4 (record { order = 0; gain = pos 0; coefficients = [] })
+        (shape .passCount) pass-back))
 
 -- A plan that keeps the rules is such a plan.
 pub kept-read-back : (plan : Plan) → WellShaped plan → keepsRules plan ≡ true → planOfRecord (recordOfPlan plan) ≡ plan

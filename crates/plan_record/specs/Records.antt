@@ -9,7 +9,7 @@ use lib.ListN.{getD}
 use Rattle.plan.specs.declared.Pass.{Pass}
 use Rattle.plan.specs.declared.Plan.{Plan}
 use Rattle.plan.specs.Rules.{orderLimit, passAt}
-use Rattle.plan.specs.Lists.{listOf}
+use Rattle.buffer.specs.Lists.{listOf}
 
 -- The words of a pass in the record: order, gain, and a place for each coefficient.
 abbrev pub passLength : ℕ
@@ -43,9 +43,12 @@ passOfRecord words place =
 unfoldable pub planOfRecord : List ℤ → Plan
 planOfRecord words =
     record {
-      rows = sizeFrom (numberAt words 0);
-      columns = sizeFrom (numberAt words 1);
-      side = sizeFrom (numberAt words 2);
+      grid =
+          record {
+            rows = sizeFrom (numberAt words 0);
+            columns = sizeFrom (numberAt words 1);
+            side = sizeFrom (numberAt words 2);
+          };
       passes = listOf (λ i. passOfRecord words (3 + i * passLength)) 4;
     }
 
@@ -67,4 +70,4 @@ recordOfPasses plan (suc count) = recordOfPasses plan count ++ recordOfPass (pas
 -- The C record of a plan.
 unfoldable pub recordOfPlan : Plan → List ℤ
 recordOfPlan plan =
-    numberFrom (plan .rows) ∷ numberFrom (plan .columns) ∷ numberFrom (plan .side) ∷ recordOfPasses plan 4
+    numberFrom (plan .grid .rows) ∷ numberFrom (plan .grid .columns) ∷ numberFrom (plan .grid .side) ∷ recordOfPasses plan 4

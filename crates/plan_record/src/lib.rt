@@ -1,4 +1,5 @@
 // The C record of a plan: an array of signed numbers, and the plan that it stands for.
+use grid::Grid;
 use plan::Pass;
 use plan::Plan;
 ghost use mathlib.Core.Path.{_≡_};
@@ -6,7 +7,7 @@ ghost use mathlib.Core.List.{_++_};
 ghost use Prim.Native.Nat.{_≤_, _+_, _*_};
 ghost use lib.ListN.{length, take};
 ghost use Rattle.plan.specs.Rules.{orderLimit};
-ghost use Rattle.plan.specs.Lists.{listOf};
+ghost use Rattle.buffer.specs.Lists.{listOf};
 ghost use Rattle.plan_record.specs.Records.{recordLength, passLength, numberAt, sizeFrom, numberFrom, passOfRecord, planOfRecord, recordOfPass, recordOfPlan};
 
 // The words of a pass: order, gain and a place for each coefficient.
@@ -23,10 +24,13 @@ pub fn plan_of_record(words: &[i64; RECORD_LENGTH]) -> Plan
     let columns = size_from(words[1]);
     let side = size_from(words[2]);
     let passes = passes_of_record(words);
-    Plan {
+    let grid = Grid {
         rows: rows,
         columns: columns,
         side: side,
+    };
+    Plan {
+        grid: grid,
         passes: passes,
     }
 }
@@ -91,9 +95,9 @@ pub fn record_of_plan(plan: Plan) -> [i64; RECORD_LENGTH]
     ensures { λ r. ⌜ r ≡ recordOfPlan plan ⌝ }
 {
     let mut words = [0; RECORD_LENGTH];
-    words[0] = number_from(plan.rows);
-    words[1] = number_from(plan.columns);
-    words[2] = number_from(plan.side);
+    words[0] = number_from(plan.grid.rows);
+    words[1] = number_from(plan.grid.columns);
+    words[2] = number_from(plan.grid.side);
     let mut i = 0;
     while i < 4 {
         let pass = plan.passes[i];

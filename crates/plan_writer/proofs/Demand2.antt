@@ -4,14 +4,14 @@ use mathlib.Core.List.{List, _++_}
 use Prim.Native.Nat.{ℕ, _+_, _*_, _≤_}
 use native.Mathlib.Omega.{arith}
 use lib.ListN.{length, drop}
-use Rattle.refusal.specs.Table.{accepted}
+use Rattle.refusal.specs.Refusals.{accepted}
 use Rattle.plan.specs.Rules.{orderLimit}
 use Rattle.plan.specs.Sizes.{wordCount}
 use Rattle.plan.proofs.Needed.{bounds}
 use Rattle.plan_reader.specs.ReadPlan.{readPlan}
 use Rattle.plan_writer.specs.WritePlan.{writePlan, writtenWords}
 use Rattle.plan_writer.specs.Demand2.{Demand2}
-use Rattle.plan_writer.proofs.Words.{length-words}
+use Rattle.plan_writer.proofs.WrittenWords.{length-words}
 use Rattle.plan_writer.proofs.WriteAnswers.{call-accepted}
 use Rattle.plan_writer.proofs.RoundTripWritten.{reading-written}
 use Rattle.plan_writer.proofs.RoundTripRead.{writing-read, read-keeps-rules}

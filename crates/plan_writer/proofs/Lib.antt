@@ -1,7 +1,7 @@
 pub mod Payload
-pub mod Words
+pub mod WrittenWords
 pub mod WriteAnswers
-pub mod Accepted
+pub mod AcceptedWords
 pub mod RoundTripWritten
 pub mod RoundTripRead
 pub mod Demand2

@@ -1,4 +1,5 @@
--- Laws of signed payloads: what the machine makes of a number, and that reading and writing a payload undo each other. Assumes nothing.
+-- Laws of signed payloads: what the machine makes of a number, and that reading and writing a payload undo each other.
+-- Assumes nothing.
 use mathlib.Core.Path.{_≡_, refl, ap, _∙_}
 use mathlib.Core.Bool.{true, false}
 use mathlib.Core.Logic.{⊎-elim}
@@ -12,9 +13,9 @@ use mir.Val.{SFits, Fits, toZ, ofZ}
 use mir.ValLaws.{toZ-ofZ}
 use borrow.Author.Tests.{lt-ltb, le-ltb, ltb-true}
 use Rattle.plan.specs.Rules.{inSigned28}
-use Rattle.plan.proofs.Tests.{lt-or-ge}
+use Rattle.number.proofs.Tests.{lt-or-ge}
 use Rattle.plan_reader.specs.PlanWords.{signed28}
-use Rattle.plan_reader.proofs.Signed.{signed-low, signed-high}
+use Rattle.plan_reader.proofs.SignedPayload.{signed-low, signed-high}
 use Rattle.plan_writer.specs.WritePlan.{payload28}
 
 pub payload-below : (value : ℤ) → inSigned28 value ≡ true → payload28 value < 268435456
@@ -45,7 +46,8 @@ module _ (value read : ℤ) (e : read ≡ value) (kept : inSigned28 value ≡ tr
     pub sum-back : toZ w64 (ofZ w64 (read +ℤ pos 268435456)) ≡ pos (payload28 value)
     sum-back = toZ-ofZ w64 (read +ℤ pos 268435456) sum-fits ∙ sum-value
 
-    pub sum-cast : T (nonNeg (toZ w64 (ofZ w64 (read +ℤ pos 268435456)))) × Fits w32 (natAbs (toZ w64 (ofZ w64 (read +ℤ pos 268435456))))
+    pub sum-cast : T (nonNeg (toZ w64 (ofZ w64 (read +ℤ pos 268435456))))
+        × Fits w32 (natAbs (toZ w64 (ofZ w64 (read +ℤ pos 268435456))))
     sum-cast = rw sum-back (tt, record { fits = omega (arith, payload-below value kept) })
 
   module _ (natural : ltZ read (pos 0) ≡ false) where

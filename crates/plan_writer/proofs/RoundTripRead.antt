@@ -12,48 +12,23 @@ use lib.IntN.{pos}
 use lib.Dec.{ltb, leb, eqb}
 use lib.ListN.{length, drop, drop-of-length-le}
 use borrow.Author.Tests.{lt-ltb, le-ltb, ltb-false, le-leb, leb-true, eqb-true, not-false}
-use Rattle.refusal.specs.Table.{accepted, _at_when_, firstDue}
+use Rattle.refusal.specs.Refusals.{accepted}
+use Rattle.refusal.specs.Table.{_at_when_, firstDue}
 use Rattle.refusal.proofs.Table.{rows-accepted, none-of}
+use Rattle.grid.specs.Grid.{gridKept}
 use Rattle.plan.specs.declared.Pass.{Pass}
-use Rattle.plan.specs.Rules.{
-  orderLimit,
-  within,
-  inSigned28,
-  allBelow,
-  coefficientAt,
-  coefficientKept,
-  coefficientsKept,
-  passKept,
-  passAt,
-  passesKept,
-  keepsRules,
-}
-use Rattle.plan.proofs.Tests.{and-left, and-right, all-at, lt-or-ge}
-use Rattle.plan.proofs.Listed.{listed-at}
+use Rattle.plan.specs.Rules.{orderLimit, inSigned28, coefficientAt, coefficientKept, coefficientsKept, passKept, passAt, passesKept, keepsRules}
+use Rattle.number.specs.Numbers.{within, allBelow}
+use Rattle.number.proofs.Sums.{all-below}
+use Rattle.number.proofs.Tests.{and-left, and-right, and-both, all-at, lt-or-ge}
+use Rattle.buffer.proofs.Listed.{listed-at}
 use Rattle.plan_reader.specs.PlanWords.{rowsIn, columnsIn, passIn, passAllowed, sizeAllowed, sideAllowed, endAllowed, signed28}
-use Rattle.plan_reader.specs.ReadPlan.{
-  payloadAt,
-  orderAt,
-  afterPass,
-  passPlace,
-  wordRows,
-  headRows,
-  coefficientRows,
-  passRows,
-  passesRows,
-  endRows,
-  sideRows,
-  planRows,
-  coefficientIn,
-  passFrom,
-  planFrom,
-  readPlan,
-}
-use Rattle.plan_reader.proofs.Record.{coefficient-read, coefficient-zero}
-use Rattle.plan_reader.proofs.Rows.{sideReaches}
+use Rattle.plan_reader.specs.ReadPlan.{payloadAt, orderAt, afterPass, passPlace, wordRows, headRows, coefficientRows, passRows, passesRows, endRows, sideRows, planRows, coefficientIn, passFrom, planFrom, readPlan}
+use Rattle.plan_reader.proofs.RecordParts.{coefficient-read, coefficient-zero}
+use Rattle.plan_reader.proofs.RefusalRows.{sideReaches}
 use Rattle.plan_writer.specs.WritePlan.{wordOf, payload28, coefficientWords, passWords, passesWords, wordsOf}
 use Rattle.plan_writer.proofs.Payload.{payload-signed, signed-kept}
-use Rattle.plan_writer.proofs.Accepted.{and-both, all-of, word-due, word-first}
+use Rattle.plan_writer.proofs.AcceptedWords.{word-due, word-first}
 
 -- ---- one pass
 
@@ -84,8 +59,10 @@ module _ (words : List ℕ) (i place : ℕ) (e : firstDue (passRows words i plac
 
   head-payload : payloadAt words place ≡ i * 16 + orderAt words place
   head-payload =
-      let number : passIn (payloadAt words place) ≡ i = eqb-true _ i (and-left (eqb (passIn (payloadAt words place)) i) _ head-allowed) in
-      let spare : payloadAt words place / 64 ≡ 0 = eqb-true _ 0 (and-right (leb (orderAt words place) orderLimit) _ order-and-spare) in
+      let number : passIn (payloadAt words place) ≡ i =
+      eqb-true _ i (and-left (eqb (passIn (payloadAt words place)) i) _ head-allowed) in
+      let spare : payloadAt words place / 64 ≡ 0 =
+      eqb-true _ 0 (and-right (leb (orderAt words place) orderLimit) _ order-and-spare) in
       omega arith
 
   -- what the pass holds
@@ -128,14 +105,22 @@ module _ (words : List ℕ) (i place : ℕ) (e : firstDue (passRows words i plac
       ap (λ (n : ℕ). drop n words) (sym (add-one place)) ∙ word-first words (place + 1) 4 true (others-accepted .0) in
       let third : suc (place + 1) ≡ place + 2 = omega arith in
       word-first words place 3 _ head-accepted
-      ∙ rw (second, third, coefficients-first (orderAt words place) (omega arith) (others-accepted .1), order-is, gain, ← head-payload)
+      ∙ rw (
+        second,
+        third,
+        coefficients-first (orderAt words place) (omega arith) (others-accepted .1),
+        order-is,
+        gain,
+        ← head-payload,
+      )
 
   -- it keeps the rules
   coefficient-kept : (j : ℕ) → j < orderLimit → coefficientKept (pass .order) j (coefficientAt pass j) ≡ true
   coefficient-kept j h =
       ⊎-elim
       (λ (l : j < orderAt words place).
-      rw (order-is, lt-ltb j (orderAt words place) l, coefficient-is j l) (signed-kept (payloadAt words (place + 2 + j)) (omega arith)))
+      rw (order-is, lt-ltb j (orderAt words place) l, coefficient-is j l)
+      (signed-kept (payloadAt words (place + 2 + j)) (omega arith)))
       (λ (g : orderAt words place ≤ j).
       rw (order-is, le-ltb j (orderAt words place) g, place-is j h, coefficient-zero words place j g))
       (lt-or-ge j (orderAt words place))
@@ -148,7 +133,7 @@ module _ (words : List ℕ) (i place : ℕ) (e : firstDue (passRows words i plac
       let gain : inSigned28 (pass .gain) ≡ true = rw gain-is (signed-kept (payloadAt words (place + 1)) (omega arith)) in
       and-both limited
       (and-both in-side
-      (and-both gain (all-of (λ j. coefficientKept (pass .order) j (coefficientAt pass j)) orderLimit coefficient-kept)))
+      (and-both gain (all-below (λ j. coefficientKept (pass .order) j (coefficientAt pass j)) orderLimit coefficient-kept)))
 
 -- ---- the plan
 
@@ -176,7 +161,11 @@ module _ (words : List ℕ) where
   passes-first a zero h = refl
   passes-first a (suc count) h =
       passes-first a count (omega arith)
-      ∙ rw (pass-first words count (passPlace words count) (pass-accepted 4 count a (omega arith)), pass-is count (omega arith), append-assoc)
+      ∙ rw (
+        pass-first words count (passPlace words count) (pass-accepted 4 count a (omega arith)),
+        pass-is count (omega arith),
+        append-assoc,
+      )
 
 module _ (words : List ℕ) (e : firstDue (planRows words) ≡ accepted) where
   heads : (firstDue (wordRows words 0 1 (sizeAllowed (payloadAt words 0))) ≡ accepted)
@@ -190,7 +179,8 @@ module _ (words : List ℕ) (e : firstDue (planRows words) ≡ accepted) where
       × (firstDue (endRows words (passPlace words 4) ++ sideRows words) ≡ accepted)
   unfolding planRows
   after-head =
-      rows-accepted (passesRows words 4) (endRows words (passPlace words 4) ++ sideRows words) (rows-accepted (headRows words) _ e .1)
+      rows-accepted (passesRows words 4) (endRows words (passPlace words 4) ++ sideRows words)
+      (rows-accepted (headRows words) _ e .1)
 
   passes : firstDue (passesRows words 4) ≡ accepted
   passes = after-head .0
@@ -201,7 +191,8 @@ module _ (words : List ℕ) (e : firstDue (planRows words) ≡ accepted) where
   ends : (firstDue (wordRows words (passPlace words 4) 6 (endAllowed (payloadAt words (passPlace words 4)))) ≡ accepted)
       × (firstDue (5 at passPlace words 4 + 1 when ltb (passPlace words 4 + 1) (length words) ∷ []) ≡ accepted)
   unfolding endRows
-  ends = rows-accepted (wordRows words (passPlace words 4) 6 (endAllowed (payloadAt words (passPlace words 4)))) (_ ∷ []) (last .0)
+  ends =
+      rows-accepted (wordRows words (passPlace words 4) 6 (endAllowed (payloadAt words (passPlace words 4)))) (_ ∷ []) (last .0)
 
   rows-kept : within (rowsIn (payloadAt words 0)) 4096 ≡ true
   rows-kept = and-left _ _ (word-due words 0 1 _ (heads .0) .payload-allowed)
@@ -211,7 +202,8 @@ module _ (words : List ℕ) (e : firstDue (planRows words) ≡ accepted) where
 
   size-payload : rowsIn (payloadAt words 0) * 8192 + columnsIn (payloadAt words 0) ≡ payloadAt words 0
   size-payload =
-      let spare : payloadAt words 0 / 67108864 ≡ 0 = eqb-true _ 0 (and-right (within (columnsIn (payloadAt words 0)) 4096) _ columns-and-spare) in
+      let spare : payloadAt words 0 / 67108864 ≡ 0 =
+      eqb-true _ 0 (and-right (within (columnsIn (payloadAt words 0)) 4096) _ columns-and-spare) in
       omega arith
 
   nothing-left : drop (suc (passPlace words 4)) words ≡ []
@@ -223,7 +215,8 @@ module _ (words : List ℕ) (e : firstDue (planRows words) ≡ accepted) where
   end-first : drop (passPlace words 4) words ≡ wordOf 6 0 ∷ []
   end-first =
       let d = word-due words (passPlace words 4) 6 _ (ends .0) in
-      let empty : payloadAt words (passPlace words 4) ≡ 0 = eqb-true (payloadAt words (passPlace words 4)) 0 (d .payload-allowed) in
+      let empty : payloadAt words (passPlace words 4) ≡ 0 =
+      eqb-true (payloadAt words (passPlace words 4)) 0 (d .payload-allowed) in
       word-first words (passPlace words 4) 6 _ (ends .0) ∙ rw (empty, nothing-left)
 
   words-again : wordsOf (planFrom words) ≡ words
@@ -243,12 +236,13 @@ module _ (words : List ℕ) (e : firstDue (planRows words) ≡ accepted) where
       (leb-true (orderAt words (passPlace words i)) (payloadAt words 1) (all-at (sideReaches words) 4 i sides-reach h)))
 
   rules-kept : keepsRules (planFrom words) ≡ true
-  unfolding keepsRules passesKept planFrom
+  unfolding gridKept keepsRules passesKept planFrom
   rules-kept =
-      and-both rows-kept
+      and-both
+      (and-both rows-kept
       (and-both (and-left (within (columnsIn (payloadAt words 0)) 4096) _ columns-and-spare)
-      (and-both (word-due words 1 2 _ (heads .1) .payload-allowed)
-      (all-of (λ i. passKept (payloadAt words 1) (passAt (planFrom words) i)) 4 pass-kept)))
+      (word-due words 1 2 _ (heads .1) .payload-allowed)))
+      (all-below (λ i. passKept (payloadAt words 1) (passAt (planFrom words) i)) 4 pass-kept)
 
 -- ---- the laws
 

@@ -11,47 +11,28 @@ use lib.IntN.{ℤ, pos, negsuc}
 use lib.ListN.{length, getD, List·getD-append}
 use lib.Seq.{getD-at, getD-append-add}
 use borrow.Author.Tests.{lt-ltb, le-ltb, le-leb, eq-eqb, eqb-true}
-use Rattle.refusal.specs.Table.{accepted, firstDue}
+use Rattle.refusal.specs.Refusals.{accepted}
+use Rattle.refusal.specs.Table.{firstDue}
 use Rattle.refusal.proofs.Table.{first-append, both-accepted}
 use Rattle.plan.specs.declared.Pass.{Pass}
 use Rattle.plan.specs.declared.Plan.{Plan}
-use Rattle.plan.specs.Rules.{orderLimit, within, inSigned28, isZero, coefficientAt, passAt, keepsRules}
-use Rattle.plan.specs.Sizes.{orderSum}
-use Rattle.plan.specs.Lists.{wordAt}
-use Rattle.plan.proofs.Tests.{lt-or-ge}
+use Rattle.plan.specs.Rules.{orderLimit, inSigned28, isZero, coefficientAt, passAt, keepsRules}
+use Rattle.number.specs.Numbers.{within, total}
+use Rattle.plan.specs.Sizes.{orderOf, orderSum}
+use Rattle.buffer.specs.Lists.{wordAt}
+use Rattle.number.proofs.Sums.{all-below, total-grows}
+use Rattle.number.proofs.Tests.{lt-or-ge, and-both}
 use Rattle.plan.proofs.Record.{PassRules, rules}
-use Rattle.plan.proofs.Listed.{listed-only}
+use Rattle.buffer.proofs.Listed.{listed-only}
 use Rattle.plan_reader.specs.PlanWords.{signed28, passAllowed, sizeAllowed}
-use Rattle.plan_reader.specs.ReadPlan.{
-  payloadAt,
-  orderAt,
-  passPlace,
-  headRows,
-  coefficientRows,
-  passRows,
-  passesRows,
-  endRows,
-  sideRows,
-  planRows,
-  coefficientIn,
-  passFrom,
-  planFrom,
-  readPlan,
-}
-use Rattle.plan_reader.proofs.Record.{coefficient-read, coefficient-zero, same-pass, same-plan}
-use Rattle.plan_reader.proofs.Rows.{side-accepted, sideReaches}
-use Rattle.plan_writer.specs.Shape.{WellShaped}
+use Rattle.plan_reader.specs.ReadPlan.{payloadAt, orderAt, passPlace, headRows, coefficientRows, passRows, passesRows, endRows, sideRows, planRows, coefficientIn, passFrom, planFrom, readPlan}
+use Rattle.plan_reader.proofs.RecordParts.{coefficient-read, coefficient-zero, same-pass, same-plan}
+use Rattle.plan_reader.proofs.RefusalRows.{side-accepted, sideReaches}
+use Rattle.plan_writer.specs.RecordType.{WellShaped}
 use Rattle.plan_writer.specs.WritePlan.{wordOf, payload28, coefficientWords, passWords, passesWords, sizePayload, wordsOf}
 use Rattle.plan_writer.proofs.Payload.{payload-below, signed-payload}
-use Rattle.plan_writer.proofs.Words.{
-  length-coefficients,
-  length-pass,
-  length-passes,
-  length-words,
-  more-orders,
-  orders-grow,
-}
-use Rattle.plan_writer.proofs.Accepted.{and-both, all-of, payload-written, word-written}
+use Rattle.plan_writer.proofs.WrittenWords.{length-coefficients, length-pass, length-passes, length-words}
+use Rattle.plan_writer.proofs.AcceptedWords.{payload-written, word-written}
 
 -- ---- where the words stand
 
@@ -104,7 +85,7 @@ zero-is (negsuc n) e = cc
 
 -- ---- one pass
 
-module _ (plan : Plan) (i : ℕ) (h : i < 4) (kept : PassRules (plan .side) (passAt plan i)) where
+module _ (plan : Plan) (i : ℕ) (h : i < 4) (kept : PassRules (plan .grid .side) (passAt plan i)) where
   abbrev pass : Pass
   pass = passAt plan i
 
@@ -112,7 +93,7 @@ module _ (plan : Plan) (i : ℕ) (h : i < 4) (kept : PassRules (plan .side) (pas
   start = passStart plan i
 
   pass-within : (k : ℕ) → k < 2 + pass .order → start + k < length (wordsOf plan)
-  pass-within k b = omega (arith, length-words plan, more-orders plan i, orders-grow plan 4 (i + 1) (omega arith))
+  pass-within k b = omega (arith, length-words plan, total-grows (orderOf plan) i 4 (omega arith))
 
   head-at : wordAt (wordsOf plan) start ≡ wordOf 3 (i * 16 + pass .order)
   unfolding passWords
@@ -122,7 +103,8 @@ module _ (plan : Plan) (i : ℕ) (h : i < 4) (kept : PassRules (plan .side) (pas
   unfolding passWords
   gain-at = word-of-pass plan i 1 (start + 1) h (omega arith) (omega arith)
 
-  coefficient-at : (j : ℕ) → j < pass .order → wordAt (wordsOf plan) (start + 2 + j) ≡ wordOf 5 (payload28 (coefficientAt pass j))
+  coefficient-at : (j : ℕ) → j < pass .order
+      → wordAt (wordsOf plan) (start + 2 + j) ≡ wordOf 5 (payload28 (coefficientAt pass j))
   unfolding passWords
   coefficient-at j b =
       word-of-pass plan i (suc (suc j)) (start + 2 + j) h (omega arith) (omega arith) ∙ coefficient-word pass (pass .order) j b
@@ -136,7 +118,8 @@ module _ (plan : Plan) (i : ℕ) (h : i < 4) (kept : PassRules (plan .side) (pas
   signed-below : (j : ℕ) → j < pass .order → inSigned28 (coefficientAt pass j) ≡ true
   signed-below j b = rw (lt-ltb j (pass .order) b) at (kept .coefficient-kept j (omega (arith, kept .order-limited)))
 
-  coefficients-accepted : (count : ℕ) → count ≤ pass .order → firstDue (coefficientRows (wordsOf plan) (start + 2) count) ≡ accepted
+  coefficients-accepted : (count : ℕ) → count ≤ pass .order
+      → firstDue (coefficientRows (wordsOf plan) (start + 2) count) ≡ accepted
   unfolding coefficientRows
   coefficients-accepted zero b = refl
   coefficients-accepted (suc count) b =
@@ -144,14 +127,16 @@ module _ (plan : Plan) (i : ℕ) (h : i < 4) (kept : PassRules (plan .side) (pas
       let p : start + 2 + count < length (wordsOf plan) = omega (arith, pass-within (2 + count) (omega arith)) in
       rw first-append
       (both-accepted (coefficients-accepted count (omega arith))
-      (word-written (wordsOf plan) (start + 2 + count) 5 _ (coefficient-at count l) (payload-below _ (signed-below count l)) p true refl))
+      (word-written (wordsOf plan) (start + 2 + count) 5 _ (coefficient-at count l)
+      (payload-below _ (signed-below count l)) p true refl))
 
   pass-allowed : passAllowed i (payloadAt (wordsOf plan) start) ≡ true
   pass-allowed =
       let o = kept .order-limited in
       rw head-payload
       (and-both (eq-eqb ((i * 16 + pass .order) / 16 % 4) i (omega arith))
-      (and-both (le-leb ((i * 16 + pass .order) % 16) orderLimit (omega arith)) (eq-eqb ((i * 16 + pass .order) / 64) 0 (omega arith))))
+      (and-both (le-leb ((i * 16 + pass .order) % 16) orderLimit (omega arith))
+      (eq-eqb ((i * 16 + pass .order) / 64) 0 (omega arith))))
 
   pass-accepted : firstDue (passRows (wordsOf plan) i start) ≡ accepted
   unfolding passRows
@@ -160,7 +145,8 @@ module _ (plan : Plan) (i : ℕ) (h : i < 4) (kept : PassRules (plan .side) (pas
       rw (first-append, first-append)
       (both-accepted (word-written (wordsOf plan) start 3 _ head-at (omega (arith, kept .order-limited)) p _ pass-allowed)
       (both-accepted
-      (word-written (wordsOf plan) (start + 1) 4 _ gain-at (payload-below _ (kept .gain-kept)) (pass-within 1 (omega arith)) true refl)
+      (word-written (wordsOf plan) (start + 1) 4 _ gain-at (payload-below _ (kept .gain-kept))
+      (pass-within 1 (omega arith)) true refl)
       (rw order-read (coefficients-accepted (pass .order) (omega arith)))))
 
   coefficient-back : (j : ℕ) → j < orderLimit → coefficientAt pass j ≡ coefficientIn (wordsOf plan) start j
@@ -188,10 +174,11 @@ module _ (plan : Plan) (i : ℕ) (h : i < 4) (kept : PassRules (plan .side) (pas
 
 module _ (plan : Plan) (kept : keepsRules plan ≡ true) where
   place-read : (i : ℕ) → i ≤ 4 → passPlace (wordsOf plan) i ≡ passStart plan i
-  unfolding passPlace orderSum
+  unfolding passPlace total
   place-read zero h = refl
   place-read (suc i) h =
-      rw (place-read i (omega arith)) (omega (arith, order-read plan i (omega arith) (rules plan kept .pass-kept i (omega arith))))
+      rw (place-read i (omega arith))
+      (omega (arith, order-read plan i (omega arith) (rules plan kept .pass-kept i (omega arith))))
 
   passes-accepted : (count : ℕ) → count ≤ 4 → firstDue (passesRows (wordsOf plan) count) ≡ accepted
   unfolding passesRows
@@ -199,13 +186,14 @@ module _ (plan : Plan) (kept : keepsRules plan ≡ true) where
   passes-accepted (suc count) h =
       rw first-append
       (both-accepted (passes-accepted count (omega arith))
-      (rw (place-read count (omega arith)) (pass-accepted plan count (omega arith) (rules plan kept .pass-kept count (omega arith)))))
+      (rw (place-read count (omega arith))
+      (pass-accepted plan count (omega arith) (rules plan kept .pass-kept count (omega arith)))))
 
   size-payload : payloadAt (wordsOf plan) 0 ≡ sizePayload plan
   unfolding wordsOf
   size-payload = let r = rules plan kept in payload-written (wordsOf plan) 0 1 _ refl (omega arith)
 
-  side-payload : payloadAt (wordsOf plan) 1 ≡ plan .side
+  side-payload : payloadAt (wordsOf plan) 1 ≡ plan .grid .side
   unfolding wordsOf
   side-payload = let r = rules plan kept in payload-written (wordsOf plan) 1 2 _ refl (omega arith)
 
@@ -227,8 +215,8 @@ module _ (plan : Plan) (kept : keepsRules plan ≡ true) where
       let n = length-words plan in
       rw first-append
       (both-accepted (word-written (wordsOf plan) 0 1 (sizePayload plan) refl (omega arith) (omega arith) _ size-allowed)
-      (word-written (wordsOf plan) 1 2 (plan .side) refl (omega arith) (omega arith) _
-      (rw side-payload (within-both (plan .side) 32 (r .side-low) (r .side-high)))))
+      (word-written (wordsOf plan) 1 2 (plan .grid .side) refl (omega arith) (omega arith) _
+      (rw side-payload (within-both (plan .grid .side) 32 (r .side-low) (r .side-high)))))
 
   end-accepted : firstDue (endRows (wordsOf plan) (passPlace (wordsOf plan) 4)) ≡ accepted
   unfolding endRows
@@ -243,10 +231,12 @@ module _ (plan : Plan) (kept : keepsRules plan ≡ true) where
   sides-accepted : firstDue (sideRows (wordsOf plan)) ≡ accepted
   sides-accepted =
       side-accepted (wordsOf plan)
-      (all-of (sideReaches (wordsOf plan)) 4
+      (all-below (sideReaches (wordsOf plan)) 4
       (λ i h.
       let r = rules plan kept .pass-kept i h in
-      rw (place-read i (omega arith)) (le-leb (orderAt (wordsOf plan) (passStart plan i)) (payloadAt (wordsOf plan) 1) (omega (arith, order-read plan i h r, side-payload, r .order-in-side)))))
+      rw (place-read i (omega arith))
+      (le-leb (orderAt (wordsOf plan) (passStart plan i)) (payloadAt (wordsOf plan) 1)
+      (omega (arith, order-read plan i h r, side-payload, r .order-in-side)))))
 
   plan-accepted : firstDue (planRows (wordsOf plan)) ≡ accepted
   unfolding planRows
@@ -262,8 +252,8 @@ module _ (plan : Plan) (kept : keepsRules plan ≡ true) where
     unfolding planFrom
     plan-read =
         let r = rules plan kept in
-        let rows : payloadAt (wordsOf plan) 0 / 8192 % 8192 ≡ plan .rows = rw size-payload (omega arith) in
-        let columns : payloadAt (wordsOf plan) 0 % 8192 ≡ plan .columns = rw size-payload (omega arith) in
+        let rows : payloadAt (wordsOf plan) 0 / 8192 % 8192 ≡ plan .grid .rows = rw size-payload (omega arith) in
+        let columns : payloadAt (wordsOf plan) 0 % 8192 ≡ plan .grid .columns = rw size-payload (omega arith) in
         same-plan rows columns side-payload
         (sym (listed-only (λ i. passFrom (wordsOf plan) (passPlace (wordsOf plan) i)) (plan .passes) 4
         (record { order = 0; gain = pos 0; coefficients = [] }) (shape .passCount) pass-back))

@@ -10,8 +10,8 @@ use borrow.Author.Tests.{le-ltb, ltb-false}
 use Rattle.refusal.specs.declared.Refusal.{Refusal}
 use Rattle.refusal.specs.declared.Outcome.{Outcome}
 use Rattle.refusal.specs.declared.Outcome.the-variants as outcome
-use Rattle.refusal.specs.Refusals.{numberOf, placeOf}
-use Rattle.refusal.specs.Table.{accepted, refused, _at_when_, firstDue, answerOf}
+use Rattle.refusal.specs.Refusals.{refusedFor, accepted}
+use Rattle.refusal.specs.Table.{_at_when_, firstDue, answerOf}
 use Rattle.refusal.proofs.Table.{none-of}
 use Rattle.plan.specs.declared.Plan.{Plan}
 use Rattle.plan.specs.declared.Sizes.{Sizes}
@@ -22,12 +22,12 @@ use Rattle.plan.specs.Sizes.{wordCount, sizesOf, planSizes, sizesGiven}
 use Rattle.plan.proofs.Known.{sizes-known, record-refused}
 use Rattle.plan_writer.specs.declared.PlanWritten.the-variants.{Words, Refused}
 use Rattle.plan_writer.specs.WritePlan.{wordsOf, writePlan, writtenGiven, writtenWords}
-use Rattle.plan_writer.proofs.Words.{words-in-front}
+use Rattle.plan_writer.proofs.WrittenWords.{words-in-front}
 
 -- ---- refused and accepted
 
 module _ (plan : Plan) (words : List ℕ) where
-  call-refused : (refusal : Refusal) → refused (numberOf refusal) (placeOf refusal) ≡ writePlan plan (length words) .answer
+  call-refused : (refusal : Refusal) → refusedFor refusal ≡ writePlan plan (length words) .answer
       → (writtenGiven (Refused refusal) ≡ writePlan plan (length words)) × (words ≡ writtenWords plan words)
   unfolding writePlan writtenWords
   call-refused refusal e = (rw (← e), rw (← e))
@@ -48,7 +48,8 @@ module _ (plan : Plan) (words : List ℕ) (known : PlanSizes) (is : sizesGiven k
       → (writtenGiven (Refused refusal) ≡ writePlan plan (length words)) × (words ≡ writtenWords plan words)
   unfolding writePlan
   record-call refusal e =
-      call-refused plan words refusal (record-refused plan known is refusal e (7 at 0 when ltb (length words) (wordCount plan) ∷ []))
+      call-refused plan words refusal
+      (record-refused plan known is refusal e (7 at 0 when ltb (length words) (wordCount plan) ∷ []))
 
   module _ (sizes : Sizes) (e : known ≡ sized.Known sizes) where
     pub rules-kept : keepsRules plan ≡ true
@@ -69,7 +70,8 @@ module _ (plan : Plan) (words : List ℕ) (known : PlanSizes) (is : sizesGiven k
         pub room-enough : wordCount plan ≤ length words
         room-enough =
             rw (← known-count)
-            (ltb-false (length words) (sizes .words) (none-of (7 at 0 when ltb (length words) (sizes .words) ∷ []) (sym tested ∙ ap answerOf f) .0))
+            (ltb-false (length words) (sizes .words)
+            (none-of (7 at 0 when ltb (length words) (sizes .words) ∷ []) (sym tested ∙ ap answerOf f) .0))
 
         pub written-call : (writtenGiven (Words (sizes .words)) ≡ writePlan plan (length words))
             × (sets words 0 (wordsOf plan) ≡ writtenWords plan words)

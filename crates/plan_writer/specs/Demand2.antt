@@ -1,16 +1,17 @@
 -- Demand 2 for plans (docs/PROOF.md): writing an accepted plan gives the same words. How words are laid out is in plan_reader's
--- Layout and Reading.
+-- PlanWords and ReadPlan.
 use mathlib.Core.Path.{_≡_}
 use mathlib.Core.Bool.{true}
 use mathlib.Core.List.{List, _++_}
-use Prim.Native.Nat.{ℕ, _+_, _*_, _≤_}
+use Prim.Native.Nat.{ℕ, _≤_}
 use lib.ListN.{length, drop}
-use Rattle.refusal.specs.Table.{accepted}
+use Rattle.refusal.specs.Refusals.{accepted}
 use Rattle.plan.specs.declared.Plan.{Plan}
-use Rattle.plan.specs.Rules.{orderLimit, keepsRules}
+use Rattle.plan.specs.Rules.{keepsRules}
+use Rattle.plan.specs.Sizes.{wordLimit}
 use Rattle.plan_reader.specs.ReadPlan.{readPlan}
 use Rattle.plan_writer.specs.WritePlan.{wordsOf, writePlan, writtenWords}
-use Rattle.plan_writer.specs.Shape.{WellShaped}
+use Rattle.plan_writer.specs.RecordType.{WellShaped}
 
 -- What reading and writing are to each other.
 pub record Demand2 : Type 0 where
@@ -28,4 +29,4 @@ pub record Demand2 : Type 0 where
   pub keeps-rules : (words : List ℕ) → readPlan words .answer ≡ accepted → keepsRules (readPlan words .value) ≡ true
   -- A plan has 11 to 27 words: 11, and one for each coefficient of four orders within the limit.
   pub counted : (words : List ℕ) → readPlan words .answer ≡ accepted
-      → (11 ≤ length words) × (length words ≤ 11 + 4 * orderLimit)
+      → (11 ≤ length words) × (length words ≤ wordLimit)

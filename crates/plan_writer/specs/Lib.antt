@@ -1,3 +1,4 @@
 pub mod WritePlan
-pub mod Shape
+pub mod RecordType
+pub mod Room
 pub mod Demand2

@@ -5,8 +5,8 @@ use Prim.Native.Nat.{ℕ, zero, suc, _+_, _-_, _*_}
 use lib.IntN.{ℤ, pos, negsuc}
 use lib.Dec.{ltb}
 use lib.ListN.{length, drop}
-use Rattle.refusal.specs.Refusals.{numberOf, placeOf}
-use Rattle.refusal.specs.Table.{accepted, refused, _at_when_, firstDue, ifAccepted, Given, given}
+use Rattle.refusal.specs.Refusals.{refusedFor, accepted}
+use Rattle.refusal.specs.Table.{_at_when_, firstDue, ifAccepted, Given, given}
 use Rattle.plan.specs.declared.Pass.{Pass}
 use Rattle.plan.specs.declared.Plan.{Plan}
 use Rattle.plan.specs.Rules.{coefficientAt, passAt, keepsRules}
@@ -41,12 +41,12 @@ passesWords plan (suc count) = passesWords plan count ++ passWords count (passAt
 
 -- The payload of the size word: rows in bits 13 to 25, columns in bits 0 to 12.
 abbrev pub sizePayload : Plan → ℕ
-sizePayload plan = plan .rows * 8192 + plan .columns
+sizePayload plan = plan .grid .rows * 8192 + plan .grid .columns
 
 -- The words of a plan: size, block, the four passes, end.
 unfoldable pub wordsOf : Plan → List ℕ
 wordsOf plan =
-    wordOf 1 (sizePayload plan) ∷ wordOf 2 (plan .side) ∷ (passesWords plan 4 ++ (wordOf 6 0 ∷ []))
+    wordOf 1 (sizePayload plan) ∷ wordOf 2 (plan .grid .side) ∷ (passesWords plan 4 ++ (wordOf 6 0 ∷ []))
 
 -- How many words are written into so much room; 0 beside a refusal.
 unfoldable pub writePlan : Plan → (room : ℕ) → Given ℕ
@@ -56,7 +56,7 @@ writePlan plan room =
 -- Document 01's number and place, and the count, of each case that `write_plan` answers.
 abbrev pub writtenGiven : PlanWritten → Given ℕ
 writtenGiven (Words count) = record { answer = accepted; value = count }
-writtenGiven (Refused refusal) = record { answer = refused (numberOf refusal) (placeOf refusal); value = 0 }
+writtenGiven (Refused refusal) = record { answer = refusedFor refusal; value = 0 }
 
 -- The lent words after the call: the plan's words and then what stood there; unaltered by a refusal.
 unfoldable pub writtenWords : Plan → List ℕ → List ℕ

@@ -10,8 +10,10 @@ ghost use Prim.Native.Nat.{_+_, _*_, _<_, _≤_};
 ghost use mathlib.Core.List.{[], _∷_};
 ghost use lib.ListN.{length};
 ghost use lib.Seq.{sets};
-ghost use Rattle.plan.specs.Rules.{keepsRules, passKept, coefficientsKept, inSigned28, orderLimit};
+ghost use Rattle.grid.specs.Grid.{sizeLimit, sideLimit};
+ghost use Rattle.plan.specs.Rules.{keepsRules, inSigned28};
 ghost use Rattle.plan.specs.Sizes.{orderSum, wordCount};
+ghost use Rattle.plan_writer.specs.Room.{PassFits, CoefficientsFit};
 ghost use Rattle.plan_writer.specs.WritePlan.{wordOf, payload28, coefficientWords, passWords, passesWords, wordsOf, writePlan, writtenGiven, writtenWords};
 
 // How many words were written, or why none was.
@@ -45,8 +47,8 @@ fn write_words(plan: Plan, words: &mut [u32])
     requires { ⌜ (keepsRules plan ≡ true) × (wordCount plan ≤ length (now words)) ⌝ }
     ensures { λ _. ⌜ now (words .exit) ≡ sets (now (words .entry)) 0 (wordsOf plan) ⌝ }
 {
-    let after_size = write_word(words, 0, size_word(plan.rows, plan.columns));
-    let after_block = write_word(words, after_size, block_word(plan.side));
+    let after_size = write_word(words, 0, size_word(plan.grid.rows, plan.grid.columns));
+    let after_block = write_word(words, after_size, block_word(plan.grid.side));
     let after_passes = write_passes(plan, words, after_block);
     write_word(words, after_passes, 1610612736);
 }
@@ -56,7 +58,7 @@ fn write_passes(plan: Plan, words: &mut [u32], place: usize) -> usize
     requires { ⌜ (keepsRules plan ≡ true) × (place + (8 + orderSum plan 4) ≤ length (now words)) ⌝ }
     ensures { λ r. ⌜ (r ≡ place + (8 + orderSum plan 4)) × (now (words .exit) ≡ sets (now (words .entry)) place (passesWords plan 4)) ⌝ }
 {
-    let side = plan.side;
+    let side = plan.grid.side;
     let mut next = place;
     let mut i = 0;
     while i < 4 {
@@ -69,7 +71,7 @@ fn write_passes(plan: Plan, words: &mut [u32], place: usize) -> usize
 
 // The words of pass i, from a place on; gives the place after them.
 fn write_pass(pass: Pass, i: usize, side: usize, words: &mut [u32], place: usize) -> usize
-    requires { ⌜ (i < 4) × (passKept side pass ≡ true) × (place + (2 + pass .order) ≤ length (now words)) ⌝ }
+    requires { ⌜ PassFits (length (now words)) i side pass place ⌝ }
     ensures { λ r. ⌜ (r ≡ place + (2 + pass .order)) × (now (words .exit) ≡ sets (now (words .entry)) place (passWords i pass)) ⌝ }
 {
     let after_pass = write_word(words, place, pass_word(i, pass.order));
@@ -78,7 +80,7 @@ fn write_pass(pass: Pass, i: usize, side: usize, words: &mut [u32], place: usize
 }
 
 fn write_coefficients(pass: Pass, words: &mut [u32], place: usize) -> usize
-    requires { ⌜ (pass .order ≤ orderLimit) × (coefficientsKept pass ≡ true) × (place + pass .order ≤ length (now words)) ⌝ }
+    requires { ⌜ CoefficientsFit (length (now words)) pass place ⌝ }
     ensures { λ r. ⌜ (r ≡ place + pass .order) × (now (words .exit) ≡ sets (now (words .entry)) place (coefficientWords pass (pass .order))) ⌝ }
 {
     let order = pass.order;
@@ -101,14 +103,14 @@ fn write_word(words: &mut [u32], place: usize, word: u32) -> usize
 }
 
 fn size_word(rows: usize, columns: usize) -> u32
-    requires { ⌜ (rows ≤ 4096) × (columns ≤ 4096) ⌝ }
+    requires { ⌜ (rows ≤ sizeLimit) × (columns ≤ sizeLimit) ⌝ }
     ensures { λ r. ⌜ r ≡ wordOf 1 (rows * 8192 + columns) ⌝ }
 {
     268435456 + ((rows as u32) * 8192 + (columns as u32))
 }
 
 fn block_word(side: usize) -> u32
-    requires { ⌜ side ≤ 32 ⌝ }
+    requires { ⌜ side ≤ sideLimit ⌝ }
     ensures { λ r. ⌜ r ≡ wordOf 2 side ⌝ }
 {
     536870912 + (side as u32)

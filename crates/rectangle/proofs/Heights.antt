@@ -11,14 +11,14 @@ use Rattle.plan.specs.declared.Pass.{Pass}
 use Rattle.plan.specs.declared.Plan.{Plan}
 use Rattle.plan.specs.Rules.{orderLimit, coefficientAt, passAt, keepsRules}
 use Rattle.plan.specs.Sizes.{neededPixels}
-use Rattle.plan.proofs.Listed.{listed-length, listed-at}
+use Rattle.buffer.proofs.Listed.{listed-length, listed-at}
 use Rattle.passes.specs.Filter.{Filter}
 use Rattle.passes.specs.Passes.{passesOver, serialPasses}
-use Rattle.passes.specs.Pixel.{heightMap}
+use Rattle.buffer.specs.Pixel.{heightMap}
 use Rattle.passes.specs.Table.{runningSum, unchanged, firstAlone, summedAreaTable}
 use Rattle.passes.proofs.Table.{rectangle-heights}
-use Rattle.filter.specs.Filters.{filterOf, filtersOf}
-use Rattle.filter.proofs.RowMajor.{row-of, column-of, place-below}
+use Rattle.filter.specs.PlanFilters.{filterOf, filtersOf}
+use Rattle.number.proofs.RowMajor.{row-of, column-of, place-below}
 use Rattle.serial.specs.Serial.{serialWords, serialOutput}
 use Rattle.serial.proofs.SerialAnswers.{long-enough, output-of-accepted}
 use Rattle.rectangle.specs.Rectangle.{tableOf}
@@ -92,16 +92,17 @@ module _ (plan : Plan) (kept : keepsRules plan ≡ true) (heights : List ℤ) (o
   table-long : neededPixels plan ≤ length (serialOutput plan heights output)
   table-long = rw (← table-is) (simp length-append (omega (arith, words-length)))
 
-  table-at : (y x : ℕ) → y < plan .rows → x < plan .columns
+  table-at : (y x : ℕ) → y < plan .grid .rows → x < plan .grid .columns
       → tableOf plan (serialOutput plan heights output) y x
-      ≡ serialPasses (filtersOf plan) (plan .rows) (plan .columns) (heightMap (plan .columns) heights) 4 y x
+      ≡ serialPasses (filtersOf plan) (plan .grid .rows) (plan .grid .columns) (heightMap (plan .grid .columns) heights) 4 y x
   unfolding serialWords
   table-at y x a b =
-      let q : y * plan .columns + x < neededPixels plan = place-below (plan .rows) (plan .columns) y x a b in
-      ap (λ (l : List ℕ). getD l (y * plan .columns + x) 0) (sym table-is)
-      ∙ List·getD-append (serialWords plan heights) (drop (neededPixels plan) output) 0 (y * plan .columns + x) (rw words-length q)
-      ∙ listed-at _ (neededPixels plan) (y * plan .columns + x) 0 q
-      ∙ rw (row-of (plan .columns) y x b, column-of (plan .columns) y x b)
+      let q : y * plan .grid .columns + x < neededPixels plan = place-below (plan .grid .rows) (plan .grid .columns) y x a b in
+      ap (λ (l : List ℕ). getD l (y * plan .grid .columns + x) 0) (sym table-is)
+      ∙ List·getD-append (serialWords plan heights) (drop (neededPixels plan) output) 0 (y * plan .grid .columns + x)
+      (rw words-length q)
+      ∙ listed-at _ (neededPixels plan) (y * plan .grid .columns + x) 0 q
+      ∙ rw (row-of (plan .grid .columns) y x b, column-of (plan .grid .columns) y x b)
 
 pub sums-heights : SumsHeights
 unfolding heightMap
@@ -112,8 +113,9 @@ sums-heights plan kept passes heights output long room top left bottom right t l
     (accepted-when plan table top left bottom right kept (table-long plan kept heights output long room)
     (record { top-bottom = t; left-right = l; bottom-low = b; right-low = r }))
     (sym
-    (rectangle-heights (plan .rows) (plan .columns) _ (heightAt plan heights)
+    (rectangle-heights (plan .grid .rows) (plan .grid .columns) _ (heightAt plan heights)
     (λ y x a b.
     table-at plan kept heights output long room y x a b
-    ∙ ap (λ (Z : ℕ → ℕ → ℕ). Z y x) (passes-are plan passes (plan .rows) (plan .columns) (heightMap (plan .columns) heights)))
+    ∙ ap (λ (Z : ℕ → ℕ → ℕ). Z y x)
+    (passes-are plan passes (plan .grid .rows) (plan .grid .columns) (heightMap (plan .grid .columns) heights)))
     top left bottom right (omega arith) (omega arith) b r)))

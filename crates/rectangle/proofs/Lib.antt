@@ -1,3 +1,3 @@
-pub mod Places
+pub mod CornerPlaces
 pub mod SumAnswers
 pub mod Heights

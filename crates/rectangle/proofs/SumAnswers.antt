@@ -1,15 +1,16 @@
 -- The answer of the call by the tests that are made, and what is given beside it. Assumes nothing.
-use mathlib.Core.Path.{_≡_, ap, _∙_}
-use mathlib.Core.Bool.{Bool, true, false, not, _||_}
+use mathlib.Core.Path.{_≡_, _∙_}
+use mathlib.Core.Bool.{true, false, not}
 use mathlib.Core.List.{List, [], _∷_}
-use Prim.Native.Nat.{ℕ, _<_, _≤_}
+use Prim.Native.Nat.{ℕ, _≤_}
 use lib.Dec.{ltb, leb}
 use lib.ListN.{length}
 use borrow.Author.Tests.{le-ltb, lt-leb, ltb-false, leb-false}
 use Rattle.refusal.specs.declared.Refusal.{Refusal}
-use Rattle.refusal.specs.Refusals.{numberOf, placeOf}
-use Rattle.refusal.specs.Table.{Answer, accepted, refused, Row, _at_when_, firstDue, firstOf, Given}
+use Rattle.refusal.specs.Refusals.{refusedFor, Answer, accepted, refused}
+use Rattle.refusal.specs.Table.{Row, _at_when_, firstDue, firstOf, Given}
 use Rattle.refusal.proofs.Table.{tests-rows, none-of}
+use Rattle.number.proofs.Tests.{or-left, or-right}
 use Rattle.plan.specs.declared.Plan.{Plan}
 use Rattle.plan.specs.declared.Sizes.{Sizes}
 use Rattle.plan.specs.declared.PlanSizes.{PlanSizes}
@@ -18,34 +19,20 @@ use Rattle.plan.specs.Rules.{keepsRules}
 use Rattle.plan.specs.Sizes.{neededPixels, sizesOf, planSizes, sizesGiven}
 use Rattle.plan.proofs.Known.{sizes-known, record-refused}
 use Rattle.passes.specs.Table.{rectangleSum}
+use Rattle.rectangle.specs.Corners.{Inside}
 use Rattle.rectangle.specs.Rectangle.{tableOf, outside, rectangleCall}
-
--- A rectangle of the map that is not empty.
-pub record Inside (plan : Plan) (top left bottom right : ℕ) : Type 0 where
-  pub top-bottom : top < bottom
-  pub left-right : left < right
-  pub bottom-low : bottom ≤ plan .rows
-  pub right-low : right ≤ plan .columns
-
-or-left : (a b : Bool) → (a || b) ≡ false → a ≡ false
-or-left true b e = e
-or-left false b e = ap (λ (x : Bool). false) e
-
-or-right : (a b : Bool) → (a || b) ≡ false → b ≡ false
-or-right true b e = let z : _≡_ {A = Bool} true false = e in cc
-or-right false b e = e
 
 module _ (plan : Plan) (top left bottom right : ℕ) where
   pub not-outside : outside plan top left bottom right ≡ false → Inside plan top left bottom right
   not-outside e =
       let f = or-right (leb bottom top) _ e in
       let g = or-right (leb right left) _ f in
-      let h = or-right (ltb (plan .rows) bottom) _ g in
+      let h = or-right (ltb (plan .grid .rows) bottom) _ g in
       record {
         top-bottom = leb-false bottom top (or-left (leb bottom top) _ e);
         left-right = leb-false right left (or-left (leb right left) _ f);
-        bottom-low = ltb-false (plan .rows) bottom (or-left (ltb (plan .rows) bottom) _ g);
-        right-low = ltb-false (plan .columns) right h;
+        bottom-low = ltb-false (plan .grid .rows) bottom (or-left (ltb (plan .grid .rows) bottom) _ g);
+        right-low = ltb-false (plan .grid .columns) right h;
       }
 
   pub inside-the-map : Inside plan top left bottom right → outside plan top left bottom right ≡ false
@@ -53,8 +40,8 @@ module _ (plan : Plan) (top left bottom right : ℕ) where
       rw (
         lt-leb bottom top (i .top-bottom),
         lt-leb right left (i .left-right),
-        le-ltb (plan .rows) bottom (i .bottom-low),
-        le-ltb (plan .columns) right (i .right-low),
+        le-ltb (plan .grid .rows) bottom (i .bottom-low),
+        le-ltb (plan .grid .columns) right (i .right-low),
       )
 
 module _ (plan : Plan) (table : List ℕ) (top left bottom right : ℕ) where
@@ -67,7 +54,7 @@ module _ (plan : Plan) (table : List ℕ) (top left bottom right : ℕ) where
 
   module _ (known : PlanSizes) (is : sizesGiven known ≡ planSizes plan) where
     pub answer-of-record : (refusal : Refusal) → known ≡ Refused refusal
-        → refused (numberOf refusal) (placeOf refusal) ≡ rectangleCall plan table top left bottom right .answer
+        → refusedFor refusal ≡ rectangleCall plan table top left bottom right .answer
     unfolding rectangleCall
     answer-of-record refusal e = record-refused plan known is refusal e (isShort (neededPixels plan) ∷ isOutside ∷ [])
 

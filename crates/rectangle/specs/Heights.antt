@@ -1,13 +1,15 @@
--- On a summed-area table the rectangle sum is the heights' sum modulo 2^64: document 01, 'The four passes' and the rectangle sum.
+-- On a summed-area table the rectangle sum is the heights' sum modulo 2^64: document 01, 'The four passes' and the
+-- rectangle sum.
 use mathlib.Core.Path.{_≡_}
 use mathlib.Core.Bool.{true}
 use mathlib.Core.List.{List, [], _∷_}
-use Prim.Native.Nat.{ℕ, _+_, _-_, _*_, _<_, _≤_}
+use Prim.Native.Nat.{ℕ, _-_, _<_, _≤_}
 use lib.IntN.{ℤ, pos, negsuc}
 use lib.ListN.{length, getD, replicate}
 use Rattle.word.specs.Word.{residue}
-use Rattle.refusal.specs.Table.{accepted}
+use Rattle.refusal.specs.Refusals.{accepted}
 use Rattle.plan.specs.declared.Pass.{Pass}
+use Rattle.number.specs.Numbers.{rowMajor}
 use Rattle.plan.specs.declared.Plan.{Plan}
 use Rattle.plan.specs.Rules.{orderLimit, keepsRules}
 use Rattle.plan.specs.Sizes.{neededPixels}
@@ -29,14 +31,18 @@ summedAreaPasses = runningSumPass ∷ unchangedPass ∷ runningSumPass ∷ uncha
 
 -- The height at a row and a column of a list of heights, row after row.
 abbrev pub heightAt : Plan → List ℤ → ℕ → ℕ → ℤ
-heightAt plan heights row column = getD heights (row * plan .columns + column) (pos 0)
+heightAt plan heights row column = getD heights (rowMajor (plan .grid .columns) row column) (pos 0)
 
--- For a plan with these passes, any map, and the output that the serial passes leave of it: over every rectangle of the map that
--- is not empty, the call gives the sum of the heights in it, modulo 2^64.
+-- Over every rectangle of the map that is not empty, the call gives the sum of the heights in it from this table, modulo 2^64.
+abbrev pub SumsOver : Plan → List ℤ → (table : List ℕ) → Type 0
+SumsOver plan heights table =
+    (top left bottom right : ℕ) → top < bottom → left < right → bottom ≤ plan .grid .rows → right ≤ plan .grid .columns
+    → rectangleCall plan table top left bottom right
+    ≡ record { answer = accepted; value = residue (heightsInside (heightAt plan heights) top left bottom right) }
+
+-- For a plan with these passes, any map, and the output that the serial passes leave of it.
 abbrev pub SumsHeights : Type 0
 SumsHeights =
     (plan : Plan) → keepsRules plan ≡ true → plan .passes ≡ summedAreaPasses
     → (heights : List ℤ) (output : List ℕ) → neededPixels plan ≤ length heights → neededPixels plan ≤ length output
-    → (top left bottom right : ℕ) → top < bottom → left < right → bottom ≤ plan .rows → right ≤ plan .columns
-    → rectangleCall plan (serialOutput plan heights output) top left bottom right
-    ≡ record { answer = accepted; value = residue (heightsInside (heightAt plan heights) top left bottom right) }
+    → SumsOver plan heights (serialOutput plan heights output)

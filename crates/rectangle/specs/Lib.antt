@@ -1,2 +1,3 @@
 pub mod Rectangle
+pub mod Corners
 pub mod Heights

@@ -1,11 +1,12 @@
 -- The rectangle sum as a call: document 01, the paragraph on the rectangle sum and refusals 6, 7 and 12.
 use mathlib.Core.Bool.{Bool, not, _||_}
 use mathlib.Core.List.{List, [], _∷_}
-use Prim.Native.Nat.{ℕ, _+_, _*_}
+use Prim.Native.Nat.{ℕ}
 use lib.Dec.{ltb, leb}
 use lib.ListN.{length, getD}
-use Rattle.refusal.specs.Refusals.{numberOf, placeOf}
-use Rattle.refusal.specs.Table.{accepted, refused, _at_when_, firstDue, Given, given}
+use Rattle.refusal.specs.Refusals.{refusedFor, accepted}
+use Rattle.refusal.specs.Table.{_at_when_, firstDue, Given, given}
+use Rattle.number.specs.Numbers.{rowMajor}
 use Rattle.plan.specs.declared.Plan.{Plan}
 use Rattle.plan.specs.Rules.{keepsRules}
 use Rattle.plan.specs.Sizes.{neededPixels}
@@ -15,12 +16,12 @@ use Rattle.rectangle.specs.declared.RectangleSum.the-variants.{Sum, Refu
 
 -- A table of h×w words, row after row, as a function of row and column.
 abbrev pub tableOf : Plan → List ℕ → ℕ → ℕ → ℕ
-tableOf plan table row column = getD table (row * plan .columns + column) 0
+tableOf plan table row column = getD table (rowMajor (plan .grid .columns) row column) 0
 
 -- Top ≥ bottom, left ≥ right, bottom > h or right > w.
 abbrev pub outside : Plan → (top left bottom right : ℕ) → Bool
 outside plan top left bottom right =
-    leb bottom top || (leb right left || (ltb (plan .rows) bottom || ltb (plan .columns) right))
+    leb bottom top || (leb right left || (ltb (plan .grid .rows) bottom || ltb (plan .grid .columns) right))
 
 -- The sum over a rectangle, a number from 0 to 2^64 - 1; 0 beside a refusal.
 unfoldable pub rectangleCall : Plan → List ℕ → (top left bottom right : ℕ) → Given ℕ
@@ -36,4 +37,4 @@ rectangleCall plan table top left bottom right =
 -- Document 01's number and place, and the sum, of each case that `rectangle_sum` answers.
 abbrev pub sumGiven : RectangleSum → Given ℕ
 sumGiven (Sum sum) = record { answer = accepted; value = sum }
-sumGiven (Refused refusal) = record { answer = refused (numberOf refusal) (placeOf refusal); value = 0 }
+sumGiven (Refused refusal) = record { answer = refusedFor refusal; value = 0 }

@@ -5,10 +5,12 @@ use refusal::Outcome;
 use refusal::Refusal;
 ghost use mathlib.Core.Path.{_≡_};
 ghost use mathlib.Core.List.{[], _∷_};
-ghost use Prim.Native.Nat.{_*_, _≤_};
+ghost use Prim.Native.Nat.{_≤_};
 ghost use lib.ListN.{length};
 ghost use Rattle.refusal.specs.Table.{_at_when_, firstDue, answerOf};
+ghost use Rattle.plan.specs.Sizes.{neededPixels};
 ghost use Rattle.passes.specs.Table.{cornerOf, rectangleSum};
+ghost use Rattle.rectangle.specs.Corners.{Inside, CornerFits};
 ghost use Rattle.rectangle.specs.Rectangle.{tableOf, outside, rectangleCall, sumGiven};
 
 // The sum, or why there is none.
@@ -67,17 +69,17 @@ fn outside(plan: Plan, top: usize, left: usize, bottom: usize, right: usize) -> 
     if right <= left {
         return refused;
     }
-    if plan.rows < bottom {
+    if plan.grid.rows < bottom {
         return refused;
     }
-    if plan.columns < right {
+    if plan.grid.columns < right {
         return refused;
     }
     Outcome::Accepted
 }
 
 fn corners(plan: Plan, top: usize, left: usize, bottom: usize, right: usize, table: &[u64]) -> u64
-    requires { ⌜ (top ≤ plan .rows) × (bottom ≤ plan .rows) × (left ≤ plan .columns) × (right ≤ plan .columns) × (plan .rows * plan .columns ≤ length (now table)) ⌝ }
+    requires { ⌜ (neededPixels plan ≤ length (now table)) × Inside plan top left bottom right ⌝ }
     ensures { λ r. ⌜ r ≡ rectangleSum (tableOf plan (now (table .entry))) top left bottom right ⌝ }
 {
     let inner = word::sub(
@@ -90,7 +92,7 @@ fn corners(plan: Plan, top: usize, left: usize, bottom: usize, right: usize, tab
 
 // The table at the row and column before these; 0 before the first.
 fn corner(plan: Plan, row: usize, column: usize, table: &[u64]) -> u64
-    requires { ⌜ (row ≤ plan .rows) × (column ≤ plan .columns) × (plan .rows * plan .columns ≤ length (now table)) ⌝ }
+    requires { ⌜ CornerFits plan (length (now table)) row column ⌝ }
     ensures { λ r. ⌜ r ≡ cornerOf (tableOf plan (now (table .entry))) row column ⌝ }
 {
     if row == 0 {
@@ -99,5 +101,5 @@ fn corner(plan: Plan, row: usize, column: usize, table: &[u64]) -> u64
     if column == 0 {
         return 0;
     }
-    table[(row - 1) * plan.columns + (column - 1)]
+    table[(row - 1) * plan.grid.columns + (column - 1)]
 }

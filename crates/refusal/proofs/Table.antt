@@ -7,25 +7,11 @@ use Prim.Native.Nat.{ℕ}
 use native.Mathlib.Omega.{arith}
 use lib.Dec.{eqb}
 use Rattle.refusal.specs.declared.Refusal.{Refusal}
-use Rattle.refusal.specs.declared.Refusal.the-variants.{
-  WordsEndEarly,
-  AnotherKindDue,
-  OutOfRange,
-  SideBelowOrder,
-  WordsAfterEnd,
-  RecordBreaksRule,
-  BufferTooShort,
-  NoSuchTask,
-  MarkBroken,
-  AlreadyMarked,
-  NeedUnmarked,
-  RectangleOutside,
-  InputUnfit,
-}
+use Rattle.refusal.specs.declared.Refusal.the-variants.{WordsEndEarly, AnotherKindDue, OutOfRange, SideBelowOrder, WordsAfterEnd, RecordBreaksRule, BufferTooShort, NoSuchTask, MarkBroken, AlreadyMarked, NeedUnmarked, RectangleOutside, InputUnfit}
 use Rattle.refusal.specs.declared.Outcome.{Outcome}
 use Rattle.refusal.specs.declared.Outcome.the-variants.{Accepted, Refused}
-use Rattle.refusal.specs.Refusals.{numberOf, placeOf}
-use Rattle.refusal.specs.Table.{Answer, accepted, refused, Row, firstDue, answerOf, firstOf}
+use Rattle.refusal.specs.Refusals.{numberOf, placeOf, Answer, accepted, refused}
+use Rattle.refusal.specs.Table.{Row, firstDue, answerOf, firstOf}
 
 -- ---- rows one after another
 

@@ -1,50 +1,48 @@
 -- What each refusal is in document 01: its number and its place.
 use Prim.Native.Nat.{ℕ}
+use Rattle.refusal.specs.declared.Reason.{Reason}
 use Rattle.refusal.specs.declared.Refusal.{Refusal}
-use Rattle.refusal.specs.declared.Refusal.the-variants.{
-  WordsEndEarly,
-  AnotherKindDue,
-  OutOfRange,
-  SideBelowOrder,
-  WordsAfterEnd,
-  RecordBreaksRule,
-  BufferTooShort,
-  NoSuchTask,
-  MarkBroken,
-  AlreadyMarked,
-  NeedUnmarked,
-  RectangleOutside,
-  InputUnfit,
-}
+use Rattle.refusal.specs.declared.Refusal.the-variants.{WordsEndEarly, AnotherKindDue, OutOfRange, SideBelowOrder, WordsAfterEnd, RecordBreaksRule, BufferTooShort, NoSuchTask, MarkBroken, AlreadyMarked, NeedUnmarked, RectangleOutside, InputUnfit}
 
--- The number of a refusal, by the table of refused calls.
+-- An answer in document 01's numbers: accepted, or refused by a number with a place.
+pub data Answer : Type 0 where
+  accepted : Answer
+  refused : (number place : ℕ) → Answer
+
+-- The number of an answer, 0 where the call is accepted;
+abbrev pub numberIn : Answer → ℕ
+numberIn accepted = 0
+numberIn (refused number place) = number
+
+-- and the place beside it.
+abbrev pub placeIn : Answer → ℕ
+placeIn accepted = 0
+placeIn (refused number place) = place
+
+-- The table of refused calls: the number of each cause, and what is returned beside it; of 9 it is the block's number.
+abbrev pub reasonOf : Refusal → Reason
+reasonOf (WordsEndEarly place) = record { number = 1; place = place }
+reasonOf (AnotherKindDue place) = record { number = 2; place = place }
+reasonOf (OutOfRange place) = record { number = 3; place = place }
+reasonOf SideBelowOrder = record { number = 4; place = 1 }
+reasonOf (WordsAfterEnd place) = record { number = 5; place = place }
+reasonOf RecordBreaksRule = record { number = 6; place = 0 }
+reasonOf BufferTooShort = record { number = 7; place = 0 }
+reasonOf NoSuchTask = record { number = 8; place = 0 }
+reasonOf (MarkBroken block) = record { number = 9; place = block }
+reasonOf AlreadyMarked = record { number = 10; place = 0 }
+reasonOf NeedUnmarked = record { number = 11; place = 0 }
+reasonOf RectangleOutside = record { number = 12; place = 0 }
+reasonOf InputUnfit = record { number = 13; place = 0 }
+
+-- The number of a refusal,
 abbrev pub numberOf : Refusal → ℕ
-numberOf (WordsEndEarly place) = 1
-numberOf (AnotherKindDue place) = 2
-numberOf (OutOfRange place) = 3
-numberOf SideBelowOrder = 4
-numberOf (WordsAfterEnd place) = 5
-numberOf RecordBreaksRule = 6
-numberOf BufferTooShort = 7
-numberOf NoSuchTask = 8
-numberOf (MarkBroken block) = 9
-numberOf AlreadyMarked = 10
-numberOf NeedUnmarked = 11
-numberOf RectangleOutside = 12
-numberOf InputUnfit = 13
+numberOf refusal = reasonOf refusal .number
 
--- The place that is returned beside the number; of 9 it is the block's number.
+-- the place that is returned beside it,
 abbrev pub placeOf : Refusal → ℕ
-placeOf (WordsEndEarly place) = place
-placeOf (AnotherKindDue place) = place
-placeOf (OutOfRange place) = place
-placeOf SideBelowOrder = 1
-placeOf (WordsAfterEnd place) = place
-placeOf RecordBreaksRule = 0
-placeOf BufferTooShort = 0
-placeOf NoSuchTask = 0
-placeOf (MarkBroken block) = block
-placeOf AlreadyMarked = 0
-placeOf NeedUnmarked = 0
-placeOf RectangleOutside = 0
-placeOf InputUnfit = 0
+placeOf refusal = reasonOf refusal .place
+
+-- and both as an answer.
+abbrev pub refusedFor : Refusal → Answer
+refusedFor refusal = refused (numberOf refusal) (placeOf refusal)

@@ -5,14 +5,9 @@ use mathlib.Core.List.{List, [], _∷_}
 use Prim.Native.Nat.{ℕ}
 use Rattle.refusal.specs.declared.Outcome.{Outcome}
 use Rattle.refusal.specs.declared.Outcome.the-variants.{Accepted, Refused}
-use Rattle.refusal.specs.Refusals.{numberOf, placeOf}
+use Rattle.refusal.specs.Refusals.{Answer, accepted, refused, refusedFor}
 
 infix 68 _at_when_
--- An answer in document 01's numbers: accepted, or refused by a number with a place.
-pub data Answer : Type 0 where
-  accepted : Answer
-  refused : (number place : ℕ) → Answer
-
 -- Of two answers, one after the other, the first that refuses decides.
 abbrev pub firstOf : Answer → Answer → Answer
 firstOf accepted later = later
@@ -36,17 +31,7 @@ firstDue (row ∷ rows) = cond (row .due) (refused (row .number) (row .place)) (
 -- The answer that an outcome stands for.
 abbrev pub answerOf : Outcome → Answer
 answerOf Accepted = accepted
-answerOf (Refused refusal) = refused (numberOf refusal) (placeOf refusal)
-
--- The number of an answer, 0 where the call is accepted;
-abbrev pub numberIn : Answer → ℕ
-numberIn accepted = 0
-numberIn (refused number place) = number
-
--- and the place beside it.
-abbrev pub placeIn : Answer → ℕ
-placeIn accepted = 0
-placeIn (refused number place) = place
+answerOf (Refused refusal) = refusedFor refusal
 
 -- Of two values, that of an accepted call or that of a refused one.
 abbrev pub ifAccepted : {A : Type 0} → Answer → A → A → A

@@ -28,47 +28,57 @@ pub enum Outcome {
     Refused(Refusal),
 }
 
+// What document 01 returns for a refusal: its number, and the place beside it.
+pub struct Reason {
+    pub number: u32,
+    pub place: usize,
+}
+
 impl Refusal {
-    // Document 01's number of the refusal.
-    pub fn number(self) -> u32
-        ensures { λ r. ⌜ r ≡ numberOf self ⌝ }
+    // Document 01's table of refused calls: the number of each cause, and what is returned beside it.
+    pub fn reason(self) -> Reason
+        ensures { λ r. ⌜ (r .number ≡ numberOf self) × (r .place ≡ placeOf self) ⌝ }
     {
         match self {
-            Refusal::WordsEndEarly(_) => 1,
-            Refusal::AnotherKindDue(_) => 2,
-            Refusal::OutOfRange(_) => 3,
-            Refusal::SideBelowOrder => 4,
-            Refusal::WordsAfterEnd(_) => 5,
-            Refusal::RecordBreaksRule => 6,
-            Refusal::BufferTooShort => 7,
-            Refusal::NoSuchTask => 8,
-            Refusal::MarkBroken(_) => 9,
-            Refusal::AlreadyMarked => 10,
-            Refusal::NeedUnmarked => 11,
-            Refusal::RectangleOutside => 12,
-            Refusal::InputUnfit => 13,
+            Refusal::WordsEndEarly(place) => row(1, place),
+            Refusal::AnotherKindDue(place) => row(2, place),
+            Refusal::OutOfRange(place) => row(3, place),
+            Refusal::SideBelowOrder => row(4, 1),
+            Refusal::WordsAfterEnd(place) => row(5, place),
+            Refusal::RecordBreaksRule => row(6, 0),
+            Refusal::BufferTooShort => row(7, 0),
+            Refusal::NoSuchTask => row(8, 0),
+            Refusal::MarkBroken(block) => row(9, block),
+            Refusal::AlreadyMarked => row(10, 0),
+            Refusal::NeedUnmarked => row(11, 0),
+            Refusal::RectangleOutside => row(12, 0),
+            Refusal::InputUnfit => row(13, 0),
         }
     }
 
-    // The place that document 01 returns beside the number.
+    // The number of the refusal.
+    pub fn number(self) -> u32
+        ensures { λ r. ⌜ r ≡ numberOf self ⌝ }
+    {
+        let reason = self.reason();
+        reason.number
+    }
+
+    // The place that is returned beside the number.
     pub fn place(self) -> usize
         ensures { λ r. ⌜ r ≡ placeOf self ⌝ }
     {
-        match self {
-            Refusal::WordsEndEarly(place) => place,
-            Refusal::AnotherKindDue(place) => place,
-            Refusal::OutOfRange(place) => place,
-            Refusal::SideBelowOrder => 1,
-            Refusal::WordsAfterEnd(place) => place,
-            Refusal::RecordBreaksRule => 0,
-            Refusal::BufferTooShort => 0,
-            Refusal::NoSuchTask => 0,
-            Refusal::MarkBroken(block) => block,
-            Refusal::AlreadyMarked => 0,
-            Refusal::NeedUnmarked => 0,
-            Refusal::RectangleOutside => 0,
-            Refusal::InputUnfit => 0,
-        }
+        let reason = self.reason();
+        reason.place
+    }
+}
+
+fn row(number: u32, place: usize) -> Reason
+    ensures { λ r. ⌜ (r .number ≡ number) × (r .place ≡ place) ⌝ }
+{
+    Reason {
+        number: number,
+        place: place,
     }
 }
 

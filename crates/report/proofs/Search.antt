@@ -25,7 +25,8 @@ module _ (p : ℕ → ℕ → Bool) where
   unfolding firstBlock
   row-end t k m h g = let q : m - k ≡ 0 = omega arith in rw q
 
-  pub task-row : (m t n : ℕ) → t < n → firstTask p m t (n - t) ≡ orElse (firstBlock p t 0 (m - 0)) (firstTask p m (t + 1) (n - (t + 1)))
+  pub task-row : (m t n : ℕ) → t < n
+      → firstTask p m t (n - t) ≡ orElse (firstBlock p t 0 (m - 0)) (firstTask p m (t + 1) (n - (t + 1)))
   unfolding firstTask
   task-row m t n h = let q : n - t ≡ suc (n - (t + 1)) = omega arith in let z : m - 0 ≡ m = omega arith in rw (q, z, add-one)
 
@@ -72,7 +73,13 @@ module _ (p : ℕ → ℕ → Bool) where
       by true q e r =
           let x : t ≡ u = cc in
           let y : k ≡ j = cc in
-          record { same = sym x; from = omega arith; upto = omega arith; holds = sym (ap (p t) y) ∙ q; before = λ i l h. absurd (omega arith) }
+          record {
+            same = sym x;
+            from = omega arith;
+            upto = omega arith;
+            holds = sym (ap (p t) y) ∙ q;
+            before = λ i l h. absurd (omega arith);
+          }
       by false q e r =
           let f = r e in
           record {
@@ -128,7 +135,6 @@ module _ (p : ℕ → ℕ → Bool) where
           }
 
 -- The search depends only on the places that it looks at.
-
 module _ (p q : ℕ → ℕ → Bool) where
   row-same : (t k n : ℕ) → ((i : ℕ) → k ≤ i → i < k + n → p t i ≡ q t i) → firstBlock p t k n ≡ firstBlock q t k n
   unfolding firstBlock
@@ -140,7 +146,10 @@ module _ (p q : ℕ → ℕ → Bool) where
   unfolding firstTask
   task-same m t zero e = refl
   task-same m t (suc n) e =
-      rw (row-same t 0 m (λ i l h. e t i (omega arith) (omega arith) (omega arith)), task-same m (suc t) n (λ s i l h b. e s i (omega arith) (omega arith) b))
+      rw (
+        row-same t 0 m (λ i l h. e t i (omega arith) (omega arith) (omega arith)),
+        task-same m (suc t) n (λ s i l h b. e s i (omega arith) (omega arith) b),
+      )
 
 -- The search for the least number that fails a test.
 module _ (f : ℕ → Bool) where
@@ -156,29 +165,10 @@ module _ (f : ℕ → Bool) where
   unfolding leastFailing
   least-end i n h = let q : n - i ≡ 0 = omega arith in rw q
 
-  -- All below the least that fails pass.
-  pub least-below : (n i j : ℕ) → i ≤ j → j < leastFailing f i n → f j ≡ true
-  unfolding leastFailing
-  least-below zero i j h l = absurd (omega arith)
-  least-below (suc n) i j h l = by (f i) refl (least-below n (suc i) j) l
-    where
-      by : (b : Bool) → f i ≡ b → (i < j → j < leastFailing f (suc i) n → f j ≡ true) → j < cond b (leastFailing f (suc i) n) i → f j ≡ true
-      by true e r l = ⊎-elim (λ (p : i ≡ j). sym (ap f p) ∙ e) (λ (p : i < j). r p l) (eq-or-lt-of-le h)
-      by false e r l = absurd (omega arith)
-
-  -- It fails.
-  pub least-fails : (n i : ℕ) → leastFailing f i n < i + n → f (leastFailing f i n) ≡ false
-  unfolding leastFailing
-  least-fails zero i l = absurd (omega arith)
-  least-fails (suc n) i l = by (f i) refl (least-fails n (suc i)) l
-    where
-      by : (b : Bool) → f i ≡ b → (leastFailing f (suc i) n < suc i + n → f (leastFailing f (suc i) n) ≡ false)
-          → cond b (leastFailing f (suc i) n) i < i + suc n → f (cond b (leastFailing f (suc i) n) i) ≡ false
-      by true e r l = r (omega arith)
-      by false e r l = e
-
   -- Where all pass, none is found.
   pub least-none : (n i : ℕ) → ((j : ℕ) → i ≤ j → j < i + n → f j ≡ true) → leastFailing f i n ≡ i + n
   unfolding leastFailing
   least-none zero i all = omega arith
-  least-none (suc n) i all = rw (all i (omega arith) (omega arith)) (least-none n (suc i) (λ j h l. all j (omega arith) (omega arith)) ∙ omega arith)
+  least-none (suc n) i all =
+      rw (all i (omega arith) (omega arith))
+      (least-none n (suc i) (λ j h l. all j (omega arith) (omega arith)) ∙ omega arith)

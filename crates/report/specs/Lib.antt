@@ -1,3 +1,4 @@
 pub mod Tally
+pub mod Sums
 pub mod Values
 pub mod Report

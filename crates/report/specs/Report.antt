@@ -1,13 +1,14 @@
 -- The report: how many tasks are marked, the tally, and the ready task with the least number, then the least block; or none.
 use mathlib.Core.Bool.{Bool, not, cond}
 use mathlib.Core.List.{List, [], _∷_}
-use Prim.Native.Nat.{ℕ, zero, suc, _*_}
+use Prim.Native.Nat.{ℕ, zero, suc}
 use lib.Dec.{ltb}
 use lib.ListN.{length}
-use Rattle.refusal.specs.Table.{_at_when_, firstDue, Given, given}
+use Rattle.refusal.specs.Table.{Row, _at_when_, firstDue, Given, given}
 use Rattle.plan.specs.declared.Plan.{Plan}
 use Rattle.plan.specs.Rules.{keepsRules}
-use Rattle.plan.specs.Sizes.{blockRows, blockColumns}
+use Rattle.grid.specs.declared.Grid.{Grid}
+use Rattle.grid.specs.Grid.{blockTotal}
 use Rattle.tasks.specs.Tasks.{ready}
 use Rattle.tasks.specs.Counts.{doneCount}
 use Rattle.tasks.specs.Marks.{isMarked, markValidAt}
@@ -33,8 +34,8 @@ firstTask test blocks t zero = Nothing
 firstTask test blocks t (suc n) = orElse (firstBlock test t 0 blocks) (firstTask test blocks (suc t) n)
 
 -- The ready task with the least number, then the least block; or none.
-unfoldable pub firstReady : ℕ → ℕ → (ℕ → ℕ → Bool) → Next
-firstReady M N done = firstTask (ready M N done) (M * N) 0 6
+unfoldable pub firstReady : Grid → (ℕ → ℕ → Bool) → Next
+firstReady grid done = firstTask (ready grid done) (blockTotal grid) 0 6
 
 -- The least of the n numbers from k on that fails a test; k + n where all pass.
 unfoldable pub leastFailing : (ℕ → Bool) → ℕ → ℕ → ℕ
@@ -42,34 +43,26 @@ leastFailing test k zero = k
 leastFailing test k (suc n) = cond (test k) (leastFailing test (suc k) n) k
 
 -- The least block whose mark has a wrong kind or a spare bit; M×N where there is none.
-unfoldable pub firstBroken : ℕ → ℕ → List ℕ → ℕ
-firstBroken M N marks = leastFailing (markValidAt M N marks) 0 (M * N)
+unfoldable pub firstBroken : Grid → List ℕ → ℕ
+firstBroken grid marks = leastFailing (markValidAt grid marks) 0 (blockTotal grid)
 
 -- What the report says where `done` tells what is done.
-unfoldable pub progressOf : ℕ → ℕ → ℕ → ℕ → ℕ → (ℕ → ℕ → Bool) → Progress
-progressOf h w b M N done =
-    record { marked = doneCount M N done; tally = tally h w b M N done; next = firstReady M N done }
+unfoldable pub progressOf : Grid → (ℕ → ℕ → Bool) → Progress
+progressOf grid done = record { marked = doneCount grid done; tally = tally grid done; next = firstReady grid done }
 
--- The report on the marks of a plan; zeros beside a refusal. The place of 9 is the least broken mark of all.
+-- The rows of the report's refusals after the record: 7 for marks that are too short, 9 at the least broken mark of all.
+unfoldable pub marksRows : Grid → List ℕ → List Row
+marksRows grid marks =
+    7 at 0 when ltb (length marks) (blockTotal grid)
+    ∷ 9 at firstBroken grid marks when ltb (firstBroken grid marks) (blockTotal grid)
+    ∷ []
+
+-- The report on the marks of a plan; zeros beside a refusal.
 unfoldable pub report : Plan → List ℕ → Given Values
 report plan marks =
-    let M : ℕ = blockRows plan in
-    let N : ℕ = blockColumns plan in
-    given
-    (firstDue
-    (6 at 0 when not (keepsRules plan)
-    ∷ 7 at 0 when ltb (length marks) (M * N)
-    ∷ 9 at firstBroken M N marks when ltb (firstBroken M N marks) (M * N)
-    ∷ []))
-    (valuesOf (progressOf (plan .rows) (plan .columns) (plan .side) M N (isMarked marks))) zeroValues
+    given (firstDue (6 at 0 when not (keepsRules plan) ∷ marksRows (plan .grid) marks))
+    (valuesOf (progressOf (plan .grid) (isMarked marks))) zeroValues
 
--- What is left of it for a record that keeps the rules, for the inner function that goes by numbers: h rows, w columns and block
--- side b, in M rows and N columns of blocks.
-unfoldable pub reportOn : ℕ → ℕ → ℕ → ℕ → ℕ → List ℕ → Given Values
-reportOn h w b M N marks =
-    given
-    (firstDue
-    (7 at 0 when ltb (length marks) (M * N)
-    ∷ 9 at firstBroken M N marks when ltb (firstBroken M N marks) (M * N)
-    ∷ []))
-    (valuesOf (progressOf h w b M N (isMarked marks))) zeroValues
+-- What is left of it for a record that keeps the rules.
+unfoldable pub reportOn : Grid → List ℕ → Given Values
+reportOn grid marks = given (firstDue (marksRows grid marks)) (valuesOf (progressOf grid (isMarked marks))) zeroValues

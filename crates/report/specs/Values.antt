@@ -1,7 +1,9 @@
 -- Document 01's numbers and values for each answer of the report.
-use Prim.Native.Nat.{ℕ}
-use Rattle.refusal.specs.Refusals.{numberOf, placeOf}
-use Rattle.refusal.specs.Table.{accepted, refused, Given}
+use Prim.Native.Nat.{ℕ, _*_}
+use Rattle.refusal.specs.Refusals.{refusedFor, accepted}
+use Rattle.refusal.specs.Table.{Given}
+use Rattle.plan.specs.declared.Plan.{Plan}
+use Rattle.plan.specs.Sizes.{neededPixels, taskCount}
 use Rattle.report.specs.declared.Next.{Next}
 use Rattle.report.specs.declared.Next.the-variants.{Ready, Nothing}
 use Rattle.report.specs.declared.Progress.{Progress}
@@ -25,6 +27,10 @@ abbrev pub madeValues : ℕ → ℕ → Next → Values
 madeValues count tally (Ready t k) = record { count = count; tally = tally; ready = 1; task = t; block = k }
 madeValues count tally Nothing = record { count = count; tally = tally; ready = 0; task = 0; block = 0 }
 
+-- The values with all tasks done: 6MN - 2M - 2N of them, a tally of two for each pixel, and none named.
+abbrev pub allDoneValues : Plan → Values
+allDoneValues plan = madeValues (taskCount plan) (2 * neededPixels plan) Nothing
+
 -- The values of what was found.
 abbrev pub valuesOf : Progress → Values
 valuesOf progress = madeValues (progress .marked) (progress .tally) (progress .next)
@@ -32,4 +38,4 @@ valuesOf progress = madeValues (progress .marked) (progress .tally) (progress .n
 -- Document 01's number and place, and the values, of each case that `report` answers.
 abbrev pub reportGiven : ReportAnswer → Given Values
 reportGiven (Made progress) = record { answer = accepted; value = valuesOf progress }
-reportGiven (Refused refusal) = record { answer = refused (numberOf refusal) (placeOf refusal); value = zeroValues }
+reportGiven (Refused refusal) = record { answer = refusedFor refusal; value = zeroValues }

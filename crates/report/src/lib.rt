@@ -1,15 +1,20 @@
 // The report on a job's marks: how many tasks are marked, the tally, and the first ready task.
+use grid::Grid;
 use plan::Plan;
 use plan::PlanSizes;
 use refusal::Outcome;
 use refusal::Refusal;
 ghost use mathlib.Core.Path.{_≡_};
-ghost use Prim.Native.Nat.{_<_, _≤_, _*_, _/_, _%_};
+ghost use mathlib.Core.Bool.{true};
+ghost use Prim.Native.Nat.{_<_};
 ghost use lib.ListN.{length};
-ghost use Rattle.tasks.specs.Counts.{one, doneAt, doneCount};
+ghost use Rattle.number.specs.Numbers.{one};
+ghost use Rattle.grid.specs.Grid.{gridKept};
+ghost use Rattle.tasks.specs.Counts.{doneAt};
 ghost use Rattle.tasks.specs.Marks.{isMarked};
-ghost use Rattle.tasks.specs.Grid.{Lent};
-ghost use Rattle.report.specs.Tally.{blockArea, tallyAt, tally, Sized};
+ghost use Rattle.tasks.specs.Lent.{Lent, LentAt};
+ghost use Rattle.report.specs.Tally.{tallyAt};
+ghost use Rattle.report.specs.Sums.{Summed};
 ghost use Rattle.report.specs.Values.{reportGiven};
 ghost use Rattle.report.specs.Report.{firstReady, firstBroken, reportOn, report};
 
@@ -31,65 +36,56 @@ pub enum ReportAnswer {
     Made(Progress),
 }
 
+// How many tasks of all blocks are marked, and the tally of all blocks.
+struct Sums {
+    marked: usize,
+    tally: usize,
+}
+
 // The report on a plan's marks, which may be a part of a longer list.
 pub fn report(plan: Plan, marks: &[u32]) -> ReportAnswer
     ensures { λ r. ⌜ reportGiven r ≡ report plan (now (marks .entry)) ⌝ }
 {
     let known = plan.sizes();
     match known {
-        PlanSizes::Known(sizes) => report_on(
-            plan.rows,
-            plan.columns,
-            plan.side,
-            sizes.block_rows,
-            sizes.block_columns,
-            marks,
-        ),
+        PlanSizes::Known(_) => report_on(plan.grid, marks),
         PlanSizes::Refused(refusal) => ReportAnswer::Refused(refusal),
     }
 }
 
 // The report on the marks of a map of these sizes.
-fn report_on(
-    rows: usize,
-    columns: usize,
-    side: usize,
-    block_rows: usize,
-    block_columns: usize,
-    marks: &[u32],
-) -> ReportAnswer
-    requires { ⌜ Sized rows columns side «block_rows» «block_columns» ⌝ }
-    ensures { λ r. ⌜ reportGiven r ≡ reportOn rows columns side «block_rows» «block_columns» (now (marks .entry)) ⌝ }
+fn report_on(grid: Grid, marks: &[u32]) -> ReportAnswer
+    requires { ⌜ gridKept grid ≡ true ⌝ }
+    ensures { λ r. ⌜ reportGiven r ≡ reportOn grid (now (marks .entry)) ⌝ }
 {
-    let blocks = block_rows * block_columns;
+    let blocks = grid.blocks();
     let length = refusal::too_short(marks.len(), blocks);
     if let Outcome::Refused(refusal) = length {
         return ReportAnswer::Refused(refusal);
     }
-    let broken = first_broken(block_rows, block_columns, marks);
+    let broken = first_broken(grid, marks);
     if broken < blocks {
         return ReportAnswer::Refused(Refusal::MarkBroken(broken));
     }
-    let marked = marked_count(block_rows, block_columns, marks);
-    let tally = tally(rows, columns, side, block_rows, block_columns, marks);
-    let next = first_ready(block_rows, block_columns, marks);
+    let sums = sums_of(grid, marks);
+    let next = first_ready(grid, marks);
     ReportAnswer::Made(Progress {
-        marked: marked,
-        tally: tally,
+        marked: sums.marked,
+        tally: sums.tally,
         next: next,
     })
 }
 
 // The least block whose mark is broken, or the number of blocks.
-fn first_broken(block_rows: usize, block_columns: usize, marks: &[u32]) -> usize
-    requires { ⌜ Lent «block_rows» «block_columns» (length (now marks)) ⌝ }
-    ensures { λ r. ⌜ r ≡ firstBroken «block_rows» «block_columns» (now (marks .entry)) ⌝ }
+fn first_broken(grid: Grid, marks: &[u32]) -> usize
+    requires { ⌜ Lent grid (length (now marks)) ⌝ }
+    ensures { λ r. ⌜ r ≡ firstBroken grid (now (marks .entry)) ⌝ }
 {
-    let blocks = block_rows * block_columns;
+    let blocks = grid.blocks();
     let mut block = 0;
     while block < blocks {
         let mark = marks[block];
-        if !tasks::mark_valid(block_rows, block_columns, block, mark) {
+        if !tasks::mark_valid(grid, block, mark) {
             return block;
         }
         block += 1;
@@ -117,76 +113,42 @@ fn marked_at(marks: &[u32], block: usize) -> usize
     sum
 }
 
-// How many tasks of all blocks are marked.
-fn marked_count(block_rows: usize, block_columns: usize, marks: &[u32]) -> usize
-    requires { ⌜ Lent «block_rows» «block_columns» (length (now marks)) ⌝ }
-    ensures { λ r. ⌜ r ≡ doneCount «block_rows» «block_columns» (isMarked (now (marks .entry))) ⌝ }
-{
-    let blocks = block_rows * block_columns;
-    let mut sum = 0;
-    let mut block = 0;
-    while block < blocks {
-        sum += marked_at(marks, block);
-        block += 1;
-    }
-    sum
-}
-
-// A block's rows times its columns: the last row and the last column of blocks may be narrower.
-fn block_area(rows: usize, columns: usize, side: usize, block_columns: usize, block: usize) -> usize
-    requires { ⌜ (side ≤ 32) × (1 ≤ «block_columns») × (block / «block_columns» * side ≤ rows) × (block % «block_columns» * side ≤ columns) ⌝ }
-    ensures { λ r. ⌜ r ≡ blockArea rows columns side «block_columns» block ⌝ }
-{
-    let height = tasks::smaller(side, rows - block / block_columns * side);
-    let width = tasks::smaller(side, columns - block % block_columns * side);
-    height * width
-}
-
 // What a block adds to the tally.
-fn tally_at(
-    rows: usize,
-    columns: usize,
-    side: usize,
-    block_columns: usize,
-    marks: &[u32],
-    block: usize,
-) -> usize
-    requires { ⌜ (side ≤ 32) × (1 ≤ «block_columns») × (block / «block_columns» * side ≤ rows) × (block % «block_columns» * side ≤ columns) × (block < length (now marks)) ⌝ }
-    ensures { λ r. ⌜ r ≡ tallyAt rows columns side «block_columns» (isMarked (now (marks .entry))) block ⌝ }
+fn tally_at(grid: Grid, marks: &[u32], block: usize) -> usize
+    requires { ⌜ LentAt grid (length (now marks)) block ⌝ }
+    ensures { λ r. ⌜ r ≡ tallyAt grid (isMarked (now (marks .entry))) block ⌝ }
 {
     let times = one_if(tasks::is_marked(marks, 0, block))
         + one_if(tasks::is_marked(marks, 5, block));
-    times * block_area(rows, columns, side, block_columns, block)
+    times * grid.block_area(block)
 }
 
-// The tally of all blocks.
-fn tally(
-    rows: usize,
-    columns: usize,
-    side: usize,
-    block_rows: usize,
-    block_columns: usize,
-    marks: &[u32],
-) -> usize
-    requires { ⌜ Sized rows columns side «block_rows» «block_columns» × («block_rows» * «block_columns» ≤ length (now marks)) ⌝ }
-    ensures { λ r. ⌜ r ≡ tally rows columns side «block_rows» «block_columns» (isMarked (now (marks .entry))) ⌝ }
+// The sums over all blocks.
+fn sums_of(grid: Grid, marks: &[u32]) -> Sums
+    requires { ⌜ Lent grid (length (now marks)) ⌝ }
+    ensures { λ r. ⌜ Summed grid (isMarked (now (marks .entry))) r ⌝ }
 {
-    let blocks = block_rows * block_columns;
-    let mut sum = 0;
+    let blocks = grid.blocks();
+    let mut marked = 0;
+    let mut tally = 0;
     let mut block = 0;
     while block < blocks {
-        sum += tally_at(rows, columns, side, block_columns, marks, block);
+        marked += marked_at(marks, block);
+        tally += tally_at(grid, marks, block);
         block += 1;
     }
-    sum
+    Sums {
+        marked: marked,
+        tally: tally,
+    }
 }
 
 // The first ready task: task numbers rising, and for each the blocks rising.
-fn first_ready(block_rows: usize, block_columns: usize, marks: &[u32]) -> Next
-    requires { ⌜ Lent «block_rows» «block_columns» (length (now marks)) ⌝ }
-    ensures { λ r. ⌜ r ≡ firstReady «block_rows» «block_columns» (isMarked (now (marks .entry))) ⌝ }
+fn first_ready(grid: Grid, marks: &[u32]) -> Next
+    requires { ⌜ Lent grid (length (now marks)) ⌝ }
+    ensures { λ r. ⌜ r ≡ firstReady grid (isMarked (now (marks .entry))) ⌝ }
 {
-    let blocks = block_rows * block_columns;
+    let blocks = grid.blocks();
     let mut task = 0;
     'out: loop {
         if task >= tasks::TASKS {
@@ -194,7 +156,7 @@ fn first_ready(block_rows: usize, block_columns: usize, marks: &[u32]) -> Next
         }
         let mut block = 0;
         while block < blocks {
-            if tasks::is_ready(block_rows, block_columns, marks, task, block) {
+            if tasks::is_ready(grid, marks, task, block) {
                 break 'out Next::Ready(task, block);
             }
             block += 1;

@@ -1,5 +1,5 @@
 pub mod Stages
-pub mod Lists
-pub mod Rows
+pub mod FirstWords
+pub mod MapRows
 pub mod Serial
 pub mod SerialAnswers

@@ -9,8 +9,8 @@ use lib.IntN.{ℤ}
 use lib.ListN.{length, drop}
 use borrow.Author.Tests.{le-ltb, ltb-false, not-false}
 use Rattle.refusal.specs.declared.Refusal.{Refusal}
-use Rattle.refusal.specs.Refusals.{numberOf, placeOf}
-use Rattle.refusal.specs.Table.{Answer, accepted, refused, Row, _at_when_, firstDue}
+use Rattle.refusal.specs.Refusals.{refusedFor, Answer, accepted, refused}
+use Rattle.refusal.specs.Table.{Row, _at_when_, firstDue}
 use Rattle.refusal.proofs.Table.{none-of}
 use Rattle.plan.specs.declared.Plan.{Plan}
 use Rattle.plan.specs.declared.Sizes.{Sizes}
@@ -20,6 +20,7 @@ use Rattle.plan.specs.Rules.{keepsRules}
 use Rattle.plan.specs.Sizes.{neededPixels, sizesOf, planSizes, sizesGiven}
 use Rattle.plan.proofs.Known.{sizes-known, record-refused}
 use Rattle.serial.specs.Serial.{serialAnswer, serialWords, serialOutput}
+use Rattle.serial.specs.Stages.{MapFits}
 
 -- The row of a buffer.
 abbrev tooShort : (length needed : ℕ) → Row
@@ -28,7 +29,7 @@ tooShort length needed = 7 at 0 when ltb length needed
 module _ (plan : Plan) (mapLength outputLength : ℕ) where
   module _ (known : PlanSizes) (is : sizesGiven known ≡ planSizes plan) where
     pub answer-of-record : (refusal : Refusal) → known ≡ Refused refusal
-        → refused (numberOf refusal) (placeOf refusal) ≡ serialAnswer plan mapLength outputLength
+        → refusedFor refusal ≡ serialAnswer plan mapLength outputLength
     unfolding serialAnswer
     answer-of-record refusal e =
         record-refused plan known is refusal e
@@ -46,7 +47,7 @@ module _ (plan : Plan) (mapLength outputLength : ℕ) where
   long-enough kept h k = rw (kept, le-ltb mapLength (neededPixels plan) h, le-ltb outputLength (neededPixels plan) k)
 
   pub accepted-fits : serialAnswer plan mapLength outputLength ≡ accepted
-      → (keepsRules plan ≡ true) × (neededPixels plan ≤ mapLength) × (neededPixels plan ≤ outputLength)
+      → MapFits plan mapLength outputLength
   unfolding serialAnswer
   accepted-fits e =
       let (kept, (map-long, (output-long, none))) =
@@ -54,7 +55,11 @@ module _ (plan : Plan) (mapLength outputLength : ℕ) where
       (6 at 0 when not (keepsRules plan)
       ∷ tooShort mapLength (neededPixels plan) ∷ tooShort outputLength (neededPixels plan) ∷ [])
       e in
-      (not-false _ kept, ltb-false _ _ map-long, ltb-false _ _ output-long)
+      record {
+        kept = not-false _ kept;
+        map-long = ltb-false _ _ map-long;
+        output-long = ltb-false _ _ output-long;
+      }
 
 module _ (plan : Plan) (heights : List ℤ) (output : List ℕ) where
   pub output-of-accepted : serialAnswer plan (length heights) (length output) ≡ accepted

@@ -5,14 +5,13 @@ use Prim.Native.Nat.{ℕ, _/_, _%_}
 use lib.Dec.{ltb}
 use lib.IntN.{ℤ}
 use lib.ListN.{length, drop}
-use Rattle.refusal.specs.Table.{Answer, _at_when_, firstDue, ifAccepted}
+use Rattle.refusal.specs.Refusals.{Answer}
+use Rattle.refusal.specs.Table.{_at_when_, firstDue, ifAccepted}
 use Rattle.plan.specs.declared.Plan.{Plan}
 use Rattle.plan.specs.Rules.{keepsRules}
 use Rattle.plan.specs.Sizes.{neededPixels}
-use Rattle.plan.specs.Lists.{listOf}
-use Rattle.passes.specs.Pixel.{heightMap}
-use Rattle.passes.specs.Passes.{serialPasses}
-use Rattle.filter.specs.Filters.{filtersOf}
+use Rattle.buffer.specs.Lists.{listOf}
+use Rattle.filter.specs.PlanFilters.{mapOf, serialResult}
 
 -- The answer: 6 where the record breaks a rule, then 7 where map or output has fewer than h×w places.
 unfoldable pub serialAnswer : Plan → (mapLength outputLength : ℕ) → Answer
@@ -27,9 +26,7 @@ serialAnswer plan mapLength outputLength =
 unfoldable pub serialWords : Plan → List ℤ → List ℕ
 serialWords plan heights =
     listOf
-    (λ i.
-    serialPasses (filtersOf plan) (plan .rows) (plan .columns) (heightMap (plan .columns) heights) 4
-    (i / plan .columns) (i % plan .columns))
+    (λ i. serialResult plan (mapOf plan heights) 4 (i / plan .grid .columns) (i % plan .grid .columns))
     (neededPixels plan)
 
 -- The output after a call: of an accepted call the words of the passes, and past these the words that were there; of a

@@ -1,33 +1,53 @@
--- The folds that the steps of the serial passes are.
+-- Inner: what the steps of the serial passes require, and the folds that they are.
+use mathlib.Core.Path.{_≡_}
+use mathlib.Core.Bool.{true}
 use mathlib.Core.List.{List}
-use Prim.Native.Nat.{ℕ, zero, suc, _+_, _-_, _*_, _/_, min}
-use lib.IntN.{ℤ, pos}
-use lib.ListN.{getD}
+use Prim.Native.Nat.{ℕ, zero, suc, _+_, _-_, _*_, _<_, _≤_}
+use lib.IntN.{ℤ}
+use Rattle.grid.specs.Grid.{blockCount, blockExtent}
 use Rattle.plan.specs.declared.Plan.{Plan}
+use Rattle.plan.specs.Rules.{keepsRules}
+use Rattle.plan.specs.Sizes.{neededPixels}
 use Rattle.passes.specs.Filter.{Filter}
 use Rattle.passes.specs.Gains.{gainsFirst}
-use Rattle.passes.specs.Passes.{Axis, columns, rows, Direction, forward, backward, axisOf, directionOf}
-use Rattle.passes.specs.Pixel.{pixel}
+use Rattle.axis.specs.Axis.{Axis, columns, rows, Direction, forward, backward, axisOf, directionOf}
 use Rattle.filter.specs.declared.Window.{Window}
-use Rattle.filter.specs.Written.{written}
-use Rattle.filter.specs.Filters.{filtersOf}
+use Rattle.buffer.specs.Copies.{heightsFrom}
+use Rattle.buffer.specs.Written.{rowWritten}
+use Rattle.filter.specs.PlanFilters.{filtersOf}
 use Rattle.filter.specs.Windows.{windowPass}
+use Rattle.serial.specs.declared.Band.{Band}
 
--- The output with n heights read into it, from place `from` on.
-unfoldable pub pixelsRead : (from n : ℕ) → List ℤ → List ℕ → List ℕ
-pixelsRead from n heights output =
-    written (λ i. from + i) (λ i. pixel (getD heights (from + i) (pos 0))) n output
+-- The output with the heights of some rows of the map read into it.
+abbrev pub rowsRead : Plan → List ℤ → (top height : ℕ) → List ℕ → List ℕ
+rowsRead plan heights top height output =
+    let from : ℕ = top * plan .grid .columns in
+    rowWritten from (heightsFrom heights from) (height * plan .grid .columns) output
+
+-- What the passes want of a map of m heights and an output of n words.
+pub record MapFits (plan : Plan) (m n : ℕ) : Type 0 where
+  pub kept : keepsRules plan ≡ true
+  pub map-long : neededPixels plan ≤ m
+  pub output-long : neededPixels plan ≤ n
+
+-- What a pass over some rows of the map wants of an output of n words.
+pub record RowsFit (plan : Plan) (n top height pass : ℕ) : Type 0 where
+  pub kept : keepsRules plan ≡ true
+  pub is-pass : pass < 4
+  pub tall : 0 < height
+  pub in-map : top + height ≤ plan .grid .rows
+  pub output-long : neededPixels plan ≤ n
 
 -- The window of `height` rows of the map from row `top` on.
 abbrev pub mapRows : Plan → (top height : ℕ) → Window
 mapRows plan top height =
-    record { stride = plan .columns; top = top; left = 0; height = height; width = plan .columns }
+    record { stride = plan .grid .columns; top = top; left = 0; height = height; width = plan .grid .columns }
 
 -- How many of a map's rows a pass along columns does before it comes to those rows; a pass along rows begins with each.
-abbrev pub rowsBefore : Axis → Direction → (mapHeight top height : ℕ) → ℕ
-rowsBefore columns forward mapHeight top height = top
-rowsBefore columns backward mapHeight top height = mapHeight - (top + height)
-rowsBefore rows d mapHeight top height = 0
+abbrev pub historyRows : Axis → Direction → (mapHeight top height : ℕ) → ℕ
+historyRows columns forward mapHeight top height = top
+historyRows columns backward mapHeight top height = mapHeight - (top + height)
+historyRows rows d mapHeight top height = 0
 
 -- The filters of the passes: those of the plan, with all gains in the first.
 abbrev pub serialFilters : Plan → ℕ → Filter
@@ -36,20 +56,35 @@ serialFilters plan = gainsFirst (filtersOf plan) 4
 -- The output after a pass over these rows, with all rows before them for history.
 unfoldable pub rowsPassed : Plan → (top height pass : ℕ) → List ℕ → List ℕ
 rowsPassed plan top height pass output =
-    windowPass pass (mapRows plan top height) (rowsBefore (axisOf pass) (directionOf pass) (plan .rows) top height)
+    windowPass pass (mapRows plan top height) (historyRows (axisOf pass) (directionOf pass) (plan .grid .rows) top height)
     (serialFilters plan pass) output
 
--- The rows of a band: `BAND` of src/lib.rt is the same number.
+-- The side of a band, which is a block of the map's rows: `BAND` of src/lib.rt is the same number.
 abbrev pub bandRows : ℕ
 bandRows = 8
 
--- The first row of band n,
+-- How many bands a map has,
+abbrev pub bandCount : Plan → ℕ
+bandCount plan = blockCount (plan .grid .rows) bandRows
+
+-- the first row of band n,
 abbrev pub bandTop : ℕ → ℕ
 bandTop n = n * bandRows
 
--- and its height: the last band of a map is what is left of it.
+-- its height,
 abbrev pub bandHeight : Plan → ℕ → ℕ
-bandHeight plan n = min bandRows (plan .rows - bandTop n)
+bandHeight plan n = blockExtent (plan .grid .rows) bandRows n
+
+-- and both, in a map of that many rows.
+abbrev pub bandOf : (mapHeight n : ℕ) → Band
+bandOf mapHeight n = record { top = bandTop n; height = blockExtent mapHeight bandRows n }
+
+-- What a pass over a band wants of an output of n words.
+pub record BandFits (plan : Plan) (n band pass : ℕ) : Type 0 where
+  pub kept : keepsRules plan ≡ true
+  pub is-pass : pass < 4
+  pub counted : band < bandCount plan
+  pub output-long : neededPixels plan ≤ n
 
 -- The output after a pass over band n.
 abbrev pub bandPassed : Plan → (n pass : ℕ) → List ℕ → List ℕ
@@ -60,8 +95,7 @@ unfoldable pub bandsReadDown : Plan → List ℤ → ℕ → List ℕ → List �
 bandsReadDown plan heights zero output = output
 bandsReadDown plan heights (suc n) output =
     bandPassed plan n 0
-    (pixelsRead (bandTop n * plan .columns) (bandHeight plan n * plan .columns) heights
-    (bandsReadDown plan heights n output))
+    (rowsRead plan heights (bandTop n) (bandHeight plan n) (bandsReadDown plan heights n output))
 
 -- The output after both row passes over band n.
 unfoldable pub bandFinished : Plan → ℕ → List ℕ → List ℕ
@@ -69,7 +103,7 @@ bandFinished plan n output = bandPassed plan n 3 (bandPassed plan n 2 output)
 
 -- The last band of a map.
 abbrev pub lastBand : Plan → ℕ
-lastBand plan = (plan .rows - 1) / bandRows
+lastBand plan = bandCount plan - 1
 
 -- The output after the pass up over n bands above the last, and both row passes over the band below each: the pass up
 -- over a band reads the band below it as it left it.

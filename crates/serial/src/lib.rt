@@ -1,6 +1,7 @@
 // The four passes over a whole map, in the lent output and in two sweeps through it: down from the top, and up from the
 // bottom with right and left behind it.
 use filter::Window;
+use grid::Grid;
 use plan::Plan;
 use plan::PlanSizes;
 use refusal::Outcome;
@@ -11,14 +12,21 @@ ghost use Prim.Native.Nat.{_+_, _<_, _≤_};
 ghost use lib.ListN.{length, drop};
 ghost use Rattle.refusal.specs.Table.{answerOf};
 ghost use Rattle.plan.specs.Rules.{keepsRules};
-ghost use Rattle.plan.specs.Sizes.{neededPixels, blockCount};
-ghost use Rattle.passes.specs.Passes.{axisOf, directionOf};
+ghost use Rattle.plan.specs.Sizes.{neededPixels};
+ghost use Rattle.grid.specs.Grid.{blockCount};
+ghost use Rattle.axis.specs.Axis.{axisOf, directionOf};
 ghost use Rattle.serial.specs.Serial.{serialAnswer, serialWords, serialOutput};
-ghost use Rattle.serial.specs.Stages.{pixelsRead, rowsBefore, rowsPassed, bandRows, bandTop, bandPassed, bandsReadDown, bandsFinished};
+ghost use Rattle.serial.specs.Stages.{MapFits, RowsFit, BandFits, historyRows, rowsPassed, bandRows, bandCount, bandOf, bandPassed, bandsReadDown, bandsFinished};
 
 // The rows of a band: enough that the chains of multiplies of their row passes overlap, and few enough that a band stays
 // in the cache from one step to the next. `bandRows` of specs/Stages.antt is the same number.
 const BAND: usize = 8;
+
+// Where a band lies in the map, and how many rows it has.
+struct Band {
+    top: usize,
+    height: usize,
+}
 
 // The passes down, up, right and left over a map: the first rows × columns words of the output are their result.
 pub fn serial_passes(plan: Plan, map: &[i32], output: &mut [u64]) -> Outcome
@@ -46,47 +54,58 @@ fn answer(plan: Plan, map_length: usize, output_length: usize) -> Outcome
 
 // The passes over a map that fits.
 fn filter_map(plan: Plan, map: &[i32], output: &mut [u64])
-    requires { ⌜ (keepsRules plan ≡ true) × (neededPixels plan ≤ length (now map)) × (neededPixels plan ≤ length (now output)) ⌝ }
+    requires { ⌜ MapFits plan (length (now map)) (length (now output)) ⌝ }
     ensures { λ _. ⌜ now (output .exit) ≡ serialWords plan (now (map .entry)) ++ drop (neededPixels plan) (now (output .entry)) ⌝ }
 {
     read_down(plan, map, output);
     finish_up(plan, output);
 }
 
-// The heights read and the pass down over them, band by band from the top.
-fn read_down(plan: Plan, map: &[i32], output: &mut [u64])
-    requires { ⌜ (keepsRules plan ≡ true) × (neededPixels plan ≤ length (now map)) × (neededPixels plan ≤ length (now output)) ⌝ }
-    ensures { λ _. ⌜ now (output .exit) ≡ bandsReadDown plan (now (map .entry)) (blockCount (plan .rows) bandRows) (now (output .entry)) ⌝ }
+// How many bands a map has: its rows of blocks, were a band's rows the block side.
+fn band_count(plan: Plan) -> usize
+    ensures { λ r. ⌜ r ≡ bandCount plan ⌝ }
 {
-    let bands = (plan.rows + BAND - 1) / BAND;
-    let mut band = 0;
-    while band < bands {
-        let top = band * BAND;
-        let height = filter::lesser(BAND, plan.rows - top);
-        read_map(map, output, top * plan.columns, height * plan.columns);
-        pass_over_rows(plan, output, top, height, 0);
-        band += 1;
+    let grid = Grid {
+        rows: plan.grid.rows,
+        columns: plan.grid.columns,
+        side: BAND,
+    };
+    grid.block_rows()
+}
+
+// Where a band of a map of `rows` rows lies: the last band is what is left of the map.
+fn band_of(rows: usize, band: usize) -> Band
+    requires { ⌜ band < blockCount rows bandRows ⌝ }
+    ensures { λ r. ⌜ r ≡ bandOf rows band ⌝ }
+{
+    let top = band * BAND;
+    Band {
+        top: top,
+        height: number::lesser(BAND, rows - top),
     }
 }
 
-// So many heights from place `from` on as words.
-fn read_map(map: &[i32], output: &mut [u64], from: usize, count: usize)
-    requires { ⌜ (from + count ≤ length (now map)) × (from + count ≤ length (now output)) ⌝ }
-    ensures { λ _. ⌜ now (output .exit) ≡ pixelsRead from count (now (map .entry)) (now (output .entry)) ⌝ }
+// The heights read and the pass down over them, band by band from the top.
+fn read_down(plan: Plan, map: &[i32], output: &mut [u64])
+    requires { ⌜ MapFits plan (length (now map)) (length (now output)) ⌝ }
+    ensures { λ _. ⌜ now (output .exit) ≡ bandsReadDown plan (now (map .entry)) (bandCount plan) (now (output .entry)) ⌝ }
 {
-    let mut i = 0;
-    while i < count {
-        let place = from + i;
-        output[place] = filter::read_pixel(map[place]);
-        i += 1;
+    let bands = band_count(plan);
+    let mut band = 0;
+    while band < bands {
+        let at = band_of(plan.grid.rows, band);
+        let from = at.top * plan.grid.columns;
+        buffer::read_heights(map, from, output, from, at.height * plan.grid.columns);
+        pass_over_rows(plan, output, at.top, at.height, 0);
+        band += 1;
     }
 }
 
 // How many rows of the map a pass along columns does before it comes to those from `top` on; a pass along rows begins
 // with each row.
-fn rows_before(rows: usize, top: usize, height: usize, pass: usize) -> usize
+fn history_rows(rows: usize, top: usize, height: usize, pass: usize) -> usize
     requires { ⌜ top + height ≤ rows ⌝ }
-    ensures { λ r. ⌜ r ≡ rowsBefore (axisOf pass) (directionOf pass) rows top height ⌝ }
+    ensures { λ r. ⌜ r ≡ historyRows (axisOf pass) (directionOf pass) rows top height ⌝ }
 {
     if pass == 0 {
         return top;
@@ -99,29 +118,28 @@ fn rows_before(rows: usize, top: usize, height: usize, pass: usize) -> usize
 
 // A pass of the plan over some rows of the map, with the rows that it has done before them for history.
 fn pass_over_rows(plan: Plan, output: &mut [u64], top: usize, height: usize, pass: usize)
-    requires { ⌜ (keepsRules plan ≡ true) × (pass < 4) × (0 < height) × (top + height ≤ plan .rows) × (neededPixels plan ≤ length (now output)) ⌝ }
+    requires { ⌜ RowsFit plan (length (now output)) top height pass ⌝ }
     ensures { λ _. ⌜ now (output .exit) ≡ rowsPassed plan top height pass (now (output .entry)) ⌝ }
 {
     let filter = filter::gains_first(plan, pass);
     let window = Window {
-        stride: plan.columns,
+        stride: plan.grid.columns,
         top: top,
         left: 0,
         height: height,
-        width: plan.columns,
+        width: plan.grid.columns,
     };
-    let history = rows_before(plan.rows, top, height, pass);
+    let history = history_rows(plan.grid.rows, top, height, pass);
     filter::run_pass(output, window, pass, history, filter);
 }
 
-// A pass over a band: the last band is what is left of the map.
+// A pass over a band.
 fn pass_over_band(plan: Plan, output: &mut [u64], band: usize, pass: usize)
-    requires { ⌜ (keepsRules plan ≡ true) × (pass < 4) × (bandTop band < plan .rows) × (neededPixels plan ≤ length (now output)) ⌝ }
+    requires { ⌜ BandFits plan (length (now output)) band pass ⌝ }
     ensures { λ _. ⌜ now (output .exit) ≡ bandPassed plan band pass (now (output .entry)) ⌝ }
 {
-    let top = band * BAND;
-    let height = filter::lesser(BAND, plan.rows - top);
-    pass_over_rows(plan, output, top, height, pass);
+    let at = band_of(plan.grid.rows, band);
+    pass_over_rows(plan, output, at.top, at.height, pass);
 }
 
 // The pass up, band by band from the bottom, and both row passes one band behind it: over a band, up reads the band below
@@ -130,7 +148,7 @@ fn finish_up(plan: Plan, output: &mut [u64])
     requires { ⌜ (keepsRules plan ≡ true) × (neededPixels plan ≤ length (now output)) ⌝ }
     ensures { λ _. ⌜ now (output .exit) ≡ bandsFinished plan (now (output .entry)) ⌝ }
 {
-    let last = (plan.rows - 1) / BAND;
+    let last = band_count(plan) - 1;
     pass_over_band(plan, output, last, 1);
     let mut done = 0;
     while done < last {

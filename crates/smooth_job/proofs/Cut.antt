@@ -10,30 +10,16 @@ use lib.Dec.{ltb, eqb}
 use lib.ListN.{length, getD, take}
 use lib.Seq.{getD-take, take-all}
 use borrow.Author.Tests.{ltb-true, ltb-false, eq-eqb, ne-eqb, eqb-true}
-use Rattle.refusal.specs.Table.{Answer, accepted, refused, _at_when_, firstDue, firstOf}
+use Rattle.refusal.specs.Refusals.{Answer, accepted, refused}
+use Rattle.refusal.specs.Table.{_at_when_, firstDue, firstOf}
 use Rattle.refusal.proofs.Table.{first-append}
 use Rattle.plan.specs.declared.Plan.{Plan}
-use Rattle.plan.specs.Sizes.{neededPixels}
-use Rattle.plan.specs.Lists.{listOf}
-use Rattle.plan.proofs.Listed.{listed-length, listed-at, listed-only}
+use Rattle.plan.specs.Sizes.{neededPixels, wordLimit}
+use Rattle.buffer.specs.Lists.{listOf}
+use Rattle.buffer.proofs.Listed.{listed-length, listed-at, listed-only}
 use Rattle.plan_reader.specs.ReadPlan.{planRows}
 use Rattle.smooth_job.specs.Promises.{CutAsksTheSame}
-use Rattle.smooth_job.specs.Program.{
-  planLimit,
-  pixelLimit,
-  wordIn,
-  afterEnd,
-  planLength,
-  planWords,
-  planIn,
-  countRows,
-  inputRows,
-  Asked,
-  refusedInput,
-  askedBy,
-  asked,
-  inputLimit,
-}
+use Rattle.smooth_job.specs.Program.{pixelLimit, wordIn, afterEnd, planLength, planWords, planIn, countRows, inputRows, Asked, refusedInput, askedBy, asked, inputLimit}
 use Rattle.smooth_job.proofs.Input.{length-limited, cut-whole, cut-long}
 
 end-same : (f g : ℕ → ℕ) (i n : ℕ) → ((j : ℕ) → i ≤ j → j < i + n → f j ≡ g j) → afterEnd f i n ≡ afterEnd g i n
@@ -88,7 +74,7 @@ module _ (a b : List ℕ) (a-long : inputLimit < length a) (b-long : inputLimit 
   same-byte j h =
       sym (getD-take inputLimit a j 0 h) ∙ ap (λ (l : List ℕ). getD l j 0) same ∙ getD-take inputLimit b j 0 h
 
-  same-word : (i : ℕ) → i < planLimit + pixelLimit → wordIn a i ≡ wordIn b i
+  same-word : (i : ℕ) → i < wordLimit + pixelLimit → wordIn a i ≡ wordIn b i
   unfolding wordIn
   same-word i h =
       rw (
@@ -101,9 +87,9 @@ module _ (a b : List ℕ) (a-long : inputLimit < length a) (b-long : inputLimit 
   same-length : planLength a ≡ planLength b
   unfolding planLength
   same-length =
-      let p : min (length a / 4) planLimit ≡ planLimit = omega arith in
-      let q : min (length b / 4) planLimit ≡ planLimit = omega arith in
-      rw (p, q) (end-same (wordIn a) (wordIn b) 0 planLimit (λ j _ h. same-word j (omega arith)))
+      let p : min (length a / 4) wordLimit ≡ wordLimit = omega arith in
+      let q : min (length b / 4) wordLimit ≡ wordLimit = omega arith in
+      rw (p, q) (end-same (wordIn a) (wordIn b) 0 wordLimit (λ j _ h. same-word j (omega arith)))
 
   same-words : planWords a ≡ planWords b
   unfolding planWords

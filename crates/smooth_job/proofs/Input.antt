@@ -10,7 +10,8 @@ use lib.Dec.{eqb}
 use lib.ListN.{length}
 use borrow.Author.Tests.{eq-eqb, ne-eqb, le-leb, lt-leb}
 use Rattle.plan_reader.specs.PlanWords.{kindOf}
-use Rattle.smooth_job.specs.Program.{planLimit, wordIn, afterEnd, planLength, inputLimit, cutLength}
+use Rattle.plan.specs.Sizes.{wordLimit}
+use Rattle.smooth_job.specs.Program.{wordIn, afterEnd, planLength, inputLimit, cutLength}
 
 module _ (word : ℕ → ℕ) where
   -- One word is looked at.
@@ -40,18 +41,18 @@ module _ (word : ℕ → ℕ) where
       by false later = omega arith
 
 module _ (input : List ℕ) where
-  pub search-start : (most : ℕ) → most ≡ min (length input / 4) planLimit
+  pub search-start : (most : ℕ) → most ≡ min (length input / 4) wordLimit
       → planLength input ≡ afterEnd (wordIn input) 0 (most - 0)
   unfolding planLength
   search-start most e = let z : most - 0 ≡ most = omega arith in rw (z, e)
 
-  pub length-limited : planLength input ≤ planLimit
+  pub length-limited : planLength input ≤ wordLimit
   unfolding planLength
-  length-limited = omega (arith, end-within (wordIn input) 0 (min (length input / 4) planLimit))
+  length-limited = omega (arith, end-within (wordIn input) 0 (min (length input / 4) wordLimit))
 
   pub length-inside : planLength input ≤ length input / 4
   unfolding planLength
-  length-inside = omega (arith, end-within (wordIn input) 0 (min (length input / 4) planLimit))
+  length-inside = omega (arith, end-within (wordIn input) 0 (min (length input / 4) wordLimit))
 
   module _ (most i : ℕ) (left : planLength input ≡ afterEnd (wordIn input) i (most - i)) where
     module _ (below : i < most) (word : ℕ) (here : word ≡ wordIn input i) where

@@ -10,15 +10,16 @@ use lib.IntN.{ℤ}
 use lib.Dec.{ltb, eqb}
 use lib.ListN.{length, length-replicate}
 use borrow.Author.Tests.{ltb-false, le-ltb}
-use Rattle.refusal.specs.Table.{Answer, accepted, refused, _at_when_, firstDue, Given}
+use Rattle.refusal.specs.Refusals.{Answer, accepted, refused}
+use Rattle.refusal.specs.Table.{_at_when_, firstDue, Given}
 use Rattle.refusal.proofs.Table.{refused-before, accepted-before, not-due, rows-accepted, none-of}
 use Rattle.plan.specs.declared.Plan.{Plan}
 use Rattle.plan.specs.Rules.{keepsRules}
 use Rattle.plan.specs.Sizes.{neededMarks, neededStrips, neededPixels, sizesOf}
 use Rattle.plan.proofs.Record.{rules}
-use Rattle.plan.proofs.Blocks.{count-bounded}
+use Rattle.grid.proofs.Extents.{count-bounded}
 use Rattle.plan.proofs.Needed.{bounds}
-use Rattle.plan.proofs.Listed.{listed-length}
+use Rattle.buffer.proofs.Listed.{listed-length}
 use Rattle.plan_reader.specs.ReadPlan.{planRows, readPlan}
 use Rattle.plan_writer.proofs.RoundTripRead.{read-keeps-rules}
 use Rattle.report.specs.Values.{Values}
@@ -28,29 +29,7 @@ use Rattle.whole_job.specs.WholeJob.{wholeAnswer}
 use Rattle.whole_job.proofs.Steps.{whole-job-done}
 use Rattle.smooth_job.specs.declared.Smoothed.{Smoothed}
 use Rattle.smooth_job.specs.Promises.{Smooths, SmoothDone, SmoothTable}
-use Rattle.smooth_job.specs.Program.{
-  pixelLimit,
-  stripLimit,
-  planWords,
-  heightsIn,
-  planIn,
-  countRows,
-  inputRows,
-  Asked,
-  refusedInput,
-  job,
-  askedBy,
-  mapIn,
-  asked,
-  jobLists,
-  jobAfter,
-  Line,
-  reportedWith,
-  afterAnswer,
-  answerTo,
-  smoothGiven,
-  outputOf,
-}
+use Rattle.smooth_job.specs.Program.{pixelLimit, stripLimit, planWords, heightsIn, planIn, countRows, inputRows, Asked, refusedInput, job, askedBy, mapIn, asked, jobLists, jobAfter, Line, reportedWith, afterAnswer, answerTo, smoothGiven, outputOf}
 
 -- ---- a job that is asked for
 
@@ -92,7 +71,7 @@ module _ (plan : Plan) (heights : List ℤ) (given : AsksJob plan heights) where
   few-blocks : neededMarks plan ≤ pixelLimit
   few-blocks =
       let marks : neededMarks plan ≤ neededPixels plan =
-      mul-le-mul (count-bounded (plan .rows) (plan .side)) (count-bounded (plan .columns) (plan .side)) in
+      mul-le-mul (count-bounded (plan .grid .rows) (plan .grid .side)) (count-bounded (plan .grid .columns) (plan .grid .side)) in
       omega (arith, given .few)
 
   few-strips : neededStrips plan ≤ stripLimit
@@ -121,7 +100,7 @@ module _ (plan : Plan) (heights : List ℤ) (given : AsksJob plan heights) (outp
   smooths =
       let done = job-accepted plan heights given output long in
       let claim = whole-job-done plan heights (jobLists output) done in
-      record { answer = rw (done, claim .report-is); words = claim .serial-words; past = claim .output-past }
+      record { answer = rw (done, claim .report-is); output-is = claim .output-is }
 
 pub smooth-done : SmoothDone
 smooth-done input plan heights output e long = smooths plan heights (asks-job input plan heights e) output long

@@ -10,15 +10,15 @@ use borrow.Author.Tests.{lt-ltb, le-ltb, eq-eqb, ne-eqb}
 use Rattle.refusal.specs.declared.Refusal.{Refusal}
 use Rattle.refusal.specs.declared.Outcome.{Outcome}
 use Rattle.refusal.specs.declared.Outcome.the-variants.{Accepted, Refused}
-use Rattle.refusal.specs.Refusals.{numberOf, placeOf}
-use Rattle.refusal.specs.Table.{accepted, firstDue, answerOf, Given}
+use Rattle.refusal.specs.Refusals.{numberOf, placeOf, accepted}
+use Rattle.refusal.specs.Table.{firstDue, answerOf, Given}
 use Rattle.refusal.proofs.Table.{refused-before, accepted-before}
 use Rattle.plan.specs.declared.Plan.{Plan}
 use Rattle.plan.specs.declared.PlanSizes.{PlanSizes}
 use Rattle.plan.specs.declared.PlanSizes.the-variants.{Refused as NoSizes}
 use Rattle.plan.specs.Rules.{keepsRules}
 use Rattle.plan.specs.Sizes.{neededPixels, planSizes, sizesGiven}
-use Rattle.plan.specs.Lists.{listOf}
+use Rattle.buffer.specs.Lists.{listOf}
 use Rattle.plan.proofs.Known.{sizes-refused}
 use Rattle.plan_reader.specs.declared.PlanRead.{PlanRead}
 use Rattle.plan_reader.specs.ReadPlan.{planRows, readPlan, readGiven}
@@ -33,31 +33,7 @@ use Rattle.report.specs.Report.{report}
 use Rattle.job_spec.specs.Calls.{Buffers, lists}
 use Rattle.whole_job.specs.WholeJob.{wholeAnswer, afterWholeJob}
 use Rattle.smooth_job.specs.declared.Smoothed.{Smoothed}
-use Rattle.smooth_job.specs.Program.{
-  pixelLimit,
-  stripLimit,
-  wordIn,
-  planLength,
-  planWords,
-  heightsIn,
-  planIn,
-  countRows,
-  inputRows,
-  Asked,
-  refusedInput,
-  job,
-  asked,
-  askedWith,
-  jobLists,
-  jobAfter,
-  Line,
-  lineOf,
-  reportedWith,
-  refusedWith,
-  answerTo,
-  smoothGiven,
-  outputOf,
-}
+use Rattle.smooth_job.specs.Program.{pixelLimit, stripLimit, wordIn, planLength, planWords, heightsIn, planIn, countRows, inputRows, Asked, refusedInput, job, asked, askedWith, jobLists, jobAfter, Line, lineOf, reportedWith, refusedWith, answerTo, smoothGiven, outputOf}
 
 -- ---- the report
 
@@ -66,8 +42,8 @@ module _ (plan : Plan) (marks : List ℕ) (answer : ReportAnswer) (made : report
       → smoothGiven
       (record {
         outcome = Accepted;
-        rows = plan .rows;
-        columns = plan .columns;
+        rows = plan .grid .rows;
+        columns = plan .grid .columns;
         marked = progress .marked;
         tally = progress .tally;
       })
@@ -80,8 +56,8 @@ module _ (plan : Plan) (marks : List ℕ) (answer : ReportAnswer) (made : report
             answer = accepted;
             value =
                 record {
-                  rows = plan .rows;
-                  columns = plan .columns;
+                  rows = plan .grid .rows;
+                  columns = plan .grid .columns;
                   tasks = progress .marked;
                   tally = progress .tally;
                 };

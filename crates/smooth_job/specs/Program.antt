@@ -5,21 +5,13 @@ use Prim.Native.Nat.{ℕ, zero, suc, _+_, _-_, _*_, _/_, _%_, min}
 use lib.IntN.{ℤ, pos, negsuc}
 use lib.Dec.{ltb, leb, eqb}
 use lib.ListN.{length, getD, replicate}
-use Rattle.refusal.specs.Table.{
-  Answer,
-  accepted,
-  refused,
-  Row,
-  _at_when_,
-  firstDue,
-  answerOf,
-  Given,
-  given,
-}
+use Rattle.refusal.specs.Refusals.{Answer, accepted, refused}
+use Rattle.refusal.specs.Table.{Row, _at_when_, firstDue, answerOf, Given, given}
 use Rattle.plan.specs.declared.Plan.{Plan}
 use Rattle.plan.specs.Rules.{orderLimit}
-use Rattle.plan.specs.Sizes.{neededPixels}
-use Rattle.plan.specs.Lists.{listOf}
+use Rattle.grid.specs.Grid.{sideLimit}
+use Rattle.plan.specs.Sizes.{wordLimit, neededPixels}
+use Rattle.buffer.specs.Lists.{listOf}
 use Rattle.plan_reader.specs.PlanWords.{kindOf}
 use Rattle.plan_reader.specs.ReadPlan.{planRows, planFrom}
 use Rattle.report.specs.Values.{Values}
@@ -29,10 +21,6 @@ use Rattle.whole_job.specs.WholeJob.{wholeAnswer, afterWholeJob}
 use Rattle.smooth_job.specs.declared.Smoothed.{Smoothed}
 
 -- ---- the input
-
--- The most words of a plan, which are all that the program looks at for its end.
-abbrev pub planLimit : ℕ
-planLimit = 11 + 4 * orderLimit
 
 -- The most pixels.
 abbrev pub pixelLimit : ℕ
@@ -51,7 +39,7 @@ afterEnd word i (suc n) = cond (eqb (kindOf (word i)) 6) (suc i) (afterEnd word 
 
 -- How many words the plan has: up to its first word of kind 6, looking at the limit at most.
 unfoldable pub planLength : List ℕ → ℕ
-planLength input = afterEnd (wordIn input) 0 (min (length input / 4) planLimit)
+planLength input = afterEnd (wordIn input) 0 (min (length input / 4) wordLimit)
 
 -- The plan's words.
 unfoldable pub planWords : List ℕ → List ℕ
@@ -107,9 +95,9 @@ askedWith input plan = askedBy (firstDue (countRows input plan)) plan (mapIn inp
 
 -- ---- the answer
 
--- The most strip words of a job of so many pixels: a slot of the largest side and the largest orders for each.
+-- Room for the strips of any job of so many pixels: a slot of the largest side and the largest orders for each.
 abbrev pub stripLimit : ℕ
-stripLimit = pixelLimit * (32 * (4 * orderLimit))
+stripLimit = pixelLimit * (sideLimit * (4 * orderLimit))
 
 -- The lists of the program's job: marks and strips of zeros, and an output of any words.
 unfoldable pub jobLists : List ℕ → Buffers
@@ -133,7 +121,7 @@ zeroLine = record { rows = 0; columns = 0; tasks = 0; tally = 0 }
 -- The size, and the tasks marked and the tally of a report.
 abbrev pub lineOf : Plan → Values → Line
 lineOf plan values =
-    record { rows = plan .rows; columns = plan .columns; tasks = values .count; tally = values .tally }
+    record { rows = plan .grid .rows; columns = plan .grid .columns; tasks = values .count; tally = values .tally }
 
 -- The line of a report on a plan's marks; zeros beside a refusal.
 abbrev pub reportedWith : Plan → Given Values → Given Line
@@ -178,7 +166,7 @@ outputOf (job plan heights) output = jobAfter plan heights output .output
 
 -- The most bytes of an input that asks for a job.
 abbrev pub inputLimit : ℕ
-inputLimit = 4 * (planLimit + pixelLimit)
+inputLimit = 4 * (wordLimit + pixelLimit)
 
 -- How many bytes stand for an input of a length: all; of a longer one than any that asks for a job the first bytes, one word
 -- more, and the bytes over.

@@ -1,45 +1,23 @@
 -- What is proved of document 01's program beyond its definition.
 use mathlib.Core.Path.{_≡_}
 use mathlib.Core.List.{List, [], _∷_, _++_}
-use Prim.Native.Nat.{ℕ, _*_, _/_, _%_, _≤_, _<_}
+use Prim.Native.Nat.{ℕ, _≤_}
 use lib.IntN.{ℤ}
 use lib.Dec.{ltb}
 use lib.ListN.{length, take}
-use Rattle.refusal.specs.Table.{accepted, _at_when_, firstDue}
+use Rattle.refusal.specs.Refusals.{accepted}
+use Rattle.refusal.specs.Table.{_at_when_, firstDue}
 use Rattle.plan.specs.declared.Plan.{Plan}
-use Rattle.plan.specs.Sizes.{neededPixels, taskCount}
-use Rattle.plan.specs.Lists.{wordAt}
-use Rattle.task_words.specs.Writes.{mapOf}
-use Rattle.task_words.specs.Matching.{serialResult}
-use Rattle.smooth_job.specs.Program.{
-  planIn,
-  inputRows,
-  asked,
-  job,
-  answerTo,
-  outputOf,
-  inputLimit,
-  cutLength,
-}
+use Rattle.plan.specs.Sizes.{neededPixels}
+use Rattle.report.specs.Values.{allDoneValues}
+use Rattle.serial.specs.Serial.{serialOutput}
+use Rattle.smooth_job.specs.Program.{planIn, inputRows, asked, lineOf, job, answerTo, outputOf, inputLimit, cutLength}
 
--- What is answered to an input that asks for a job: the size, 6MN - 2M - 2N tasks, a tally of two for each pixel, and in the
--- output the words of the serial passes; past them the output is as it was.
+-- What is answered to an input that asks for a job: the size, 6MN - 2M - 2N tasks, a tally of two for each pixel, and the output
+-- that the serial call leaves of the same map and output.
 pub record Smooths (plan : Plan) (heights : List ℤ) (output : List ℕ) : Type 0 where
-  pub answer : answerTo (job plan heights) output
-      ≡ record {
-        answer = accepted;
-        value =
-            record {
-              rows = plan .rows;
-              columns = plan .columns;
-              tasks = taskCount plan;
-              tally = 2 * neededPixels plan;
-            };
-      }
-  pub words : (q : ℕ) → q < neededPixels plan
-      → wordAt (outputOf (job plan heights) output) q
-      ≡ serialResult plan (mapOf plan heights) 4 (q / plan .columns) (q % plan .columns)
-  pub past : (q : ℕ) → neededPixels plan ≤ q → wordAt (outputOf (job plan heights) output) q ≡ wordAt output q
+  pub answer : answerTo (job plan heights) output ≡ record { answer = accepted; value = lineOf plan (allDoneValues plan) }
+  pub output-is : outputOf (job plan heights) output ≡ serialOutput plan heights output
 
 -- Every input that asks for a job is answered so, in an output of h×w words or more.
 abbrev pub SmoothDone : Type 0

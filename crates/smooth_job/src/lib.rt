@@ -11,21 +11,20 @@ ghost use Prim.Native.Nat.{_+_, _*_, _/_, _<_, _≤_};
 ghost use lib.ListN.{length, getD, replicate};
 ghost use Rattle.plan.specs.Rules.{keepsRules};
 ghost use Rattle.refusal.specs.Refusals.{numberOf, placeOf};
-ghost use Rattle.plan.specs.Sizes.{neededPixels};
-ghost use Rattle.plan.specs.Lists.{listOf};
+ghost use Rattle.plan.specs.Sizes.{neededPixels, wordLimit};
+ghost use Rattle.buffer.specs.Lists.{listOf};
 ghost use Rattle.plan_reader.specs.ReadPlan.{readPlan, readGiven};
 ghost use Rattle.report.specs.Report.{report};
-ghost use Rattle.smooth_job.specs.Program.{planLimit, pixelLimit, stripLimit, wordIn, planLength, signed32, heightsIn, job, asked, askedWith, refusedWith, reportedWith, answerTo, smoothGiven, outputOf, cutLimit, cutLength};
+ghost use Rattle.smooth_job.specs.Program.{pixelLimit, stripLimit, wordIn, planLength, signed32, heightsIn, job, asked, askedWith, refusedWith, reportedWith, answerTo, smoothGiven, outputOf, cutLimit, cutLength};
 
-// The most words of a plan: `planLimit` of specs/Program.antt is the same number, and so are the next two with theirs.
-pub const PLAN_LIMIT: usize = 11 + 4 * plan::ORDER_LIMIT;
-
+// The most pixels, and room for the strips of any job of so many: `pixelLimit` and `stripLimit` of specs/Program.antt are the same
+// numbers.
 pub const PIXEL_LIMIT: usize = 64;
 
-pub const STRIP_LIMIT: usize = PIXEL_LIMIT * 32 * 4 * plan::ORDER_LIMIT;
+pub const STRIP_LIMIT: usize = PIXEL_LIMIT * grid::SIDE_LIMIT * 4 * plan::ORDER_LIMIT;
 
 // The most bytes of an input that asks for a job, and of what stands for any input.
-pub const INPUT_LIMIT: usize = 4 * (PLAN_LIMIT + PIXEL_LIMIT);
+pub const INPUT_LIMIT: usize = 4 * (plan::WORD_LIMIT + PIXEL_LIMIT);
 
 pub const CUT_LIMIT: usize = INPUT_LIMIT + 7;
 
@@ -106,7 +105,7 @@ pub fn word_at(input: &[u8], i: usize) -> u32
 pub fn plan_length(input: &[u8]) -> usize
     ensures { λ r. ⌜ r ≡ planLength (now (input .entry)) ⌝ }
 {
-    let most = tasks::smaller(input.len() / 4, PLAN_LIMIT);
+    let most = number::lesser(input.len() / 4, plan::WORD_LIMIT);
     let mut i = 0;
     while i < most {
         if word_at(input, i) / 268435456 == 6 {
@@ -119,10 +118,10 @@ pub fn plan_length(input: &[u8]) -> usize
 
 // The plan in the first words of the input.
 fn plan_in(input: &[u8], count: usize) -> PlanRead
-    requires { ⌜ (count ≤ planLimit) × (count ≤ length (now input) / 4) ⌝ }
+    requires { ⌜ (count ≤ wordLimit) × (count ≤ length (now input) / 4) ⌝ }
     ensures { λ r. ⌜ readGiven r ≡ readPlan (listOf (wordIn (now (input .entry))) count) ⌝ }
 {
-    let mut words = [0; PLAN_LIMIT];
+    let mut words = [0; plan::WORD_LIMIT];
     let mut i = 0;
     while i < count {
         let word = word_at(input, i);
@@ -154,7 +153,7 @@ fn height_at(input: &[u8], i: usize) -> i32
 
 // With a plan that was read, its words the first of the input.
 fn smooth_plan(plan: Plan, first: usize, input: &[u8], output: &mut [u64]) -> Smoothed
-    requires { ⌜ (keepsRules plan ≡ true) × (first ≡ planLength (now input)) × (first ≤ planLimit) ⌝ }
+    requires { ⌜ (keepsRules plan ≡ true) × (first ≡ planLength (now input)) × (first ≤ wordLimit) ⌝ }
     ensures answer { λ r. ⌜ smoothGiven r ≡ answerTo (askedWith (now (input .entry)) plan) (now (output .entry)) ⌝ }
     ensures output { λ _. ⌜ now (output .exit) ≡ outputOf (askedWith (now (input .entry)) plan) (now (output .entry)) ⌝ }
 {
@@ -173,7 +172,7 @@ fn smooth_counted(
     input: &[u8],
     output: &mut [u64],
 ) -> Smoothed
-    requires { ⌜ (pixels ≡ neededPixels plan) × (first ≡ planLength (now input)) × (first ≤ planLimit) ⌝ }
+    requires { ⌜ (pixels ≡ neededPixels plan) × (first ≡ planLength (now input)) × (first ≤ wordLimit) ⌝ }
     ensures answer { λ r. ⌜ smoothGiven r ≡ answerTo (askedWith (now (input .entry)) plan) (now (output .entry)) ⌝ }
     ensures output { λ _. ⌜ now (output .exit) ≡ outputOf (askedWith (now (input .entry)) plan) (now (output .entry)) ⌝ }
 {
@@ -236,8 +235,8 @@ fn reported(plan: Plan, marks: &[u32]) -> Smoothed
     match answer {
         ReportAnswer::Made(progress) => Smoothed {
             outcome: Outcome::Accepted,
-            rows: plan.rows,
-            columns: plan.columns,
+            rows: plan.grid.rows,
+            columns: plan.grid.columns,
             marked: progress.marked,
             tally: progress.tally,
         },

@@ -1,5 +1,5 @@
 pub mod LinePasses
 pub mod Response
 pub mod Lines
-pub mod Rows
+pub mod LineRows
 pub mod Units

@@ -14,9 +14,16 @@ use Rattle.passes.proofs.Linear.{Linear, pair, linear-zero, linear-add, linear-
 use Rattle.passes.proofs.Passes.{filterLine-linear, filterLine-history, filterLine-reads, filterLine-small}
 use Rattle.passes.proofs.Square.{linear-none, linear-place, linear-filterLine, linear-is-weightedSum}
 use Rattle.passes.specs.Filter.{Filter}
-use Rattle.passes.specs.Passes.{directionOf, filterLine}
+use Rattle.axis.specs.Axis.{directionOf}
+use Rattle.passes.specs.Passes.{filterLine}
 use Rattle.passes.specs.Square.{weightedSum}
-use Rattle.squares.specs.LinePasses.{linePasses, onlyAt, passSquare, withHistories}
+use Rattle.squares.specs.LinePasses.{axisPasses, linePasses, onlyAt, passSquare, withHistories}
+
+-- How many passes there are from the first of an axis to a pass of it.
+pub axis-passes : (pass : ℕ) → 1 + pass % 2 ≡ axisPasses pass
+axis-passes zero = refl
+axis-passes (suc zero) = refl
+axis-passes (suc (suc pass)) = omega (arith, axis-passes pass)
 
 -- ---- linear ways of combining
 
@@ -72,7 +79,8 @@ linePasses-reads filters n P Q x y t (suc m) e g i h =
 pub linePasses-zero : (filters : ℕ → Filter) (n t m i : ℕ)
     → linePasses filters n (λ u k. 0) (λ i. 0) t m i ≡ 0
 linePasses-zero filters n t m i =
-    linear-zero (linear-linePasses {J = ℕ} {P = λ v u k. 0} {X = λ v i. 0} (λ u k. linear-none) (λ i. linear-none) filters n t m i)
+    linear-zero (linear-linePasses {J = ℕ} {P = λ v u k. 0} {X = λ v i. 0} (λ u k. linear-none)
+    (λ i. linear-none) filters n t m i)
 
 -- A line whose first s passes give zeros: its passes begin with the next.
 pub linePasses-late : (filters : ℕ → Filter) (n : ℕ) (P : ℕ → ℕ → ℕ) (t s m i : ℕ)

@@ -7,26 +7,22 @@ use native.Mathlib.Omega.{arith}
 use native.Mathlib.Decide.{decLt}
 use native.Mathlib.Nat.{zero-add}
 use borrow.Author.Tests.{lt-ltb, le-ltb}
-use lib.ListN.{length, replicate}
+use lib.ListN.{length}
 use Rattle.plan.specs.Rules.{orderLimit}
-use Rattle.plan.specs.Lists.{wordAt}
+use Rattle.buffer.specs.Lists.{wordAt}
 use Rattle.passes.proofs.Passes.{filterLine-reads}
 use Rattle.passes.specs.Filter.{Filter}
-use Rattle.passes.specs.Passes.{Axis, rows, Direction, forward, backward, axisOf, directionOf, filterLines}
-use Rattle.filter.proofs.Numbers.{axis-rows}
-use Rattle.filter.proofs.RowMajor.{same-row-column}
+use Rattle.axis.specs.Axis.{Axis, rows, Direction, forward, backward, axisOf, directionOf}
+use Rattle.passes.specs.Passes.{filterLines}
+use Rattle.axis.proofs.Passes.{axis-rows}
+use Rattle.number.proofs.RowMajor.{same-row-column}
 use Rattle.filter.proofs.Windows.{Passed, windowPass-passed}
-use Rattle.filter.specs.Windows.{pixelPlace, beyond, wordsBesideWindow, windowPass, WindowFits}
+use Rattle.number.specs.Numbers.{rowMajor}
+use Rattle.filter.specs.Windows.{beyond, wordsBesideWindow, windowPass, WindowFits}
 use Rattle.filter.specs.declared.Window.{Window}
 use Rattle.squares.specs.LinePasses.{linePasses}
-use Rattle.squares.specs.Lines.{rowWords, lineRows, lineWords, lineWindow, rowPass, OrdersFit, rowsBefore, linePass}
+use Rattle.squares.specs.LineBuffers.{rowWords, lineRows, lineWords, lineWindow, rowPass, OrdersFit, rowsBefore, linePass}
 use Rattle.squares.specs.Rows.{JoinsAt, LinesPassed}
-
--- A buffer of zeros.
-pub zeros-at : (n z : ℕ) → wordAt (replicate n 0) z ≡ 0
-zeros-at zero z = refl
-zeros-at (suc n) zero = refl
-zeros-at (suc n) (suc z) = zeros-at n z
 
 row-axis : (pass : ℕ) → axisOf (rowPass pass) ≡ rows
 row-axis pass = axis-rows (rowPass pass) (omega arith)
@@ -40,33 +36,23 @@ row-direction (suc (suc pass)) =
 
 -- ---- margins
 
-pub margin-forward : (pass extent distance : ℕ) → pass % 2 ≡ 0
-    → orderLimit - 1 - distance ≡ beyond (directionOf pass) orderLimit extent distance
-margin-forward zero extent distance e = omega arith
-margin-forward (suc zero) extent distance e = absurd (omega arith)
-margin-forward (suc (suc pass)) extent distance e = margin-forward pass extent distance (omega arith)
-
-pub margin-backward : (pass extent distance : ℕ) → (pass % 2 ≡ 0 → ⊥)
-    → orderLimit + extent + distance ≡ beyond (directionOf pass) orderLimit extent distance
-margin-backward zero extent distance e = absurd (e refl)
-margin-backward (suc zero) extent distance e = refl
-margin-backward (suc (suc pass)) extent distance e = margin-backward pass extent distance (λ z. e (omega arith))
-
 pub margin-below : (d : Direction) (extent distance : ℕ) → extent ≤ 32 → distance < orderLimit
     → beyond d orderLimit extent distance < rowWords
 margin-below forward extent distance h k = omega arith
 margin-below backward extent distance h k = omega arith
 
 -- A margin is beside the lines.
+pub margin-outside : (d : Direction) (extent k i : ℕ) → k < orderLimit → i < extent
+    → orderLimit + i ≢ beyond d orderLimit extent k
+margin-outside forward extent k i a b e = omega arith
+margin-outside backward extent k i a b e = omega arith
+
 pub beside-lines : (d : Direction) (places l k y x : ℕ) → places ≤ 32 → k < orderLimit → x < places
-    → pixelPlace rowWords l (beyond d orderLimit places k) ≢ pixelPlace rowWords y (orderLimit + x)
+    → rowMajor rowWords l (beyond d orderLimit places k) ≢ rowMajor rowWords y (orderLimit + x)
 beside-lines d places l k y x a b c e =
-    let p = same-row-column rowWords l (beyond d orderLimit places k) y (orderLimit + x) (margin-below d places k a b) (omega arith) e in
-    by d (p .1)
-  where
-    by : (d : Direction) → beyond d orderLimit places k ≡ orderLimit + x → ⊥
-    by forward q = omega arith
-    by backward q = omega arith
+    let p =
+    same-row-column rowWords l (beyond d orderLimit places k) y (orderLimit + x) (margin-below d places k a b) (omega arith) e in
+    margin-outside d places k x b c (sym (p .1))
 
 -- ---- passes along rows
 
@@ -102,15 +88,15 @@ passed-none filters places t buffer =
 
 module _ (filters : ℕ → Filter) (places t m : ℕ) (before : List ℕ) where
   abbrev P : ℕ → ℕ → ℕ → ℕ
-  P l u k = wordAt before (pixelPlace rowWords l (beyond (directionOf u) orderLimit places k))
+  P l u k = wordAt before (rowMajor rowWords l (beyond (directionOf u) orderLimit places k))
 
   abbrev x : ℕ → ℕ → ℕ
-  x l j = wordAt before (pixelPlace rowWords l (orderLimit + j))
+  x l j = wordAt before (rowMajor rowWords l (orderLimit + j))
 
   -- A row that pass t+m leaves out has not taken part yet.
   waiting : {b : List ℕ} → LinesPassed filters places t m before b → (s l i : ℕ) → s ≤ m + 1
       → JoinsAt filters t s (m + 1) l → rowsBefore filters (t + m + 1) ≤ l → i < places
-      → wordAt b (pixelPlace rowWords l (orderLimit + i)) ≡ linePasses filters places (P l) (x l) (t + s) ((m + 1) - s) i
+      → wordAt b (rowMajor rowWords l (orderLimit + i)) ≡ linePasses filters places (P l) (x l) (t + s) ((m + 1) - s) i
   unfolding linePasses
   waiting held s l i h joins out c =
       elim (decLt m s) [
@@ -153,15 +139,15 @@ module _ (filters : ℕ → Filter) (places t m : ℕ) (before : List ℕ) where
                   let early : s ≤ m = not-late s l a joins in-rows in
                   let more : (m + 1) - s ≡ suc (m - s) = omega arith in
                   let here : t + s + (m - s) ≡ t + m = omega arith in
-                  ap (λ z. wordAt z (pixelPlace rowWords l (orderLimit + i))) e
-                  ∙ ap (λ z. wordAt passed (pixelPlace rowWords z (orderLimit + i))) (sym (zero-add l))
+                  ap (λ z. wordAt z (rowMajor rowWords l (orderLimit + i))) e
+                  ∙ ap (λ z. wordAt passed (rowMajor rowWords z (orderLimit + i))) (sym (zero-add l))
                   ∙ now .at l i in-rows c
                   ∙ filterLine-reads (directionOf (t + m)) (filters (t + m)) places _ _ _ _
                   (λ k q.
-                  ap (λ z. wordAt b (pixelPlace rowWords z (beyond (directionOf (t + m)) orderLimit places k))) (zero-add l)
+                  ap (λ z. wordAt b (rowMajor rowWords z (beyond (directionOf (t + m)) orderLimit places k))) (zero-add l)
                   ∙ held .beside (directionOf (t + m)) l k (omega (arith, fit .order-limited (t + m) h)))
                   (λ j q.
-                  ap (λ z. wordAt b (pixelPlace rowWords z (orderLimit + j))) (zero-add l)
+                  ap (λ z. wordAt b (rowMajor rowWords z (orderLimit + j))) (zero-add l)
                   ∙ held .at s l j early
                   (record {
                     not-before = joins .not-before;
@@ -171,7 +157,7 @@ module _ (filters : ℕ → Filter) (places t m : ℕ) (before : List ℕ) where
                   i c
                   ∙ rw (more, here)
               | no in-rows ↦
-                  ap (λ z. wordAt z (pixelPlace rowWords l (orderLimit + i))) e
+                  ap (λ z. wordAt z (rowMajor rowWords l (orderLimit + i))) e
                   ∙ now .elsewhere _
                   (λ y x p q z.
                   in-rows
@@ -182,7 +168,7 @@ module _ (filters : ℕ → Filter) (places t m : ℕ) (before : List ℕ) where
                   ∙ waiting held s l i a joins (omega (arith, r)) c
             ];
         beside = λ d l k c.
-            ap (λ z. wordAt z (pixelPlace rowWords l (beyond d orderLimit places k))) e
+            ap (λ z. wordAt z (rowMajor rowWords l (beyond d orderLimit places k))) e
             ∙ now .elsewhere _ (λ y x a q. beside-lines d places l k (0 + y) x few c q)
             ∙ held .beside d l k c;
       }

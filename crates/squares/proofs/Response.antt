@@ -6,9 +6,10 @@ use native.Mathlib.Omega.{arith}
 use Rattle.passes.proofs.Linear.{Linear, linear-zero}
 use Rattle.passes.proofs.Square.{linear-none, linear-place}
 use Rattle.passes.specs.Filter.{Filter}
-use Rattle.passes.specs.Passes.{axisOf, along, across, lineOf, filterLines, passesOver}
+use Rattle.axis.specs.Axis.{axisOf, along, across, lineOf}
+use Rattle.passes.specs.Passes.{filterLines, passesOver}
 use Rattle.squares.specs.LinePasses.{axisStart, axisPasses, linePasses, withHistories, rowEnd, crossed, response}
-use Rattle.squares.proofs.LinePasses.{linePasses-linear, linear-linePasses, linePasses-by-histories}
+use Rattle.squares.proofs.LinePasses.{axis-passes, linePasses-linear, linear-linePasses, linePasses-by-histories}
 
 module _ (filters : ℕ → Filter) (h w : ℕ) (H : ℕ → ℕ → ℕ → ℕ) where
   -- A line of a pass is a line through the passes of its axis.
@@ -47,11 +48,6 @@ module _ (filters : ℕ → Filter) (h w : ℕ) (H : ℕ → ℕ → ℕ → ℕ
   crossed-is (suc zero) b l i = linear-zero (rowEnd-linear 1 h i)
   crossed-is (suc (suc u)) b l i = rows-crossed (suc (suc u)) l i
 
-  axisPasses-some : (u : ℕ) → 0 < axisPasses u
-  axisPasses-some zero = omega arith
-  axisPasses-some (suc zero) = omega arith
-  axisPasses-some (suc (suc u)) = axisPasses-some u
-
   -- What stands after a pass over a block of zeros, made of short passes.
   pub response-is : (u : ℕ) → u < 4 → (l i : ℕ)
       → lineOf (axisOf u) (passesOver filters h w H (λ y x. 0) (suc u)) l i
@@ -60,7 +56,7 @@ module _ (filters : ℕ → Filter) (h w : ℕ) (H : ℕ → ℕ → ℕ → ℕ
   response-is u b l i =
       own-axis u b l i
       ∙ linePasses-by-histories filters (along (axisOf u) h w) (λ v. H v l) _ (axisStart u) (axisPasses u) i
-      (axisPasses-some u)
+      (omega (arith, axis-passes u))
       ∙ ap
       (withHistories filters (along (axisOf u) h w) (λ v. H v l) (axisStart u) (axisPasses u) 0 i)
       (crossed-is u b l i)

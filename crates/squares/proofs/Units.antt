@@ -8,14 +8,15 @@ use native.Mathlib.Omega.{arith}
 use lib.ListN.{length, set, getD}
 use lib.Seq.{getD-set-same, getD-set-other}
 use Rattle.plan.specs.Rules.{orderLimit}
-use Rattle.plan.specs.Lists.{wordAt}
-use Rattle.passes.specs.Passes.{Direction, forward, backward, directionOf}
+use Rattle.buffer.specs.Lists.{wordAt}
+use Rattle.axis.specs.Axis.{Direction, forward, backward, directionOf}
 use Rattle.passes.specs.Square.{unitHistory}
-use Rattle.filter.proofs.RowMajor.{same-row-column}
-use Rattle.filter.proofs.Written.{written-next, written-length, written-other, written-at}
-use Rattle.filter.specs.Windows.{pixelPlace, beyond}
+use Rattle.number.proofs.RowMajor.{same-row-column}
+use Rattle.buffer.proofs.Written.{written-next, written-length, written-other, written-at}
+use Rattle.number.specs.Numbers.{rowMajor}
+use Rattle.filter.specs.Windows.{beyond}
 use Rattle.squares.specs.LinePasses.{onlyAt}
-use Rattle.squares.specs.Lines.{rowWords, unitLines}
+use Rattle.squares.specs.LineBuffers.{rowWords, unitLines}
 use Rattle.squares.specs.Rows.{ZerosFrom, RowsFilled}
 use Rattle.squares.proofs.LinePasses.{onlyAt-same, onlyAt-other}
 use Rattle.squares.proofs.Lines.{margin-below, beside-lines}
@@ -97,7 +98,7 @@ module _ (places t m v row order : ℕ) (first : t ≤ v) (last : v < t + m) (tw
 
   -- The units stand where the pass comes from,
   units-beside : (l k : ℕ) → l < order → k < orderLimit
-      → wordAt units (pixelPlace rowWords (row + l) (beyond d orderLimit places k)) ≡ unitHistory l k
+      → wordAt units (rowMajor rowWords (row + l) (beyond d orderLimit places k)) ≡ unitHistory l k
   unfolding unitLines
   units-beside l k h b =
       elim (ℕ-discrete l k) [
@@ -120,7 +121,7 @@ module _ (places t m v row order : ℕ) (first : t ≤ v) (last : v < t + m) (tw
 
   -- and nowhere else.
   units-behind : (l k : ℕ) → k < orderLimit
-      → wordAt units (pixelPlace rowWords (row + l) (beyond (opposite d) orderLimit places k)) ≡ 0
+      → wordAt units (rowMajor rowWords (row + l) (beyond (opposite d) orderLimit places k)) ≡ 0
   unfolding unitLines
   units-behind l k b =
       written-other unitPlace (λ j. 1) order before _

@@ -1,3 +1,3 @@
+pub mod LineBuffers
 pub mod LinePasses
-pub mod Lines
 pub mod Rows

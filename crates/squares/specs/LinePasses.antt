@@ -1,10 +1,11 @@
--- The passes along one axis over one line, by their histories: how a link comes by its words.
+-- Inner: the passes along one axis over one line, by their histories: how a link comes by its words.
 use mathlib.Core.Bool.{cond}
 use Prim.Native.Nat.{ℕ, zero, suc, _+_}
 use lib.Dec.{eqb}
 use Rattle.word.specs.Word.{_⊕_}
 use Rattle.passes.specs.Filter.{Filter}
-use Rattle.passes.specs.Passes.{directionOf, filterLine}
+use Rattle.axis.specs.Axis.{directionOf}
+use Rattle.passes.specs.Passes.{filterLine}
 use Rattle.passes.specs.Square.{unitHistory, weightedSum}
 
 -- Of the passes, the first that runs along the same axis as a pass,

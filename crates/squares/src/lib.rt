@@ -6,15 +6,16 @@ ghost use mathlib.Core.Path.{_≡_};
 ghost use mathlib.Core.List.{[]};
 ghost use Prim.Native.Nat.{ℕ, _+_, _*_, _<_, _≤_};
 ghost use lib.ListN.{length, getD};
+ghost use Rattle.grid.specs.Grid.{sideLimit};
 ghost use Rattle.plan.specs.Rules.{orderLimit};
-ghost use Rattle.plan.specs.Lists.{wordAt};
-ghost use Rattle.passes.specs.Passes.{directionOf};
+ghost use Rattle.buffer.specs.Lists.{wordAt};
+ghost use Rattle.axis.specs.Axis.{directionOf};
 ghost use Rattle.filter.specs.Windows.{beyond};
-ghost use Rattle.squares.specs.Lines.{rowWords, filterAt, OrdersFit, rowsBefore, linePass, unitLines, LinesFit, UnitsFit};
+ghost use Rattle.squares.specs.LineBuffers.{rowWords, filterAt, OrdersFit, rowsBefore, linePass, unitLines, LinesFit, UnitsFit};
 ghost use Rattle.squares.specs.Rows.{LinesPassed};
 
 // The words of a row of lines: the longest line, and a history at both ends.
-pub const ROW: usize = 32 + 2 * plan::ORDER_LIMIT;
+pub const ROW: usize = grid::SIDE_LIMIT + 2 * plan::ORDER_LIMIT;
 
 // The words of a buffer of lines: a row for each place of the histories of four passes.
 pub const LINES: usize = 4 * plan::ORDER_LIMIT * ROW;
@@ -22,13 +23,13 @@ pub const LINES: usize = 4 * plan::ORDER_LIMIT * ROW;
 // The index, from the start of a margin of ORDER_LIMIT places on, of the place at a distance past an extent, on the side
 // where a pass comes from.
 pub fn margin(pass: usize, extent: usize, distance: usize) -> usize
-    requires { ⌜ (extent ≤ 32) × (distance < orderLimit) ⌝ }
+    requires { ⌜ (extent ≤ sideLimit) × (distance < orderLimit) ⌝ }
     ensures { λ r. ⌜ r ≡ beyond (directionOf pass) orderLimit extent distance ⌝ }
 {
-    if pass % 2 == 0 {
-        plan::ORDER_LIMIT - 1 - distance
-    } else {
+    if axis::is_backward(pass) {
         plan::ORDER_LIMIT + extent + distance
+    } else {
+        plan::ORDER_LIMIT - 1 - distance
     }
 }
 

@@ -1,4 +1,2 @@
-pub mod Passes
-pub mod Positions
 pub mod Slots
 pub mod StripRecords

@@ -14,7 +14,7 @@ use Rattle.task_words.proofs.Strips.{slot-in-list, strip-in-list}
 pub record StartFits (plan : Plan) (k pass : ℕ) : Type 0 where
   pub slot-high : slotWords plan < 2 ^ 63
   pub slot-start-high : slotStart plan k < 2 ^ 63
-  pub before-high : plan .side * orderSum plan pass < 2 ^ 63
+  pub before-high : plan .grid .side * orderSum plan pass < 2 ^ 63
   pub start-high : stripStart plan k pass < 2 ^ 63
 
 pub start-fits : (plan : Plan) (k pass : ℕ) → keepsRules plan ≡ true → k < neededMarks plan → pass < 4

@@ -1,6 +1,6 @@
 -- What the code reads from a strip is what the definitions read, and it stands in the list. Assumes nothing.
-use mathlib.Core.Path.{_≡_, refl, sym, ap, ap₂, _∙_}
-use mathlib.Core.Bool.{Bool, true, false, _&&_, cond}
+use mathlib.Core.Path.{_≡_, refl, ap, ap₂, _∙_}
+use mathlib.Core.Bool.{Bool, _&&_, cond}
 use mathlib.Core.List.{List}
 use mathlib.Core.Option.{Option, none, some}
 use Prim.Native.Nat.{ℕ, _+_, _-_, _*_, _≤_, _<_, min}
@@ -8,52 +8,23 @@ use native.Mathlib.Omega.{arith}
 use lib.Dec.{ltb, leb}
 use borrow.Author.Tests.{ltb-true, leb-true, lt-ltb, le-ltb, le-leb}
 use Rattle.plan.specs.declared.Plan.{Plan}
-use Rattle.plan.specs.Sizes.{neededMarks, neededStrips}
-use Rattle.plan.specs.Lists.{wordAt}
-use Rattle.plan.proofs.Tests.{and-left, and-right}
-use Rattle.passes.specs.Passes.{Axis, columns, rows, Direction, forward, backward, axisOf, directionOf, along, across}
-use Rattle.filter.specs.Windows.{isBackward, ifForward}
-use Rattle.task_words.specs.Geometry.{rowsOf, columnsOf, neighbour, orZero}
-use Rattle.task_words.specs.Strips.{
-  orderOf,
-  stripStart,
-  placeInStrip,
-  stripPlace,
-  placeInside,
-  insideBlock,
-  stripWord,
-  fromEdge,
-  nearestFirst,
-  pastEdges,
-}
-use Rattle.task_words.proofs.Geometry.{neighbour-below, lines-in-side}
+use Rattle.plan.specs.Sizes.{neededMarks, neededStrips, orderOf}
+use Rattle.buffer.specs.Lists.{wordAt}
+use Rattle.number.proofs.Tests.{and-left, and-right, and-both, same-test}
+use Rattle.axis.specs.Axis.{Axis, columns, rows, Direction, forward, backward, axisOf, directionOf, along, across, isBackward, ifForward}
+use Rattle.grid.specs.Grid.{rowsOf, columnsOf, neighbour, orZero}
+use Rattle.task_words.specs.Strips.{stripStart, placeInStrip, stripPlace, placeInside, insideBlock, stripWord, fromEdge, nearestFirst, pastEdges}
+use Rattle.grid.proofs.Neighbours.{neighbour-below}
+use Rattle.grid.proofs.Blocks.{lines-in-side}
+use Rattle.grid.proofs.Shapes.{found-block, found-none}
 use Rattle.task_words.proofs.Strips.{strip-place-below}
 use Rattle.task_words.proofs.StripReads.{from-edge-below}
-use Rattle.strips.specs.declared.BlockShape.{BlockShape}
+use Rattle.grid.specs.declared.BlockShape.{BlockShape}
 use Rattle.strips.specs.declared.Strip.{Strip}
-use Rattle.strips.specs.declared.Neighbour.{Neighbour}
-use Rattle.strips.specs.declared.Neighbour.the-variants.{Block, Beyond}
-use Rattle.strips.specs.Shapes.{shapeOf, foundNeighbour}
-use Rattle.strips.specs.StripRecord.{
-  firstInside,
-  pastInside,
-  stripWith,
-  stripOf,
-  emptyStrip,
-  stripIn,
-  stripBefore,
-  addressIn,
-  stripRead,
-  StripFits,
-}
-
-same-test : (a b : Bool) → (a ≡ true → b ≡ true) → (b ≡ true → a ≡ true) → a ≡ b
-same-test true b f g = sym (f refl)
-same-test false true f g = g refl
-same-test false false f g = refl
-
-both : (a b : Bool) → a ≡ true → b ≡ true → (a && b) ≡ true
-both a b e f = rw e f
+use Rattle.grid.specs.declared.Neighbour.{Neighbour}
+use Rattle.grid.specs.declared.Neighbour.the-variants.{Block, Beyond}
+use Rattle.grid.specs.Shapes.{shapeOf, foundNeighbour}
+use Rattle.strips.specs.StripRecord.{firstInside, pastInside, stripWith, stripOf, emptyStrip, stripIn, stripBefore, addressIn, stripRead, StripFits}
 
 -- ---- the code's values
 
@@ -75,72 +46,66 @@ strip-with-is backward order n start lineStep placeStep lines e t f =
     let whole : 0 + min order n ≡ min order n = omega arith in rw (f, t, e, whole)
 
 pub strip-of-is : (plan : Plan) (k pass : ℕ) {shape : BlockShape} {start n lineStep placeStep lines : ℕ} {strip : Strip}
-    → shape ≡ shapeOf plan k → start ≡ stripStart plan k pass → n ≡ along (axisOf pass) (shape .rows) (shape .columns)
-    → lineStep ≡ along (axisOf pass) 1 (orderOf plan pass) → placeStep ≡ along (axisOf pass) (plan .side) 1
+    → shape ≡ shapeOf (plan .grid) k → start ≡ stripStart plan k pass → n ≡ along (axisOf pass) (shape .rows) (shape .columns)
+    → lineStep ≡ along (axisOf pass) 1 (orderOf plan pass) → placeStep ≡ along (axisOf pass) (plan .grid .side) 1
     → lines ≡ across (axisOf pass) (shape .rows) (shape .columns)
     → strip ≡ stripWith (directionOf pass) (orderOf plan pass) n start lineStep placeStep lines
     → strip ≡ stripOf plan k pass
 unfolding stripOf shapeOf
 strip-of-is plan k pass shaped starts a b c d e = e ∙ rw (a, b, c, d, shaped, starts)
 
-found-block : (o : Option ℕ) (found : Neighbour) (j : ℕ) → found ≡ foundNeighbour o → found ≡ Block j → o ≡ some j
-found-block none found j e f = cc
-found-block (some i) found j e f = cc
-
-found-none : (o : Option ℕ) (found : Neighbour) → found ≡ foundNeighbour o → found ≡ Beyond → o ≡ none
-found-none none found e f = refl
-found-none (some i) found e f = cc
-
-module _ (plan : Plan) (k pass : ℕ) (found : Neighbour) (is : found ≡ foundNeighbour (neighbour plan k pass)) where
-  pub before-below : (j : ℕ) → found ≡ Block j → k < neededMarks plan → pass < 4 → j < neededMarks plan
-  before-below j e here h = neighbour-below plan k pass j here h (found-block (neighbour plan k pass) found j is e)
+module _ (plan : Plan) (k pass : ℕ) (found : Neighbour) (is : found ≡ foundNeighbour (neighbour (plan .grid) k pass)) where
+  pub before-below : (j : ℕ) → found ≡ Block j → k < neededMarks plan → j < neededMarks plan
+  before-below j e here = neighbour-below (plan .grid) k pass j here (found-block (neighbour (plan .grid) k pass) found j is e)
 
   pub before-block : (j : ℕ) (strip : Strip) → found ≡ Block j → strip ≡ stripOf plan j pass
       → strip ≡ stripBefore plan k pass
   unfolding stripBefore
-  before-block j strip e f = rw (found-block (neighbour plan k pass) found j is e) f
+  before-block j strip e f = rw (found-block (neighbour (plan .grid) k pass) found j is e) f
 
   pub before-none : found ≡ Beyond → emptyStrip ≡ stripBefore plan k pass
   unfolding stripBefore
-  before-none e = rw (found-none (neighbour plan k pass) found is e)
+  before-none e = rw (found-none (neighbour (plan .grid) k pass) found is e)
 
 -- ---- one strip
 
-inside-test : (d : Direction) (order n place : ℕ) → place < order
+-- The strip's test of a place is the definition's.
+pub inside-test : (d : Direction) (order n place : ℕ) → place < order
     → (leb (firstInside d order n) place && ltb place (pastInside d order n)) ≡ placeInside d n order place
 inside-test forward order n place h =
     same-test _ _
     (λ e. let p = leb-true (order - min order n) place (and-left _ (ltb place order) e) in le-leb order (n + place) (omega arith))
     (λ e.
     let p = leb-true order (n + place) e in
-    both _ _ (le-leb (order - min order n) place (omega arith)) (lt-ltb place order h))
+    and-both (le-leb (order - min order n) place (omega arith)) (lt-ltb place order h))
 inside-test backward order n place h =
     same-test _ _
     (λ e. let p = ltb-true place (min order n) (and-right (leb 0 place) _ e) in lt-ltb place n (omega arith))
     (λ e.
     let p = ltb-true place n e in
-    both _ _ (le-leb 0 place (omega arith)) (lt-ltb place (min order n) (omega arith)))
+    and-both (le-leb 0 place (omega arith)) (lt-ltb place (min order n) (omega arith)))
 
 address-in-strip : (a : Axis) (start side order line place : ℕ)
     → start + line * along a 1 order + place * along a side 1 ≡ start + placeInStrip a side order line place
 address-in-strip columns start side order line place = omega arith
 address-in-strip rows start side order line place = omega arith
 
+-- A word stands where the definitions have it.
 module _ (plan : Plan) (k pass line place : ℕ) where
-  address-is : addressIn (stripOf plan k pass) line place ≡ stripPlace plan k pass line place
+  pub address-is : addressIn (stripOf plan k pass) line place ≡ stripPlace plan k pass line place
   unfolding stripOf stripWith stripPlace
-  address-is = address-in-strip (axisOf pass) (stripStart plan k pass) (plan .side) (orderOf plan pass) line place
+  address-is = address-in-strip (axisOf pass) (stripStart plan k pass) (plan .grid .side) (orderOf plan pass) line place
 
   pub strip-read : (strips : List ℕ) → place < orderOf plan pass
       → stripRead (stripOf plan k pass) strips line place ≡ stripWord plan strips k pass line place
   unfolding stripRead stripWord insideBlock stripOf stripWith
   strip-read strips h =
       ap₂ (λ (test : Bool) word. cond test word 0)
-      (ap (ltb line (across (axisOf pass) (rowsOf plan k) (columnsOf plan k)) &&_)
-      (inside-test (directionOf pass) (orderOf plan pass) (along (axisOf pass) (rowsOf plan k) (columnsOf plan k)) place h))
+      (ap (ltb line (across (axisOf pass) (rowsOf (plan .grid) k) (columnsOf (plan .grid) k)) &&_)
+      (inside-test (directionOf pass) (orderOf plan pass) (along (axisOf pass) (rowsOf (plan .grid) k) (columnsOf (plan .grid) k)) place h))
       (ap (wordAt strips) address-is)
 
-past-in-order : (d : Direction) (order n : ℕ) → pastInside d order n ≤ order
+pub past-in-order : (d : Direction) (order n : ℕ) → pastInside d order n ≤ order
 past-in-order forward order n = omega arith
 past-in-order backward order n = omega arith
 
@@ -154,8 +119,8 @@ strip-fits plan k pass n here h long =
           rw (address-is plan k pass line place)
           (omega (
             arith,
-            strip-place-below plan k pass line place here h (omega (arith, lines-in-side plan k (axisOf pass)))
-                (omega (arith, past-in-order (directionOf pass) (orderOf plan pass) (along (axisOf pass) (rowsOf plan k) (columnsOf plan k)))),
+            strip-place-below plan k pass line place here h (omega (arith, lines-in-side (plan .grid) k (axisOf pass)))
+                (omega (arith, past-in-order (directionOf pass) (orderOf plan pass) (along (axisOf pass) (rowsOf (plan .grid) k) (columnsOf (plan .grid) k)))),
           ));
     }
 
@@ -168,7 +133,7 @@ empty-read strips line place = rw (le-ltb line 0 (omega arith))
 pub before-fits : (plan : Plan) (k pass n : ℕ) → k < neededMarks plan → pass < 4 → neededStrips plan ≤ n
     → StripFits n (stripBefore plan k pass)
 unfolding stripBefore
-before-fits plan k pass n here h long = by (neighbour plan k pass) (λ j e. neighbour-below plan k pass j here h e)
+before-fits plan k pass n here h long = by (neighbour (plan .grid) k pass) (λ j e. neighbour-below (plan .grid) k pass j here e)
   where
     by : (o : Option ℕ) → ((j : ℕ) → o ≡ some j → j < neededMarks plan) → StripFits n (stripIn plan pass o)
     by none f = record { inside = λ line place l p. absurd (omega arith) }
@@ -179,7 +144,7 @@ pub past-edges-read : (plan : Plan) (strips : List ℕ) (k pass line distance : 
     → stripRead (stripBefore plan k pass) strips line (fromEdge (directionOf pass) (orderOf plan pass) distance)
     ≡ pastEdges plan strips k pass line distance
 unfolding stripBefore pastEdges nearestFirst
-past-edges-read plan strips k pass line distance h = rw (lt-ltb distance (orderOf plan pass) h) (by (neighbour plan k pass))
+past-edges-read plan strips k pass line distance h = rw (lt-ltb distance (orderOf plan pass) h) (by (neighbour (plan .grid) k pass))
   where
     place : ℕ
     place = fromEdge (directionOf pass) (orderOf plan pass) distance

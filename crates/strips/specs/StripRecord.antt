@@ -1,15 +1,24 @@
--- A strip in code: where its words stand, and which of them are read.
-use mathlib.Core.Bool.{_&&_, cond}
+-- Inner: a strip in code, where its words stand, and which of them are read.
+use mathlib.Core.Path.{_≡_}
+use mathlib.Core.Bool.{Bool, true, _&&_, cond}
 use mathlib.Core.List.{List}
 use mathlib.Core.Option.{Option, none, some}
-use Prim.Native.Nat.{ℕ, _+_, _-_, _*_, _<_, min}
+use Prim.Native.Nat.{ℕ, _+_, _-_, _*_, _<_, _≤_, min}
 use lib.Dec.{ltb, leb}
 use Rattle.plan.specs.declared.Plan.{Plan}
-use Rattle.plan.specs.Lists.{wordAt}
-use Rattle.passes.specs.Passes.{Direction, forward, backward, axisOf, directionOf, along, across}
-use Rattle.task_words.specs.Geometry.{rowsOf, columnsOf, neighbour}
-use Rattle.task_words.specs.Strips.{orderOf, stripStart}
+use Rattle.buffer.specs.Lists.{wordAt}
+use Rattle.axis.specs.Axis.{Direction, forward, backward, axisOf, directionOf, along, across}
+use Rattle.grid.specs.Grid.{sideLimit, rowsOf, columnsOf, neighbour}
+use Rattle.plan.specs.Rules.{orderLimit, keepsRules}
+use Rattle.plan.specs.Sizes.{orderOf, neededMarks}
+use Rattle.task_words.specs.Strips.{stripStart}
 use Rattle.strips.specs.declared.Strip.{Strip}
+
+-- What is asked of a plan, a block and a pass whose strip is meant.
+pub record StripAt (plan : Plan) (k pass : ℕ) : Type 0 where
+  pub kept : keepsRules plan ≡ true
+  pub counted : k < neededMarks plan
+  pub pass-below : pass < 4
 
 -- The first of the places of a strip that lie in a block of n places along the pass,
 abbrev pub firstInside : Direction → (order n : ℕ) → ℕ
@@ -20,6 +29,17 @@ firstInside backward order n = 0
 abbrev pub pastInside : Direction → (order n : ℕ) → ℕ
 pastInside forward order n = order
 pastInside backward order n = min order n
+
+-- An order, and the places of a block along a pass, no more than a plan may have.
+pub record EdgeFits (order extent : ℕ) : Type 0 where
+  pub limited : order ≤ orderLimit
+  pub extent-small : extent ≤ sideLimit
+
+-- The first index of a strip of a block of n places along the pass, counted from the edge of an array that has a margin of
+-- orderLimit places around the block.
+abbrev pub edgeStart : Direction → (order n : ℕ) → ℕ
+edgeStart forward order n = (orderLimit + n) - order
+edgeStart backward order n = orderLimit
 
 -- A strip of a block of n places along the pass.
 unfoldable pub stripWith : Direction → (order n start lineStep placeStep lines : ℕ) → Strip
@@ -36,9 +56,9 @@ stripWith d order n start lineStep placeStep lines =
 -- Block k's strip of a pass: rows of b words (down, up), or b rows of `order` words (right, left).
 unfoldable pub stripOf : Plan → ℕ → ℕ → Strip
 stripOf plan k pass =
-    stripWith (directionOf pass) (orderOf plan pass) (along (axisOf pass) (rowsOf plan k) (columnsOf plan k))
-    (stripStart plan k pass) (along (axisOf pass) 1 (orderOf plan pass)) (along (axisOf pass) (plan .side) 1)
-    (across (axisOf pass) (rowsOf plan k) (columnsOf plan k))
+    stripWith (directionOf pass) (orderOf plan pass) (along (axisOf pass) (rowsOf (plan .grid) k) (columnsOf (plan .grid) k))
+    (stripStart plan k pass) (along (axisOf pass) 1 (orderOf plan pass)) (along (axisOf pass) (plan .grid .side) 1)
+    (across (axisOf pass) (rowsOf (plan .grid) k) (columnsOf (plan .grid) k))
 
 -- The strip without lines, which is 0 everywhere.
 abbrev pub emptyStrip : Strip
@@ -51,7 +71,11 @@ stripIn plan pass (some j) = stripOf plan j pass
 
 -- The strip of the block that a pass comes from.
 unfoldable pub stripBefore : Plan → ℕ → ℕ → Strip
-stripBefore plan k pass = stripIn plan pass (neighbour plan k pass)
+stripBefore plan k pass = stripIn plan pass (neighbour (plan .grid) k pass)
+
+-- Whether a place of a strip's lines lies in the block.
+abbrev pub placeHeld : Strip → (place : ℕ) → Bool
+placeHeld strip place = leb (strip .first) place && ltb place (strip .past)
 
 -- Where the word at a line and a place of a strip stands.
 abbrev pub addressIn : Strip → ℕ → ℕ → ℕ
@@ -60,8 +84,7 @@ addressIn strip line place = strip .start + line * strip .«line_step» + place 
 -- The word that is read there: 0 outside the block.
 unfoldable pub stripRead : Strip → List ℕ → ℕ → ℕ → ℕ
 stripRead strip strips line place =
-    cond (ltb line (strip .lines) && (leb (strip .first) place && ltb place (strip .past)))
-    (wordAt strips (addressIn strip line place)) 0
+    cond (ltb line (strip .lines) && placeHeld strip place) (wordAt strips (addressIn strip line place)) 0
 
 -- The words of a strip that lie in the block stand in a list of n words.
 pub record StripFits (n : ℕ) (strip : Strip) : Type 0 where

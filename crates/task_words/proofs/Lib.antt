@@ -1,5 +1,5 @@
-pub mod Geometry
-pub mod Grid
+pub mod Places
+pub mod BeyondEdges
 pub mod Strips
 pub mod Output
 pub mod StripReads

@@ -3,43 +3,23 @@
 use mathlib.Core.Path.{_≡_, refl, sym, _∙_}
 use mathlib.Core.Bool.{Bool, true, false, cond}
 use mathlib.Core.List.{List}
-use mathlib.Core.Option.{Option, none, some}
+use mathlib.Core.Option.{some}
 use Prim.Native.Nat.{ℕ, suc, _+_, _≤_, _<_}
 use native.Mathlib.Omega.{arith}
 use lib.Dec.{ltb}
 use borrow.Author.Tests.{ltb-true, leb-true}
 use Rattle.plan.specs.declared.Plan.{Plan}
-use Rattle.plan.specs.Sizes.{neededMarks}
-use Rattle.plan.proofs.Tests.{and-left, and-right}
-use Rattle.passes.specs.Passes.{
-  Axis,
-  columns,
-  rows,
-  Direction,
-  forward,
-  backward,
-  axisOf,
-  directionOf,
-  along,
-  across,
-  lineOf,
-}
+use Rattle.plan.specs.Sizes.{neededMarks, orderOf}
+use Rattle.number.proofs.Tests.{and-left, and-right}
+use Rattle.axis.specs.Axis.{Axis, columns, rows, Direction, forward, backward, axisOf, directionOf, along, across, lineOf}
 use Rattle.passes.proofs.Blocks.{wordsBeside}
-use Rattle.task_words.specs.Geometry.{rowsOf, columnsOf, partOf, neighbour, orZero}
-use Rattle.task_words.specs.Strips.{
-  orderOf,
-  placeInside,
-  indexOfPlace,
-  insideBlock,
-  edgeWord,
-  stripWord,
-  fromEdge,
-  nearestFirst,
-  pastEdges,
-}
-use Rattle.task_words.specs.Matching.{serialResult, matchingWord}
-use Rattle.task_words.proofs.Geometry.{SideFits, lines-in-side, placeOf}
-use Rattle.task_words.proofs.Grid.{beside-strip}
+use Rattle.grid.specs.Grid.{rowsOf, columnsOf, partOf, neighbour}
+use Rattle.task_words.specs.Strips.{placeInside, indexOfPlace, insideBlock, edgeWord, stripWord, fromEdge, nearestFirst, pastEdges}
+use Rattle.filter.specs.PlanFilters.{serialResult}
+use Rattle.task_words.specs.Matching.{matchingWord}
+use Rattle.task_words.proofs.Places.{SideFits, placeOf}
+use Rattle.grid.proofs.Blocks.{lines-in-side}
+use Rattle.task_words.proofs.BeyondEdges.{orZero-same, beside-strip}
 use Rattle.task_words.proofs.Strips.{HoldsStrip}
 
 -- ---- inside the block
@@ -50,43 +30,44 @@ index-below forward n order place h e = let p = leb-true order (n + place) e in 
 index-below backward n order place h e = ltb-true place n e
 
 module _ (plan : Plan) (k pass line place : ℕ) (inside : insideBlock plan k pass line place ≡ true) where
-  pub inside-line : line < across (axisOf pass) (rowsOf plan k) (columnsOf plan k)
+  pub inside-line : line < across (axisOf pass) (rowsOf (plan .grid) k) (columnsOf (plan .grid) k)
   unfolding insideBlock
   inside-line = ltb-true _ _ (and-left _ _ inside)
 
-  pub inside-side : line < plan .side
-  inside-side = omega (arith, inside-line, lines-in-side plan k (axisOf pass))
+  pub inside-side : line < plan .grid .side
+  inside-side = omega (arith, inside-line, lines-in-side (plan .grid) k (axisOf pass))
 
   pub inside-index : place < orderOf plan pass
-      → indexOfPlace (directionOf pass) (along (axisOf pass) (rowsOf plan k) (columnsOf plan k))
+      → indexOfPlace (directionOf pass) (along (axisOf pass) (rowsOf (plan .grid) k) (columnsOf (plan .grid) k))
       (orderOf plan pass) place
-      < along (axisOf pass) (rowsOf plan k) (columnsOf plan k)
+      < along (axisOf pass) (rowsOf (plan .grid) k) (columnsOf (plan .grid) k)
   unfolding insideBlock
   inside-index h =
-      let lines = ltb line (across (axisOf pass) (rowsOf plan k) (columnsOf plan k)) in
+      let lines = ltb line (across (axisOf pass) (rowsOf (plan .grid) k) (columnsOf (plan .grid) k)) in
       index-below (directionOf pass) _ (orderOf plan pass) place h (and-right lines _ inside)
 
 pub from-edge-below : (d : Direction) (n i : ℕ) → i < n → fromEdge d n i < n
 from-edge-below forward n i h = omega arith
 from-edge-below backward n i h = h
 
-pub cond-same : (test : Bool) (v w : ℕ) → (test ≡ true → v ≡ w) → cond test v 0 ≡ cond test w 0
-cond-same true v w e = e refl
-cond-same false v w e = refl
+-- What is 0 where a test fails need agree only where it holds.
+pub masked-same : (test : Bool) (v w : ℕ) → (test ≡ true → v ≡ w) → cond test v 0 ≡ cond test w 0
+masked-same true v w e = e refl
+masked-same false v w e = refl
 
 -- The strips of two blocks' words agree where the words do inside the block.
 pub edge-same : (plan : Plan) (k pass : ℕ) (Y Z : ℕ → ℕ → ℕ)
-    → ((y x : ℕ) → y < rowsOf plan k → x < columnsOf plan k → Y y x ≡ Z y x)
+    → ((y x : ℕ) → y < rowsOf (plan .grid) k → x < columnsOf (plan .grid) k → Y y x ≡ Z y x)
     → (line place : ℕ) → place < orderOf plan pass → edgeWord plan k pass Y line place
     ≡ edgeWord plan k pass Z line place
 unfolding edgeWord
 edge-same plan k pass Y Z e line place h =
-    cond-same (insideBlock plan k pass line place) _ _
+    masked-same (insideBlock plan k pass line place) _ _
     (λ t.
     on-line (axisOf pass) _ _ (inside-line plan k pass line place t) (inside-index plan k pass line place t h))
   where
-    on-line : (a : Axis) (l i : ℕ) → l < across a (rowsOf plan k) (columnsOf plan k)
-        → i < along a (rowsOf plan k) (columnsOf plan k) → lineOf a Y l i ≡ lineOf a Z l i
+    on-line : (a : Axis) (l i : ℕ) → l < across a (rowsOf (plan .grid) k) (columnsOf (plan .grid) k)
+        → i < along a (rowsOf (plan .grid) k) (columnsOf (plan .grid) k) → lineOf a Y l i ≡ lineOf a Z l i
     on-line columns l i p q = e i l q p
     on-line rows l i p q = e l i p q
 
@@ -98,7 +79,7 @@ pub nearest-same : (plan : Plan) (pass : ℕ) (words other : ℕ → ℕ → ℕ
     → (line distance : ℕ) → nearestFirst plan pass words line distance ≡ nearestFirst plan pass other line distance
 unfolding nearestFirst
 nearest-same plan pass words other e line i =
-    cond-same (ltb i (orderOf plan pass)) _ _
+    masked-same (ltb i (orderOf plan pass)) _ _
     (λ t. e line _ (from-edge-below (directionOf pass) (orderOf plan pass) i (ltb-true i (orderOf plan pass) t)))
 
 -- Where a list holds a block's strip, it is read so, masked to the block.
@@ -107,7 +88,7 @@ pub read-held : (plan : Plan) (strips : List ℕ) (k pass : ℕ) (words : ℕ �
     → stripWord plan strips k pass line place ≡ cond (insideBlock plan k pass line place) (words line place) 0
 unfolding stripWord
 read-held plan strips k pass words holds line place h =
-    cond-same (insideBlock plan k pass line place) _ _
+    masked-same (insideBlock plan k pass line place) _ _
     (λ t. holds line place (inside-side plan k pass line place t) h)
 
 masked-edge : (plan : Plan) (k pass : ℕ) (Z : ℕ → ℕ → ℕ) (line place : ℕ)
@@ -129,35 +110,31 @@ read-edge plan strips k pass Z holds line place h =
 
 -- ---- past a block's edges
 
-orZero-held : (f g : ℕ → ℕ) (o : Option ℕ) → ((j : ℕ) → o ≡ some j → f j ≡ g j) → orZero f o ≡ orZero g o
-orZero-held f g none e = refl
-orZero-held f g (some j) e = e j refl
-
 -- Two lists that have the same strip of a pass at the neighbour that it comes from.
 pub past-same : (plan : Plan) (s r : List ℕ) (k pass : ℕ)
-    → ((j : ℕ) → neighbour plan k pass ≡ some j → (line place : ℕ) → place < orderOf plan pass
+    → ((j : ℕ) → neighbour (plan .grid) k pass ≡ some j → (line place : ℕ) → place < orderOf plan pass
     → stripWord plan s j pass line place ≡ stripWord plan r j pass line place)
     → (line distance : ℕ) → pastEdges plan s k pass line distance ≡ pastEdges plan r k pass line distance
 unfolding pastEdges
 past-same plan s r k pass e line i =
-    orZero-held _ _ (neighbour plan k pass) (λ j n. nearest-same plan pass _ _ (e j n) line i)
+    orZero-same _ _ (neighbour (plan .grid) k pass) (λ j n. nearest-same plan pass _ _ (e j n) line i)
 
 -- The strips past block k's edges, for the first n passes, are the whole map's.
 abbrev pub NeedsTrue : Plan → (ℕ → ℕ → ℕ) → List ℕ → ℕ → ℕ → Type 0
 NeedsTrue plan X strips k n =
-    (pass j : ℕ) → pass < n → neighbour plan k pass ≡ some j
+    (pass j : ℕ) → pass < n → neighbour (plan .grid) k pass ≡ some j
     → HoldsStrip plan strips j pass (matchingWord plan X j pass)
 
 -- Then what stands past its edges is what the whole map has there.
 pub past-true : (plan : Plan) → SideFits plan → (X : ℕ → ℕ → ℕ) (strips : List ℕ) (k : ℕ) (here : k < neededMarks plan)
     (n : ℕ) → n ≤ 4 → NeedsTrue plan X strips k n → (pass line distance : ℕ) → pass < n
-    → line < across (axisOf pass) (rowsOf plan k) (columnsOf plan k) → distance < orderOf plan pass
+    → line < across (axisOf pass) (rowsOf (plan .grid) k) (columnsOf (plan .grid) k) → distance < orderOf plan pass
     → pastEdges plan strips k pass line distance
     ≡ wordsBeside (axisOf pass) (directionOf pass) (placeOf plan k here) (serialResult plan X (suc pass)) line distance
 unfolding pastEdges matchingWord
 past-true plan fits X strips k here n b needs pass line i h p q =
-    orZero-held _ _ (neighbour plan k pass)
+    orZero-same _ _ (neighbour (plan .grid) k pass)
     (λ j e.
     nearest-same plan pass _ _
-    (read-edge plan strips j pass (partOf plan j (serialResult plan X (suc pass))) (needs pass j h e)) line i)
+    (read-edge plan strips j pass (partOf (plan .grid) j (serialResult plan X (suc pass))) (needs pass j h e)) line i)
     ∙ sym (beside-strip plan fits k here pass (omega arith) (serialResult plan X (suc pass)) line i p q)

@@ -1,46 +1,28 @@
 -- Strips in the list of strips: they lie apart, a strip reads as it was written, and no other word changes.
 -- Assumes nothing.
-use mathlib.Core.Path.{_≡_, refl, ap, ap₂, sym, _∙_}
+use mathlib.Core.Path.{_≡_, refl, ap₂, sym, _∙_}
 use mathlib.Core.List.{List}
 use mathlib.Core.Logic.{_≢_, ⊎-elim}
 use Prim.Native.Nat.{ℕ, zero, suc, _+_, _*_, _≤_, _<_}
 use native.Mathlib.Nat.{mul-assoc, mul-le-mul-left, mul-le-mul-right, eq-or-lt-of-le}
 use native.Mathlib.Numerals.{add-one}
 use native.Mathlib.Omega.{arith}
-use lib.ListN.{length, set}
+use lib.ListN.{length}
+use Rattle.buffer.specs.Written.{rowWritten}
 use Rattle.plan.specs.declared.Plan.{Plan}
-use Rattle.plan.specs.Sizes.{orderSum, neededMarks, neededStrips}
-use Rattle.plan.specs.Lists.{wordAt}
-use Rattle.plan.proofs.Tests.{lt-or-ge}
-use Rattle.passes.specs.Passes.{Axis, columns, rows, axisOf}
-use Rattle.task_words.specs.Strips.{
-  orderOf,
-  slotWords,
-  slotStart,
-  stripWords,
-  stripStart,
-  placeInStrip,
-  lineInStrip,
-  placeInLine,
-  stripPlace,
-  stripWrittenTo,
-  stripWritten,
-  slotWritten,
-}
-use Rattle.filter.proofs.Written.{
-  written-none,
-  written-next,
-  written-length,
-  written-same-words,
-  written-other,
-  written-at,
-}
-use Rattle.filter.proofs.RowMajor.{row-of, column-of, place-below, row-below, column-below}
+use Rattle.plan.specs.Sizes.{orderSum, neededMarks, neededStrips, orderOf}
+use Rattle.buffer.specs.Lists.{wordAt}
+use Rattle.number.proofs.Sums.{total-grows}
+use Rattle.number.proofs.Tests.{lt-or-ge}
+use Rattle.axis.specs.Axis.{Axis, columns, rows, axisOf}
+use Rattle.task_words.specs.Strips.{slotWords, slotStart, stripWords, stripStart, placeInStrip, lineInStrip, placeInLine, stripPlace, stripWrittenTo, stripWritten, slotWritten}
+use Rattle.buffer.proofs.Written.{written-length, written-same, written-other, written-at}
+use Rattle.number.proofs.RowMajor.{row-of, column-of, place-below, row-below, column-below}
 
 -- A list holds these words, by line and place, as block k's strip of a pass.
 abbrev pub HoldsStrip : Plan → List ℕ → ℕ → ℕ → (ℕ → ℕ → ℕ) → Type 0
 HoldsStrip plan strips k pass words =
-    (line place : ℕ) → line < plan .side → place < orderOf plan pass
+    (line place : ℕ) → line < plan .grid .side → place < orderOf plan pass
     → wordAt strips (stripPlace plan k pass line place) ≡ words line place
 
 -- ---- inside a strip
@@ -70,25 +52,15 @@ module _ (b r : ℕ) where
 
 -- ---- strips of a slot, slots of the list
 
-pub order-sum-grows : (plan : Plan) (u v : ℕ) → u < v → orderSum plan u + orderOf plan u ≤ orderSum plan v
-unfolding orderSum
-order-sum-grows plan u zero h = absurd (omega arith)
-order-sum-grows plan u (suc v) h =
-    ⊎-elim
-    (λ (q : suc u ≡ suc v). let e : u ≡ v = omega arith in rw e (omega arith))
-    (λ (q : suc u < suc v).
-    let e : orderSum plan u + orderOf plan u ≤ orderSum plan v = order-sum-grows plan u v (omega arith) in omega arith)
-    (eq-or-lt-of-le h)
-
 module _ (plan : Plan) where
-  pub strip-in-slot : (pass : ℕ) → pass < 4 → plan .side * orderSum plan pass + stripWords plan pass ≤ slotWords plan
+  pub strip-in-slot : (pass : ℕ) → pass < 4 → plan .grid .side * orderSum plan pass + stripWords plan pass ≤ slotWords plan
   strip-in-slot pass h =
-      let e : plan .side * (orderSum plan pass + orderOf plan pass) ≤ plan .side * orderSum plan 4 =
-      mul-le-mul-left (plan .side) (order-sum-grows plan pass 4 h) in
+      let e : plan .grid .side * (orderSum plan pass + orderOf plan pass) ≤ plan .grid .side * orderSum plan 4 =
+      mul-le-mul-left (plan .grid .side) (total-grows (orderOf plan) pass 4 h) in
       omega arith
 
   pub needed-slots : neededStrips plan ≡ neededMarks plan * slotWords plan
-  needed-slots = mul-assoc (neededMarks plan) (plan .side) (orderSum plan 4)
+  needed-slots = mul-assoc (neededMarks plan) (plan .grid .side) (orderSum plan 4)
 
   pub slot-in-list : (k : ℕ) → k < neededMarks plan → slotStart plan k + slotWords plan ≤ neededStrips plan
   slot-in-list k h =
@@ -100,11 +72,11 @@ module _ (plan : Plan) where
       → stripStart plan k pass + stripWords plan pass ≤ neededStrips plan
   strip-in-list k pass h p = omega (arith, strip-in-slot pass p, slot-in-list k h)
 
-  pub strip-place-below : (k pass line place : ℕ) → k < neededMarks plan → pass < 4 → line < plan .side
+  pub strip-place-below : (k pass line place : ℕ) → k < neededMarks plan → pass < 4 → line < plan .grid .side
       → place < orderOf plan pass → stripPlace plan k pass line place < neededStrips plan
   unfolding stripPlace
   strip-place-below k pass line place h p a b =
-      omega (arith, strip-in-list k pass h p, in-strip (plan .side) (orderOf plan pass) (axisOf pass) line place a b)
+      omega (arith, strip-in-list k pass h p, in-strip (plan .grid .side) (orderOf plan pass) (axisOf pass) line place a b)
 
   -- The strips of a slot, and the slots, lie one after another.
   slot-before : (k u j v : ℕ) → u < 4 → k < j → stripStart plan k u + stripWords plan u ≤ stripStart plan j v
@@ -114,8 +86,8 @@ module _ (plan : Plan) where
 
   strip-before : (k u v : ℕ) → u < v → stripStart plan k u + stripWords plan u ≤ stripStart plan k v
   strip-before k u v h =
-      let e : plan .side * (orderSum plan u + orderOf plan u) ≤ plan .side * orderSum plan v =
-      mul-le-mul-left (plan .side) (order-sum-grows plan u v h) in
+      let e : plan .grid .side * (orderSum plan u + orderOf plan u) ≤ plan .grid .side * orderSum plan v =
+      mul-le-mul-left (plan .grid .side) (total-grows (orderOf plan) u v h) in
       omega arith
 
   strips-apart : (k u j v q p : ℕ) → u < 4 → v < 4 → (k ≡ j → u ≡ v → ⊥) → q < stripWords plan u → p < stripWords plan v
@@ -138,79 +110,51 @@ module _ (plan : Plan) where
 -- ---- writing one strip
 
 module _ (plan : Plan) (k pass : ℕ) (words : ℕ → ℕ → ℕ) where
-  pub strip-none : (strips : List ℕ) → stripWrittenTo plan k pass words 0 strips ≡ strips
-  unfolding stripWrittenTo
-  strip-none strips = written-none _ _ strips
-
-  -- One word more, by its number in the strip,
-  pub strip-next : (n : ℕ) (strips : List ℕ)
-      → set (stripWrittenTo plan k pass words n strips) (stripStart plan k pass + n)
-      (words (lineInStrip (axisOf pass) (plan .side) (orderOf plan pass) n)
-      (placeInLine (axisOf pass) (plan .side) (orderOf plan pass) n))
-      ≡ stripWrittenTo plan k pass words (n + 1) strips
-  unfolding stripWrittenTo
-  strip-next n strips = written-next _ _ n strips
-
-  -- and by its line and place.
-  pub strip-next-at : (line place : ℕ) (strips : List ℕ) → line < plan .side → place < orderOf plan pass
-      → set (stripWrittenTo plan k pass words (placeInStrip (axisOf pass) (plan .side)
-      (orderOf plan pass) line place) strips)
-      (stripPlace plan k pass line place) (words line place)
-      ≡ stripWrittenTo plan k pass words (placeInStrip (axisOf pass) (plan .side)
-      (orderOf plan pass) line place + 1) strips
-  unfolding stripPlace
-  strip-next-at line place strips a b =
-      let n = placeInStrip (axisOf pass) (plan .side) (orderOf plan pass) line place in
-      ap (set (stripWrittenTo plan k pass words n strips) (stripStart plan k pass + n))
-      (ap₂ words (sym (line-of-place (plan .side) (orderOf plan pass) (axisOf pass) line place a b))
-      (sym (place-of-place (plan .side) (orderOf plan pass) (axisOf pass) line place a b)))
-      ∙ strip-next n strips
-
   pub strip-length : (n : ℕ) (strips : List ℕ) → length (stripWrittenTo plan k pass words n strips) ≡ length strips
-  unfolding stripWrittenTo
+  unfolding stripWrittenTo rowWritten
   strip-length n strips = written-length _ _ n strips
 
   -- The strip reads as it was written.
   pub strip-holds : (strips : List ℕ) → k < neededMarks plan → pass < 4 → neededStrips plan ≤ length strips
       → HoldsStrip plan (stripWritten plan k pass words strips) k pass words
-  unfolding stripWrittenTo stripPlace
+  unfolding stripWrittenTo rowWritten stripPlace
   strip-holds strips h p long line place a b =
       written-at (λ q. stripStart plan k pass + q) _ (stripWords plan pass) strips
       (λ i j c d e. omega arith) (λ i c. omega (arith, strip-in-list plan k pass h p)) _
-      (in-strip (plan .side) (orderOf plan pass) (axisOf pass) line place a b)
-      ∙ ap₂ words (line-of-place (plan .side) (orderOf plan pass) (axisOf pass) line place a b)
-      (place-of-place (plan .side) (orderOf plan pass) (axisOf pass) line place a b)
+      (in-strip (plan .grid .side) (orderOf plan pass) (axisOf pass) line place a b)
+      ∙ ap₂ words (line-of-place (plan .grid .side) (orderOf plan pass) (axisOf pass) line place a b)
+      (place-of-place (plan .grid .side) (orderOf plan pass) (axisOf pass) line place a b)
 
   -- Another strip is as it was,
   pub strip-other : (strips : List ℕ) (j v line place : ℕ) → pass < 4 → v < 4 → (k ≡ j → pass ≡ v → ⊥)
-      → line < plan .side
+      → line < plan .grid .side
       → place < orderOf plan v
       → wordAt (stripWritten plan k pass words strips) (stripPlace plan j v line place)
       ≡ wordAt strips (stripPlace plan j v line place)
-  unfolding stripWrittenTo stripPlace
+  unfolding stripWrittenTo rowWritten stripPlace
   strip-other strips j v line place p q differ a b =
       written-other _ _ (stripWords plan pass) strips _
       (λ i c e.
       strips-apart plan k pass j v i _ p q differ c
-      (in-strip (plan .side) (orderOf plan v) (axisOf v) line place a b) (sym e))
+      (in-strip (plan .grid .side) (orderOf plan v) (axisOf v) line place a b) (sym e))
 
   -- and so is every word outside the slot.
   pub strip-outside : (strips : List ℕ) (q : ℕ) → pass < 4 → ((i : ℕ) → i < slotWords plan → q ≢ slotStart plan k + i)
       → wordAt (stripWritten plan k pass words strips) q ≡ wordAt strips q
-  unfolding stripWrittenTo
+  unfolding stripWrittenTo rowWritten
   strip-outside strips q p out =
       written-other _ _ (stripWords plan pass) strips q
-      (λ i c e. out (plan .side * orderSum plan pass + i) (omega (arith, strip-in-slot plan pass p)) (omega arith))
+      (λ i c e. out (plan .grid .side * orderSum plan pass + i) (omega (arith, strip-in-slot plan pass p)) (omega arith))
 
 pub strip-same-words : (plan : Plan) (k pass : ℕ) (words other : ℕ → ℕ → ℕ) (strips : List ℕ)
-    → ((line place : ℕ) → line < plan .side → place < orderOf plan pass → words line place ≡ other line place)
+    → ((line place : ℕ) → line < plan .grid .side → place < orderOf plan pass → words line place ≡ other line place)
     → stripWritten plan k pass words strips ≡ stripWritten plan k pass other strips
-unfolding stripWrittenTo
+unfolding stripWrittenTo rowWritten
 strip-same-words plan k pass words other strips e =
-    written-same-words _ _ _ (stripWords plan pass) strips
+    written-same _ _ _ _ (stripWords plan pass) strips (λ q h. refl)
     (λ q h.
-    e _ _ (line-below (plan .side) (orderOf plan pass) (axisOf pass) q h)
-    (line-place-below (plan .side) (orderOf plan pass) (axisOf pass) q h))
+    e _ _ (line-below (plan .grid .side) (orderOf plan pass) (axisOf pass) q h)
+    (line-place-below (plan .grid .side) (orderOf plan pass) (axisOf pass) q h))
 
 -- ---- writing the strips of a slot
 
@@ -247,7 +191,7 @@ module _ (plan : Plan) (k : ℕ) (words : ℕ → ℕ → ℕ → ℕ) where
       (eq-or-lt-of-le p)
 
   -- the strips of another block are as they were,
-  pub slot-other : (n : ℕ) (strips : List ℕ) (j v line place : ℕ) → n ≤ 4 → v < 4 → (k ≡ j → ⊥) → line < plan .side
+  pub slot-other : (n : ℕ) (strips : List ℕ) (j v line place : ℕ) → n ≤ 4 → v < 4 → (k ≡ j → ⊥) → line < plan .grid .side
       → place < orderOf plan v
       → wordAt (slotWritten plan k words n strips) (stripPlace plan j v line place)
       ≡ wordAt strips (stripPlace plan j v line place)

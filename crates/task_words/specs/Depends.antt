@@ -6,15 +6,15 @@ use mathlib.Core.List.{List}
 use mathlib.Core.Option.{some}
 use Prim.Native.Nat.{ℕ, suc, _<_}
 use Rattle.plan.specs.declared.Plan.{Plan}
-use Rattle.plan.specs.Sizes.{neededMarks}
-use Rattle.plan.specs.Lists.{wordAt}
-use Rattle.task_words.specs.Geometry.{rowsOf, columnsOf, partOf, neighbour, stripNeeded}
-use Rattle.task_words.specs.Strips.{orderOf, stripPlace, insideBlock}
+use Rattle.plan.specs.Sizes.{neededMarks, orderOf}
+use Rattle.buffer.specs.Lists.{wordAt}
+use Rattle.grid.specs.Grid.{rowsOf, columnsOf, partOf, neighbour, goesOn}
+use Rattle.task_words.specs.Strips.{stripPlace, insideBlock}
 use Rattle.task_words.specs.Writes.{aloneWord, linkWord, finishWord}
 
 -- Two maps have the same heights in block k.
 abbrev pub SameBlock : Plan → ℕ → (X Y : ℕ → ℕ → ℕ) → Type 0
-SameBlock plan k X Y = (y x : ℕ) → y < rowsOf plan k → x < columnsOf plan k → partOf plan k X y x ≡ partOf plan k Y y x
+SameBlock plan k X Y = (y x : ℕ) → y < rowsOf (plan .grid) k → x < columnsOf (plan .grid) k → partOf (plan .grid) k X y x ≡ partOf (plan .grid) k Y y x
 
 -- Two lists have the same words in block k's strip of a pass, at the places that lie in the block: those outside are read as
 -- 0, whatever a lent buffer holds there.
@@ -26,7 +26,7 @@ SameStrip plan k pass s r =
 -- Two lists have the same strips past block k's edges for the first n passes: the needs of a link of pass n-1, and of finish
 -- where n is 4.
 abbrev pub SameNeeds : Plan → ℕ → ℕ → (s r : List ℕ) → Type 0
-SameNeeds plan k n s r = (pass j : ℕ) → pass < n → neighbour plan k pass ≡ some j → SameStrip plan j pass s r
+SameNeeds plan k n s r = (pass j : ℕ) → pass < n → neighbour (plan .grid) k pass ≡ some j → SameStrip plan j pass s r
 
 -- The words that collect writes,
 abbrev pub CollectDepends : Type 0
@@ -45,17 +45,17 @@ LinkDepends =
 abbrev pub FinishDepends : Type 0
 FinishDepends =
     (plan : Plan) (X Y : ℕ → ℕ → ℕ) (s r : List ℕ) (k : ℕ) → SameBlock plan k X Y → SameNeeds plan k 4 s r
-    → (y x : ℕ) → y < rowsOf plan k → x < columnsOf plan k → finishWord plan X s k y x ≡ finishWord plan Y r k y x
+    → (y x : ℕ) → y < rowsOf (plan .grid) k → x < columnsOf (plan .grid) k → finishWord plan X s k y x ≡ finishWord plan Y r k y x
 
 -- Two lists have the same strips wherever a neighbour needs one: they may differ in the strips on the map's border.
 abbrev pub SameNeeded : Plan → (s r : List ℕ) → Type 0
 SameNeeded plan s r =
-    (k pass : ℕ) → k < neededMarks plan → pass < 4 → stripNeeded plan k pass ≡ true → SameStrip plan k pass s r
+    (k pass : ℕ) → k < neededMarks plan → pass < 4 → goesOn (plan .grid) k pass ≡ true → SameStrip plan k pass s r
 
 -- Strips on the map's border are read by no task, whatever a lent buffer holds there: they change no word of a link
 abbrev pub LinkReadsNoBorder : Type 0
 LinkReadsNoBorder =
-    (plan : Plan) (s r : List ℕ) (k pass : ℕ) → k < neededMarks plan → pass < 4 → stripNeeded plan k pass ≡ true
+    (plan : Plan) (s r : List ℕ) (k pass : ℕ) → k < neededMarks plan → pass < 4 → goesOn (plan .grid) k pass ≡ true
     → SameNeeded plan s r → (line place : ℕ) → place < orderOf plan pass
     → linkWord plan s k pass line place ≡ linkWord plan r k pass line place
 
@@ -63,4 +63,4 @@ LinkReadsNoBorder =
 abbrev pub FinishReadsNoBorder : Type 0
 FinishReadsNoBorder =
     (plan : Plan) (X : ℕ → ℕ → ℕ) (s r : List ℕ) (k : ℕ) → k < neededMarks plan → SameNeeded plan s r
-    → (y x : ℕ) → y < rowsOf plan k → x < columnsOf plan k → finishWord plan X s k y x ≡ finishWord plan X r k y x
+    → (y x : ℕ) → y < rowsOf (plan .grid) k → x < columnsOf (plan .grid) k → finishWord plan X s k y x ≡ finishWord plan X r k y x

@@ -10,7 +10,8 @@ use Rattle.plan.specs.declared.Plan.{Plan}
 use Rattle.plan.specs.Rules.{orderLimit}
 use Rattle.plan.specs.Sizes.{neededMarks, neededStrips, neededPixels}
 use Rattle.passes.specs.Examples.{Example, minus}
-use Rattle.task_words.specs.Writes.{mapOf, collected, linked, finished}
+use Rattle.filter.specs.PlanFilters.{mapOf}
+use Rattle.task_words.specs.Writes.{collected, linked, finished}
 
 -- ---- a job
 
@@ -95,26 +96,24 @@ back = passOf (pos 2) (minus 1 ∷ pos 3 ∷ [])
 abbrev pub runningSum : Pass
 runningSum = passOf (pos 1) (minus 1 ∷ [])
 
--- ---- the jobs; in the first two each line of words is a strip
+-- So many zeros.
+abbrev pub zeros : ℕ → List ℤ
+zeros n = replicate n (pos 0)
+
+-- ---- the jobs; in the first two a strip has six words
 
 -- One column of four rows in two blocks, b = 3: the lower block has one row. Down gives 1, -1, 1, 2 and then up -24, -8, 6, 4.
 abbrev pub columnJob : WorkedJob
 columnJob =
     record {
       plan =
-          record { rows = 4; columns = 1; side = 3; passes = forth ∷ back ∷ unchanged ∷ unchanged ∷ [] };
+          record { grid = record { rows = 4; columns = 1; side = 3 }; passes = forth ∷ back ∷ unchanged ∷ unchanged ∷ [] };
       heights = pos 1 ∷ pos 0 ∷ pos 2 ∷ pos 1 ∷ [];
       links = record { block = 0; pass = 0 } ∷ record { block = 1; pass = 1 } ∷ [];
       stripsCollected =
-          minus 1 ∷ pos 0 ∷ pos 0 ∷ pos 1 ∷ pos 0 ∷ pos 0
-          ∷ pos 0 ∷ pos 0 ∷ pos 0 ∷ pos 0 ∷ pos 0 ∷ pos 0
-          ∷ pos 0 ∷ pos 0 ∷ pos 0 ∷ pos 0 ∷ pos 0 ∷ pos 0
-          ∷ pos 2 ∷ pos 0 ∷ pos 0 ∷ pos 0 ∷ pos 0 ∷ pos 0 ∷ [];
+          minus 1 ∷ pos 0 ∷ pos 0 ∷ pos 1 ∷ (zeros 14 ++ (pos 2 ∷ zeros 5));
       stripsLinked =
-          minus 1 ∷ pos 0 ∷ pos 0 ∷ pos 1 ∷ pos 0 ∷ pos 0
-          ∷ pos 0 ∷ pos 0 ∷ pos 0 ∷ pos 0 ∷ pos 0 ∷ pos 0
-          ∷ pos 0 ∷ pos 0 ∷ pos 0 ∷ pos 0 ∷ pos 0 ∷ pos 0
-          ∷ pos 4 ∷ pos 0 ∷ pos 0 ∷ pos 0 ∷ pos 0 ∷ pos 0 ∷ [];
+          minus 1 ∷ pos 0 ∷ pos 0 ∷ pos 1 ∷ (zeros 14 ++ (pos 4 ∷ zeros 5));
       outputFinished = minus 24 ∷ minus 8 ∷ pos 6 ∷ pos 4 ∷ [];
     }
 
@@ -124,19 +123,13 @@ abbrev pub rowJob : WorkedJob
 rowJob =
     record {
       plan =
-          record { rows = 2; columns = 4; side = 3; passes = unchanged ∷ unchanged ∷ forth ∷ back ∷ [] };
+          record { grid = record { rows = 2; columns = 4; side = 3 }; passes = unchanged ∷ unchanged ∷ forth ∷ back ∷ [] };
       heights = pos 1 ∷ pos 0 ∷ pos 2 ∷ pos 1 ∷ pos 0 ∷ pos 1 ∷ pos 1 ∷ pos 3 ∷ [];
       links = record { block = 0; pass = 2 } ∷ record { block = 1; pass = 3 } ∷ [];
       stripsCollected =
-          minus 1 ∷ pos 1 ∷ pos 1 ∷ pos 0 ∷ pos 0 ∷ pos 0
-          ∷ pos 0 ∷ pos 0 ∷ pos 0 ∷ pos 0 ∷ pos 0 ∷ pos 0
-          ∷ pos 0 ∷ pos 0 ∷ pos 0 ∷ pos 0 ∷ pos 0 ∷ pos 0
-          ∷ pos 2 ∷ pos 0 ∷ pos 6 ∷ pos 0 ∷ pos 0 ∷ pos 0 ∷ [];
+          minus 1 ∷ pos 1 ∷ pos 1 ∷ (zeros 15 ++ (pos 2 ∷ pos 0 ∷ pos 6 ∷ zeros 3));
       stripsLinked =
-          minus 1 ∷ pos 1 ∷ pos 1 ∷ pos 0 ∷ pos 0 ∷ pos 0
-          ∷ pos 0 ∷ pos 0 ∷ pos 0 ∷ pos 0 ∷ pos 0 ∷ pos 0
-          ∷ pos 0 ∷ pos 0 ∷ pos 0 ∷ pos 0 ∷ pos 0 ∷ pos 0
-          ∷ pos 4 ∷ pos 0 ∷ pos 2 ∷ pos 0 ∷ pos 0 ∷ pos 0 ∷ [];
+          minus 1 ∷ pos 1 ∷ pos 1 ∷ (zeros 15 ++ (pos 4 ∷ pos 0 ∷ pos 2 ∷ zeros 3));
       outputFinished = minus 24 ∷ minus 8 ∷ pos 6 ∷ pos 4 ∷ minus 8 ∷ minus 2 ∷ pos 2 ∷ pos 2 ∷ [];
     }
 
@@ -146,9 +139,7 @@ tableJob =
     record {
       plan =
           record {
-            rows = 2;
-            columns = 2;
-            side = 1;
+            grid = record { rows = 2; columns = 2; side = 1 };
             passes = runningSum ∷ unchanged ∷ runningSum ∷ unchanged ∷ [];
           };
       heights = pos 1 ∷ pos 2 ∷ pos 3 ∷ pos 4 ∷ [];

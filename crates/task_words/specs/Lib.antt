@@ -1,4 +1,3 @@
-pub mod Geometry
 pub mod Strips
 pub mod Writes
 pub mod Matching

@@ -5,34 +5,17 @@ use mathlib.Core.List.{List}
 use Prim.Native.Nat.{ℕ, zero, suc, _+_, _-_, _*_, _/_, _%_}
 use lib.Dec.{ltb, leb}
 use Rattle.plan.specs.declared.Plan.{Plan}
-use Rattle.plan.specs.Rules.{passAt}
-use Rattle.plan.specs.Sizes.{orderSum}
-use Rattle.plan.specs.Lists.{wordAt}
-use Rattle.passes.specs.Passes.{
-  Axis,
-  columns,
-  rows,
-  Direction,
-  forward,
-  backward,
-  axisOf,
-  directionOf,
-  along,
-  across,
-  lineOf,
-}
-use Rattle.filter.specs.Written.{written}
-use Rattle.task_words.specs.Geometry.{rowsOf, columnsOf, neighbour, orZero}
+use Rattle.plan.specs.Sizes.{orderOf, orderSum}
+use Rattle.buffer.specs.Lists.{wordAt}
+use Rattle.axis.specs.Axis.{Axis, columns, rows, Direction, forward, backward, axisOf, directionOf, along, across, lineOf}
+use Rattle.buffer.specs.Written.{rowWritten}
+use Rattle.grid.specs.Grid.{rowsOf, columnsOf, neighbour, orZero}
 
 -- ---- where a strip lies
 
--- The order of a pass.
-abbrev pub orderOf : Plan → ℕ → ℕ
-orderOf plan pass = passAt plan pass .order
-
 -- The words of a slot: b×R, R the sum of the four orders.
 abbrev pub slotWords : Plan → ℕ
-slotWords plan = plan .side * orderSum plan 4
+slotWords plan = plan .grid .side * orderSum plan 4
 
 -- The first word of the slot of block k: k×b×R.
 abbrev pub slotStart : Plan → ℕ → ℕ
@@ -40,11 +23,11 @@ slotStart plan k = k * slotWords plan
 
 -- The words of the strip of a pass: b×order.
 abbrev pub stripWords : Plan → ℕ → ℕ
-stripWords plan pass = plan .side * orderOf plan pass
+stripWords plan pass = plan .grid .side * orderOf plan pass
 
 -- The first word of block k's strip of a pass: the strips of the passes before it come first in the slot.
 abbrev pub stripStart : Plan → ℕ → ℕ → ℕ
-stripStart plan k pass = slotStart plan k + plan .side * orderSum plan pass
+stripStart plan k pass = slotStart plan k + plan .grid .side * orderSum plan pass
 
 -- The word of a strip at a line and a place: rows of b words (down, up), or b rows of `order` words (right, left).
 abbrev pub placeInStrip : Axis → (side order line place : ℕ) → ℕ
@@ -64,7 +47,7 @@ placeInLine rows side order q = q % order
 -- Where a line and a place of block k's strip of a pass stand in the list of strips.
 unfoldable pub stripPlace : Plan → ℕ → ℕ → ℕ → ℕ → ℕ
 stripPlace plan k pass line place =
-    stripStart plan k pass + placeInStrip (axisOf pass) (plan .side) (orderOf plan pass) line place
+    stripStart plan k pass + placeInStrip (axisOf pass) (plan .grid .side) (orderOf plan pass) line place
 
 -- ---- which pixels a strip stands for
 
@@ -82,15 +65,15 @@ indexOfPlace backward n order place = place
 -- Whether a line and a place of block k's strip of a pass lie in the block.
 unfoldable pub insideBlock : Plan → ℕ → ℕ → ℕ → ℕ → Bool
 insideBlock plan k pass line place =
-    ltb line (across (axisOf pass) (rowsOf plan k) (columnsOf plan k))
-    && placeInside (directionOf pass) (along (axisOf pass) (rowsOf plan k) (columnsOf plan k)) (orderOf plan pass) place
+    ltb line (across (axisOf pass) (rowsOf (plan .grid) k) (columnsOf (plan .grid) k))
+    && placeInside (directionOf pass) (along (axisOf pass) (rowsOf (plan .grid) k) (columnsOf (plan .grid) k)) (orderOf plan pass) place
 
 -- The strip of a pass where block k has the words Z: 0 at places outside the block.
 unfoldable pub edgeWord : Plan → ℕ → ℕ → (ℕ → ℕ → ℕ) → ℕ → ℕ → ℕ
 edgeWord plan k pass Z line place =
     cond (insideBlock plan k pass line place)
     (lineOf (axisOf pass) Z line
-    (indexOfPlace (directionOf pass) (along (axisOf pass) (rowsOf plan k) (columnsOf plan k)) (orderOf plan pass)
+    (indexOfPlace (directionOf pass) (along (axisOf pass) (rowsOf (plan .grid) k) (columnsOf (plan .grid) k)) (orderOf plan pass)
     place))
     0
 
@@ -119,7 +102,7 @@ nearestFirst plan pass words line distance =
 -- where the map ends.
 unfoldable pub pastEdges : Plan → List ℕ → ℕ → ℕ → ℕ → ℕ → ℕ
 pastEdges plan strips k pass line distance =
-    orZero (λ j. nearestFirst plan pass (stripWord plan strips j pass) line distance) (neighbour plan k pass)
+    orZero (λ j. nearestFirst plan pass (stripWord plan strips j pass) line distance) (neighbour (plan .grid) k pass)
 
 -- ---- writing a strip
 
@@ -127,10 +110,10 @@ pastEdges plan strips k pass line distance =
 -- `words` gives the word for a line and a place.
 unfoldable pub stripWrittenTo : Plan → ℕ → ℕ → (ℕ → ℕ → ℕ) → ℕ → List ℕ → List ℕ
 stripWrittenTo plan k pass words n strips =
-    written (λ q. stripStart plan k pass + q)
+    rowWritten (stripStart plan k pass)
     (λ q.
-    words (lineInStrip (axisOf pass) (plan .side) (orderOf plan pass) q)
-    (placeInLine (axisOf pass) (plan .side) (orderOf plan pass) q))
+    words (lineInStrip (axisOf pass) (plan .grid .side) (orderOf plan pass) q)
+    (placeInLine (axisOf pass) (plan .grid .side) (orderOf plan pass) q))
     n strips
 
 -- The strips with block k's strip of a pass replaced whole.

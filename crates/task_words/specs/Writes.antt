@@ -2,32 +2,26 @@
 -- column.
 use mathlib.Core.Bool.{cond}
 use mathlib.Core.List.{List}
-use Prim.Native.Nat.{ℕ, suc, _/_, _%_}
-use lib.IntN.{ℤ}
+use Prim.Native.Nat.{ℕ, suc}
 use Rattle.word.specs.Word.{_⊕_}
 use Rattle.plan.specs.declared.Plan.{Plan}
 use Rattle.passes.specs.Passes.{passesOver}
-use Rattle.passes.specs.Pixel.{heightMap}
-use Rattle.filter.specs.Filters.{filtersOf}
-use Rattle.filter.specs.Written.{written}
-use Rattle.task_words.specs.Geometry.{rowsOf, columnsOf, blockArea, blockPixelPlace, partOf, stripNeeded}
+use Rattle.filter.specs.PlanFilters.{filtersOf}
+use Rattle.buffer.specs.Written.{rectangleWritten}
+use Rattle.grid.specs.Grid.{rowsOf, columnsOf, blockPixelPlace, partOf, goesOn}
 use Rattle.task_words.specs.Strips.{edgeWord, stripWord, pastEdges, stripWritten, slotWritten}
-
--- The map that a row-major list of heights holds.
-unfoldable pub mapOf : Plan → List ℤ → ℕ → ℕ → ℕ
-mapOf plan heights = heightMap (plan .columns) heights
 
 -- Block k after the first t passes, with H past its edges, on the words Z.
 abbrev pub blockPasses : Plan → ℕ → (H : ℕ → ℕ → ℕ → ℕ) → (Z : ℕ → ℕ → ℕ) → ℕ → ℕ → ℕ → ℕ
-blockPasses plan k H Z t = passesOver (filtersOf plan) (rowsOf plan k) (columnsOf plan k) H Z t
+blockPasses plan k H Z t = passesOver (filtersOf plan) (rowsOf (plan .grid) k) (columnsOf (plan .grid) k) H Z t
 
 -- ---- collect
 
 -- The strip of a pass of the block filtered alone, zeros around it; 0 in a strip that no neighbour needs.
 unfoldable pub aloneWord : Plan → (ℕ → ℕ → ℕ) → ℕ → ℕ → ℕ → ℕ → ℕ
 aloneWord plan X k pass line place =
-    cond (stripNeeded plan k pass)
-    (edgeWord plan k pass (blockPasses plan k (λ u l i. 0) (partOf plan k X) (suc pass)) line place)
+    cond (goesOn (plan .grid) k pass)
+    (edgeWord plan k pass (blockPasses plan k (λ u l i. 0) (partOf (plan .grid) k X) (suc pass)) line place)
     0
 
 -- The strips after collect of block k.
@@ -52,16 +46,14 @@ linked plan k pass strips = stripWritten plan k pass (linkWord plan strips k pas
 
 -- Pixel (y, x) of block k after the four passes over its own heights, the neighbours' strips past its edges.
 unfoldable pub finishWord : Plan → (ℕ → ℕ → ℕ) → List ℕ → ℕ → ℕ → ℕ → ℕ
-finishWord plan X strips k y x = blockPasses plan k (pastEdges plan strips k) (partOf plan k X) 4 y x
+finishWord plan X strips k y x = blockPasses plan k (pastEdges plan strips k) (partOf (plan .grid) k X) 4 y x
 
--- A row-major list of h×w words after the first n pixels of block k, row after row, have been replaced.
-unfoldable pub blockWrittenTo : Plan → ℕ → (ℕ → ℕ → ℕ) → ℕ → List ℕ → List ℕ
-blockWrittenTo plan k words n output =
-    written (λ q. blockPixelPlace plan k (q / columnsOf plan k) (q % columnsOf plan k))
-    (λ q. words (q / columnsOf plan k) (q % columnsOf plan k))
-    n output
+-- A row-major list of h×w words after the pixels of block k have been replaced.
+unfoldable pub blockWritten : Plan → ℕ → (ℕ → ℕ → ℕ) → List ℕ → List ℕ
+blockWritten plan k words output =
+    rectangleWritten (blockPixelPlace (plan .grid) k) words (columnsOf (plan .grid) k) (rowsOf (plan .grid) k) output
 
 -- The output after finish of block k.
 unfoldable pub finished : Plan → (ℕ → ℕ → ℕ) → List ℕ → ℕ → List ℕ → List ℕ
 finished plan X strips k output =
-    blockWrittenTo plan k (finishWord plan X strips k) (blockArea plan k) output
+    blockWritten plan k (finishWord plan X strips k) output

@@ -1,1 +1,1 @@
-// Blocks of a map, their strips and what each task writes, as definitions (specs/) and their laws (proofs/). It has no code.
+// Strips, and what each task writes, as definitions (specs/) and their laws (proofs/). It has no code.

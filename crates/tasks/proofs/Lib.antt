@@ -1,8 +1,7 @@
-pub mod Sums
-pub mod Places
+pub mod Existence
 pub mod Needs
 pub mod Counting
 pub mod Marking
 pub mod Verdicts
 pub mod Progress
-pub mod Bounds
+pub mod Lent

@@ -3,22 +3,23 @@ use mathlib.Core.Path.{_≡_, refl, sym, ap, _∙_}
 use mathlib.Core.Logic.{_⊎_, inl, inr, ⊎-elim, _≢_}
 use mathlib.Core.Bool.{Bool, true, false, _&&_, _||_, or-false, or-true, true≢false}
 use mathlib.Core.List.{List, [], _∷_}
-use Prim.Native.Nat.{ℕ, _+_, _-_, _*_, _^_, _<_, _≤_}
+use Prim.Native.Nat.{ℕ, _+_, _*_, _^_, _<_, _≤_}
 use native.Mathlib.Omega.{arith}
 use native.Mathlib.Decide.{ℕ-discrete}
 use lib.Dec.{eqb}
 use lib.ListN.{length, getD, set, length-set}
 use lib.Seq.{getD-set-same, getD-set-other}
 use borrow.Author.Tests.{eq-eqb, ne-eqb, eqb-true}
-use Rattle.plan.proofs.Tests.{and-left, and-right}
+use Rattle.number.specs.Numbers.{total, one}
+use Rattle.number.proofs.Tests.{and-left, and-right, and-both}
+use Rattle.number.proofs.Sums.{total-same, total-bump}
+use Rattle.grid.specs.declared.Grid.{Grid}
+use Rattle.grid.specs.Grid.{blockTotal}
 use Rattle.tasks.specs.Tasks.{exists, BlockTask, needsOf, allDone, ready, nothingDone, alsoDone}
-use Rattle.tasks.specs.Counts.{total, one, oneAt, doneAt, doneCount}
-use Rattle.tasks.specs.Marks.{isMarked, bitAt, markOf, Shows, withBit}
-use Rattle.tasks.proofs.Sums.{total-same, total-bump}
-use Rattle.tasks.proofs.Places.{exists-block, exists-task}
-use Rattle.tasks.proofs.Needs.{and-both, all-done, ready-same, ready-exists, ready-undone, ready-needs}
-use Rattle.tasks.proofs.Counting.{Only, count-all, task-count}
-use Rattle.tasks.proofs.Marking.{shows-marked}
+use Rattle.tasks.specs.Counts.{oneAt, doneAt, doneCount}
+use Rattle.tasks.specs.Marks.{bitAt, markOf, Shows, withBit}
+use Rattle.tasks.proofs.Existence.{exists-block, exists-task}
+use Rattle.tasks.proofs.Needs.{ready-exists, ready-undone, ready-needs}
 
 module _ (done : ℕ → ℕ → Bool) (t k : ℕ) where
   pub also-new : alsoDone done t k t k ≡ true
@@ -46,18 +47,19 @@ module _ (done : ℕ → ℕ → Bool) (t k : ℕ) where
   unfolding alsoDone
   also-cases u j e = by (done u j) (eqb u t) (eqb j k) refl refl refl e
     where
-      by : (a b c : Bool) → done u j ≡ a → eqb u t ≡ b → eqb j k ≡ c → (a || (b && c)) ≡ true → (done u j ≡ true) ⊎ ((u ≡ t) × (j ≡ k))
+      by : (a b c : Bool) → done u j ≡ a → eqb u t ≡ b → eqb j k ≡ c → (a || (b && c)) ≡ true
+          → (done u j ≡ true) ⊎ ((u ≡ t) × (j ≡ k))
       by true b c p q r e = inl p
       by false true true p q r e = inr (eqb-true u t q, eqb-true j k r)
       by false true false p q r e = absurd (true≢false (sym e))
       by false false c p q r e = absurd (true≢false (sym e))
 
 -- One more task that was not done is one more.
-pub count-also : (M N : ℕ) (done : ℕ → ℕ → Bool) (t k : ℕ) → t < 6 → k < M * N → done t k ≡ false
-    → doneCount M N (alsoDone done t k) ≡ doneCount M N done + 1
+count-also : (grid : Grid) (done : ℕ → ℕ → Bool) (t k : ℕ) → t < 6 → k < blockTotal grid → done t k ≡ false
+    → doneCount grid (alsoDone done t k) ≡ doneCount grid done + 1
 unfolding doneCount doneAt
-count-also M N done t k l h e =
-    total-bump (doneAt done) (doneAt (alsoDone done t k)) k 1 (M * N) h
+count-also grid done t k l h e =
+    total-bump (doneAt done) (doneAt (alsoDone done t k)) k 1 (blockTotal grid) h
     (λ j n. total-same _ _ 6 (λ u m. ap one (also-block done t k u j n)))
     (total-bump (oneAt done k) (oneAt (alsoDone done t k) k) t 1 6 l
     (λ u n. ap one (also-task done t k u k n))
@@ -76,7 +78,8 @@ mark-also done t k l e =
 
 mark-other : (done : ℕ → ℕ → Bool) (t k j : ℕ) → j ≢ k → markOf (alsoDone done t k) j ≡ markOf done j
 unfolding markOf
-mark-other done t k j n = ap (λ s. 7 * 2 ^ 28 + s) (total-same _ _ 6 (λ u h. ap (λ x. one x * 2 ^ u) (also-block done t k u j n)))
+mark-other done t k j n =
+    ap (λ s. 7 * 2 ^ 28 + s) (total-same _ _ 6 (λ u h. ap (λ x. one x * 2 ^ u) (also-block done t k u j n)))
 
 module _ (marks : List ℕ) (t k : ℕ) where
   pub bit-length : length (withBit marks t k) ≡ length marks
@@ -89,10 +92,10 @@ module _ (marks : List ℕ) (t k : ℕ) where
   bit-other j n = getD-set-other marks k j _ 0 n
 
   -- Setting the bit shows one more task done.
-  pub shows-bit : (M N : ℕ) (done : ℕ → ℕ → Bool) → t < 6 → k < M * N → M * N ≤ length marks → done t k ≡ false
-      → Shows M N done marks → Shows M N (alsoDone done t k) (withBit marks t k)
+  pub shows-bit : (grid : Grid) (done : ℕ → ℕ → Bool) → t < 6 → k < blockTotal grid → blockTotal grid ≤ length marks
+      → done t k ≡ false → Shows grid done marks → Shows grid (alsoDone done t k) (withBit marks t k)
   unfolding withBit
-  shows-bit M N done l h enough undone shows j g = by (ℕ-discrete j k)
+  shows-bit grid done l h enough undone shows j g = by (ℕ-discrete j k)
     where
       by : Dec (j ≡ k) → getD (set marks k (getD marks k 0 + 2 ^ t)) j 0 ≡ markOf (alsoDone done t k) j
       by (yes e) =
@@ -102,15 +105,10 @@ module _ (marks : List ℕ) (t k : ℕ) where
           ∙ sym (mark-also done t k l undone))
       by (no e) = getD-set-other marks k j _ 0 e ∙ shows j g ∙ sym (mark-other done t k j e)
 
--- A task is ready by marks that show what is done exactly where it is by what is done.
-pub ready-shown : (M N : ℕ) (done : ℕ → ℕ → Bool) (marks : List ℕ) → Shows M N done marks → (t k : ℕ)
-    → ready M N (isMarked marks) t k ≡ ready M N done t k
-ready-shown M N done marks shows t k = ready-same M N (isMarked marks) done (shows-marked M N done marks shows) t k
-
 -- Only tasks that exist are done, and with each its needs.
-pub record Sound (M N : ℕ) (done : ℕ → ℕ → Bool) : Type 0 where
-  pub exist : (t k : ℕ) → done t k ≡ true → exists M N t k ≡ true
-  pub closed : (t k : ℕ) → done t k ≡ true → allDone done (needsOf M N t k) ≡ true
+pub record Sound (grid : Grid) (done : ℕ → ℕ → Bool) : Type 0 where
+  pub exist : (t k : ℕ) → done t k ≡ true → exists grid t k ≡ true
+  pub closed : (t k : ℕ) → done t k ≡ true → allDone done (needsOf grid t k) ≡ true
 
 all-kept : (p q : ℕ → ℕ → Bool) → ((t k : ℕ) → p t k ≡ true → q t k ≡ true) → (needs : List BlockTask) → allDone p needs ≡ true
     → allDone q needs ≡ true
@@ -120,31 +118,28 @@ all-kept p q f (x ∷ xs) e =
     and-both (f (x .task) (x .block) (and-left (p (x .task) (x .block)) (allDone p xs) e))
     (all-kept p q f xs (and-right (p (x .task) (x .block)) (allDone p xs) e))
 
-pub sound-nothing : (M N : ℕ) → Sound M N nothingDone
-sound-nothing M N = record { exist = λ t k e. absurd (true≢false (sym e)); closed = λ t k e. absurd (true≢false (sym e)) }
+pub sound-nothing : (grid : Grid) → Sound grid nothingDone
+sound-nothing grid = record { exist = λ t k e. absurd (true≢false (sym e)); closed = λ t k e. absurd (true≢false (sym e)) }
 
 -- Performing a ready task keeps that.
-pub sound-also : (M N : ℕ) (done : ℕ → ℕ → Bool) (t k : ℕ) → ready M N done t k ≡ true → Sound M N done → Sound M N (alsoDone done t k)
-sound-also M N done t k r s =
+pub sound-also : (grid : Grid) (done : ℕ → ℕ → Bool) (t k : ℕ) → ready grid done t k ≡ true → Sound grid done
+    → Sound grid (alsoDone done t k)
+sound-also grid done t k r s =
     record {
       exist = λ u j e.
           ⊎-elim (λ (p : done u j ≡ true). s .exist u j p)
-          (λ (p : (u ≡ t) × (j ≡ k)). rw (p .0, p .1) (ready-exists M N done t k r))
+          (λ (p : (u ≡ t) × (j ≡ k)). rw (p .0, p .1) (ready-exists grid done t k r))
           (also-cases done t k u j e);
       closed = λ u j e.
-          all-kept done (alsoDone done t k) (also-kept done t k) (needsOf M N u j)
+          all-kept done (alsoDone done t k) (also-kept done t k) (needsOf grid u j)
           (⊎-elim (λ (p : done u j ≡ true). s .closed u j p)
-          (λ (p : (u ≡ t) × (j ≡ k)). rw (p .0, p .1) (ready-needs M N done t k r))
+          (λ (p : (u ≡ t) × (j ≡ k)). rw (p .0, p .1) (ready-needs grid done t k r))
           (also-cases done t k u j e));
     }
 
 -- Performing a ready task makes one more done.
-pub count-ready : (M N : ℕ) (done : ℕ → ℕ → Bool) (t k : ℕ) → ready M N done t k ≡ true → doneCount M N (alsoDone done t k) ≡ doneCount M N done + 1
-count-ready M N done t k r =
-    let e = ready-exists M N done t k r in
-    count-also M N done t k (exists-task M N t k e) (exists-block M N t k e) (ready-undone M N done t k r)
-
--- Where no task is ready, as many are done as there are.
-pub none-ready : (M N : ℕ) (done : ℕ → ℕ → Bool) → 1 ≤ M → 1 ≤ N → Only M N done → ((t k : ℕ) → t < 6 → k < M * N → ready M N done t k ≡ false)
-    → doneCount M N done ≡ 6 * (M * N) - 2 * M - 2 * N
-none-ready M N done p q only none = count-all M N done only (all-done M N done none) ∙ task-count M N p q
+pub count-ready : (grid : Grid) (done : ℕ → ℕ → Bool) (t k : ℕ) → ready grid done t k ≡ true
+    → doneCount grid (alsoDone done t k) ≡ doneCount grid done + 1
+count-ready grid done t k r =
+    let e = ready-exists grid done t k r in
+    count-also grid done t k (exists-task grid t k e) (exists-block grid t k e) (ready-undone grid done t k r)

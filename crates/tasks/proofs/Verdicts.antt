@@ -3,147 +3,148 @@
 use mathlib.Core.Path.{_≡_, refl, sym, _∙_}
 use mathlib.Core.Bool.{Bool, true, false, not, _&&_, cond, true≢false}
 use mathlib.Core.List.{List, [], _∷_, _++_}
-use Prim.Native.Nat.{ℕ, zero, suc, _+_, _*_, _^_, _<_, _≤_, min}
+use mathlib.Core.Option.{Option, none, some}
+use Prim.Native.Nat.{ℕ, zero, suc, _+_, _^_, _<_, _≤_, min}
 use native.Mathlib.Omega.{arith}
 use native.Mathlib.Numerals.{add-one}
 use lib.ListN.{getD}
 use borrow.Author.Tests.{le-ltb, ltb-false, not-false}
-use Rattle.refusal.specs.Table.{Answer, accepted, _at_when_, firstDue}
+use Rattle.refusal.specs.Refusals.{Answer, accepted}
+use Rattle.refusal.specs.Table.{_at_when_, firstDue}
 use Rattle.refusal.proofs.Table.{not-due}
-use Rattle.tasks.specs.Tasks.{exists, BlockTask, needIf, needsOf, allDone, ready}
-use Rattle.tasks.specs.Neighbours.{hasNeighbour, neighbour}
+use Rattle.grid.specs.declared.Grid.{Grid}
+use Rattle.grid.specs.Grid.{blockTotal, neighbour}
+use Rattle.grid.proofs.Neighbours.{neighbour-below}
+use Rattle.tasks.specs.Tasks.{exists, BlockTask, needsOf, allDone, ready}
 use Rattle.tasks.specs.Marks.{isMarked, markValidAt, Shows}
-use Rattle.tasks.specs.Verdict.{blocksOf, lookedAt, brokenAt, leastBrokenOf, leastBroken, brokenBeside, verdictRows, doneRows}
-use Rattle.tasks.proofs.Places.{exists-block, exists-task, beside}
-use Rattle.tasks.proofs.Needs.{linkNeeds, needs-are, needs-collect, needs-same}
+use Rattle.tasks.specs.Verdict.{blocksOf, lookedAt, brokenAt, leastBrokenOf, leastBroken, verdictRows, doneRows}
+use Rattle.tasks.specs.Neighbours.{brokenIn, brokenBeside}
+use Rattle.tasks.proofs.Existence.{exists-block, exists-task}
+use Rattle.tasks.proofs.Needs.{needAt, linkNeeds, needs-are, needs-collect, needs-same}
 use Rattle.tasks.proofs.Counting.{Only}
 use Rattle.tasks.proofs.Marking.{Valid, valid-room, shows-marked, shows-valid}
 
-module _ (M N : ℕ) (marks : List ℕ) where
-  least-most : (ks : List ℕ) → leastBrokenOf M N marks ks ≤ M * N
+module _ (grid : Grid) (marks : List ℕ) where
+  least-most : (ks : List ℕ) → leastBrokenOf grid marks ks ≤ blockTotal grid
   unfolding leastBrokenOf
   least-most [] = omega arith
   least-most (k ∷ ks) = omega (arith, least-most ks)
 
   least-append : (xs ys : List BlockTask)
-      → leastBrokenOf M N marks (blocksOf (xs ++ ys)) ≡ min (leastBrokenOf M N marks (blocksOf xs)) (leastBrokenOf M N marks (blocksOf ys))
+      → leastBrokenOf grid marks (blocksOf (xs ++ ys))
+      ≡ min (leastBrokenOf grid marks (blocksOf xs)) (leastBrokenOf grid marks (blocksOf ys))
   unfolding leastBrokenOf blocksOf
   least-append [] ys = omega (arith, least-most (blocksOf ys))
   least-append (x ∷ xs) ys = omega (arith, least-append xs ys)
 
-  broken-in : (k : ℕ) → k < M * N → brokenAt M N marks k ≤ M * N
-  broken-in k h = by (markValidAt M N marks k)
+  broken-most : (k : ℕ) → k < blockTotal grid → brokenAt grid marks k ≤ blockTotal grid
+  broken-most k h = by (markValidAt grid marks k)
     where
-      by : (valid : Bool) → cond valid (M * N) k ≤ M * N
+      by : (valid : Bool) → cond valid (blockTotal grid) k ≤ blockTotal grid
       by true = omega arith
       by false = omega arith
 
-  module _ (k : ℕ) (h : k < M * N) where
-    beside-in : (pass : ℕ) → brokenBeside M N marks k pass ≤ M * N
+  -- The look at the neighbour of a pass,
+  module _ (k pass : ℕ) where
+    -- as the code takes it,
+    pub beside-absent : neighbour grid k pass ≡ none → blockTotal grid ≡ brokenBeside grid marks k pass
     unfolding brokenBeside
-    beside-in pass = by (hasNeighbour M N pass k) refl
-      where
-        by : (c : Bool) → hasNeighbour M N pass k ≡ c → cond c (brokenAt M N marks (neighbour N pass k)) (M * N) ≤ M * N
-        by true e = broken-in (neighbour N pass k) (beside M N k h pass e .inside)
-        by false e = omega arith
+    beside-absent e = rw e
 
-    -- The code's look at the neighbour of a pass.
-    pub beside-absent : (pass : ℕ) → hasNeighbour M N pass k ≡ false → M * N ≡ brokenBeside M N marks k pass
+    pub beside-there : (j answer : ℕ) → neighbour grid k pass ≡ some j → answer ≡ brokenAt grid marks j
+        → answer ≡ brokenBeside grid marks k pass
     unfolding brokenBeside
-    beside-absent pass e = rw e
+    beside-there j answer e a = rw e a
 
-    pub beside-there : (pass j answer : ℕ) → hasNeighbour M N pass k ≡ true → j ≡ neighbour N pass k → answer ≡ brokenAt M N marks j
-        → answer ≡ brokenBeside M N marks k pass
-    unfolding brokenBeside
-    beside-there pass j answer e i a = rw e (rw i at a)
-
-    least-if : (pass : ℕ)
-        → leastBrokenOf M N marks (blocksOf (needIf (hasNeighbour M N pass k) (suc pass) (neighbour N pass k))) ≡ brokenBeside M N marks k pass
+    -- and as the needs have it.
+    least-beside : k < blockTotal grid
+        → leastBrokenOf grid marks (blocksOf (needAt pass (neighbour grid k pass))) ≡ brokenBeside grid marks k pass
     unfolding leastBrokenOf blocksOf brokenBeside
-    least-if pass = by (hasNeighbour M N pass k) (beside-in pass)
+    least-beside h = by (neighbour grid k pass) refl
       where
-        by : (c : Bool) → cond c (brokenAt M N marks (neighbour N pass k)) (M * N) ≤ M * N
-            → leastBrokenOf M N marks (blocksOf (needIf c (suc pass) (neighbour N pass k))) ≡ cond c (brokenAt M N marks (neighbour N pass k)) (M * N)
-        by true l = omega arith
-        by false l = refl
+        by : (beside : Option ℕ) → neighbour grid k pass ≡ beside
+            → leastBrokenOf grid marks (blocksOf (needAt pass beside)) ≡ brokenIn grid marks beside
+        by none e = refl
+        by (some j) e = omega (arith, broken-most j (neighbour-below grid k pass j h e))
 
   -- The least broken mark among that of block k and those of its neighbours for the first n passes.
   pub leastAround : ℕ → ℕ → ℕ
-  leastAround k zero = brokenAt M N marks k
-  leastAround k (suc pass) = min (leastAround k pass) (brokenBeside M N marks k pass)
+  leastAround k zero = brokenAt grid marks k
+  leastAround k (suc pass) = min (leastAround k pass) (brokenBeside grid marks k pass)
 
-  pub around-none : (k : ℕ) → leastAround k 0 ≡ brokenAt M N marks k
+  pub around-none : (k : ℕ) → leastAround k 0 ≡ brokenAt grid marks k
   unfolding leastAround
   around-none k = refl
 
   -- One more turn of the loop over the passes.
-  pub around-on : (k pass least beside : ℕ) → least ≡ leastAround k pass → beside ≡ brokenBeside M N marks k pass
+  pub around-on : (k pass least beside : ℕ) → least ≡ leastAround k pass → beside ≡ brokenBeside grid marks k pass
       → min least beside ≡ leastAround k (pass + 1)
   unfolding leastAround
   around-on k pass least beside p q = rw (add-one pass, p, q)
 
-  module _ (k : ℕ) (h : k < M * N) where
-    around-links : (n : ℕ) → min (brokenAt M N marks k) (leastBrokenOf M N marks (blocksOf (linkNeeds M N k n))) ≡ leastAround k n
+  module _ (k : ℕ) (h : k < blockTotal grid) where
+    around-links : (n : ℕ)
+        → min (brokenAt grid marks k) (leastBrokenOf grid marks (blocksOf (linkNeeds grid k n))) ≡ leastAround k n
     unfolding leastAround linkNeeds leastBrokenOf blocksOf
-    around-links zero = omega (arith, broken-in k h)
+    around-links zero = omega (arith, broken-most k h)
     around-links (suc pass) =
-        rw (least-append (linkNeeds M N k pass) (needIf (hasNeighbour M N pass k) (suc pass) (neighbour N pass k)), least-if k h pass)
+        rw (least-append (linkNeeds grid k pass) (needAt pass (neighbour grid k pass)), least-beside k pass h)
         (omega (arith, around-links pass))
 
     -- The marks looked at are the block's own and those of its neighbours for the passes that the task needs.
-    pub around-is : (t : ℕ) → t < 6 → leastAround k (min t 4) ≡ leastBroken M N marks t k
+    pub around-is : (t : ℕ) → t < 6 → leastAround k (min t 4) ≡ leastBroken grid marks t k
     unfolding leastBroken lookedAt leastBrokenOf blocksOf leastAround
-    around-is zero l = rw (needs-collect M N k) (omega (arith, broken-in k h))
-    around-is (suc t) l = rw (needs-are M N t k (omega arith)) (omega (arith, around-links (min (suc t) 4)))
+    around-is zero l = rw (needs-collect grid k) (omega (arith, broken-most k h))
+    around-is (suc t) l = rw (needs-are grid t k (omega arith)) (omega (arith, around-links (min (suc t) 4)))
 
     -- Where all marks pass the test, no mark that is looked at is broken.
-    around-valid : Valid M N marks → (n : ℕ) → leastAround k n ≡ M * N
+    around-valid : Valid grid marks → (n : ℕ) → leastAround k n ≡ blockTotal grid
     unfolding leastAround brokenBeside
     around-valid valid zero = rw (valid k h)
-    around-valid valid (suc pass) = omega (arith, around-valid valid pass, by (hasNeighbour M N pass k) refl)
+    around-valid valid (suc pass) = omega (arith, around-valid valid pass, by (neighbour grid k pass) refl)
       where
-        by : (c : Bool) → hasNeighbour M N pass k ≡ c → cond c (brokenAt M N marks (neighbour N pass k)) (M * N) ≡ M * N
-        by true e = rw (valid (neighbour N pass k) (beside M N k h pass e .inside))
-        by false e = refl
+        by : (beside : Option ℕ) → neighbour grid k pass ≡ beside → brokenIn grid marks beside ≡ blockTotal grid
+        by none e = refl
+        by (some j) e = rw (valid j (neighbour-below grid k pass j h e))
 
-    pub none-broken : Valid M N marks → (t : ℕ) → t < 6 → leastBroken M N marks t k ≡ M * N
+    none-broken : Valid grid marks → (t : ℕ) → t < 6 → leastBroken grid marks t k ≡ blockTotal grid
     none-broken valid t l = sym (around-is t l) ∙ around-valid valid (min t 4)
 
     -- Where no mark that is looked at is broken, the block's own passes the test.
-    own-valid : (t : ℕ) → M * N ≤ leastBroken M N marks t k → markValidAt M N marks k ≡ true
+    own-valid : (t : ℕ) → blockTotal grid ≤ leastBroken grid marks t k → markValidAt grid marks k ≡ true
     unfolding leastBroken lookedAt leastBrokenOf
-    own-valid t l = by (markValidAt M N marks k) (omega arith)
+    own-valid t l = by (markValidAt grid marks k) (omega arith)
       where
-        by : (valid : Bool) → M * N ≤ cond valid (M * N) k → valid ≡ true
+        by : (valid : Bool) → blockTotal grid ≤ cond valid (blockTotal grid) k → valid ≡ true
         by true l = refl
         by false l = absurd (omega arith)
 
 -- On marks that show what is done, the answer is the one by what is done.
-pub verdict-shown : (M N : ℕ) (done : ℕ → ℕ → Bool) (marks : List ℕ) → Shows M N done marks → Only M N done → (t k : ℕ)
-    → firstDue (verdictRows M N marks t k) ≡ firstDue (doneRows M N done t k)
+pub verdict-shown : (grid : Grid) (done : ℕ → ℕ → Bool) (marks : List ℕ) → Shows grid done marks → Only grid done → (t k : ℕ)
+    → firstDue (verdictRows grid marks t k) ≡ firstDue (doneRows grid done t k)
 unfolding verdictRows doneRows
-verdict-shown M N done marks shows only t k = by (exists M N t k) refl
+verdict-shown grid done marks shows only t k = by (exists grid t k) refl
   where
-    by : (x : Bool) → exists M N t k ≡ x → firstDue (verdictRows M N marks t k) ≡ firstDue (doneRows M N done t k)
+    by : (x : Bool) → exists grid t k ≡ x → firstDue (verdictRows grid marks t k) ≡ firstDue (doneRows grid done t k)
     by true e =
-        let l = exists-task M N t k e in
-        let h = exists-block M N t k e in
-        let b = none-broken M N marks k h (shows-valid M N done marks shows only) t l in
+        let l = exists-task grid t k e in
+        let h = exists-block grid t k e in
+        let b = none-broken grid marks k h (shows-valid grid done marks shows only) t l in
         rw (
-          le-ltb (leastBroken M N marks t k) (M * N) (omega arith),
-          shows-marked M N done marks shows t k l h,
-          needs-same M N (isMarked marks) done (shows-marked M N done marks shows) t k l h,
+          le-ltb (leastBroken grid marks t k) (blockTotal grid) (omega arith),
+          shows-marked grid done marks shows t k l h,
+          needs-same grid (isMarked marks) done (shows-marked grid done marks shows) t k l h,
         )
     by false e = rw e
 
 -- Accepted exactly where ready.
-module _ (M N : ℕ) (done : ℕ → ℕ → Bool) (t k : ℕ) where
+module _ (grid : Grid) (done : ℕ → ℕ → Bool) (t k : ℕ) where
   decided : Bool → Bool → Bool → Answer
   decided x d a = firstDue (8 at 0 when not x ∷ 10 at 0 when d ∷ 11 at 0 when not a ∷ [])
 
-  pub accepted-ready : firstDue (doneRows M N done t k) ≡ accepted → ready M N done t k ≡ true
+  pub accepted-ready : firstDue (doneRows grid done t k) ≡ accepted → ready grid done t k ≡ true
   unfolding doneRows ready decided
-  accepted-ready = by (exists M N t k) (done t k) (allDone done (needsOf M N t k))
+  accepted-ready = by (exists grid t k) (done t k) (allDone done (needsOf grid t k))
     where
       by : (x d a : Bool) → decided x d a ≡ accepted → (x && (not d && a)) ≡ true
       by true true a e = cc
@@ -151,9 +152,9 @@ module _ (M N : ℕ) (done : ℕ → ℕ → Bool) (t k : ℕ) where
       by true false false e = cc
       by false d a e = cc
 
-  pub ready-accepted : ready M N done t k ≡ true → firstDue (doneRows M N done t k) ≡ accepted
+  pub ready-accepted : ready grid done t k ≡ true → firstDue (doneRows grid done t k) ≡ accepted
   unfolding doneRows ready decided
-  ready-accepted = by (exists M N t k) (done t k) (allDone done (needsOf M N t k))
+  ready-accepted = by (exists grid t k) (done t k) (allDone done (needsOf grid t k))
     where
       by : (x d a : Bool) → (x && (not d && a)) ≡ true → decided x d a ≡ accepted
       by true true a e = absurd (true≢false (sym e))
@@ -162,19 +163,19 @@ module _ (M N : ℕ) (done : ℕ → ℕ → Bool) (t k : ℕ) where
       by false d a e = absurd (true≢false (sym e))
 
 -- What an accepted call's verdict says: what `set_bit` asks.
-pub record Settable (M N : ℕ) (marks : List ℕ) (t k : ℕ) : Type 0 where
+pub record Settable (grid : Grid) (marks : List ℕ) (t k : ℕ) : Type 0 where
   pub task : t < 6
-  pub block : k < M * N
+  pub block : k < blockTotal grid
   pub room : getD marks k 0 + 2 ^ t < 2 ^ 32
 
-pub accepted-settable : (M N : ℕ) (marks : List ℕ) (t k : ℕ) → firstDue (verdictRows M N marks t k) ≡ accepted
-    → Settable M N marks t k
+pub accepted-settable : (grid : Grid) (marks : List ℕ) (t k : ℕ) → firstDue (verdictRows grid marks t k) ≡ accepted
+    → Settable grid marks t k
 unfolding verdictRows
-accepted-settable M N marks t k e =
+accepted-settable grid marks t k e =
     let there = not-due _ _ _ _ e in
     let whole = not-due _ _ _ _ (there .others) in
-    let exist = not-false (exists M N t k) (there .first) in
-    let l = exists-task M N t k exist in
-    let h = exists-block M N t k exist in
-    let valid = own-valid M N marks k h t (ltb-false (leastBroken M N marks t k) (M * N) (whole .first)) in
-    record { task = l; block = h; room = valid-room M N k (getD marks k 0) valid t l }
+    let exist = not-false (exists grid t k) (there .first) in
+    let l = exists-task grid t k exist in
+    let h = exists-block grid t k exist in
+    let valid = own-valid grid marks k h t (ltb-false (leastBroken grid marks t k) (blockTotal grid) (whole .first)) in
+    record { task = l; block = h; room = valid-room grid k (getD marks k 0) valid t l }

@@ -3,4 +3,4 @@ pub mod Neighbours
 pub mod Counts
 pub mod Marks
 pub mod Verdict
-pub mod Grid
+pub mod Lent

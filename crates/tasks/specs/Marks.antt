@@ -6,9 +6,10 @@ use mathlib.Core.Path.{_≡_}
 use Prim.Native.Nat.{ℕ, _+_, _*_, _/_, _%_, _^_, _<_}
 use lib.Dec.{ltb, eqb}
 use lib.ListN.{getD, set}
-use Rattle.plan.specs.Rules.{allBelow}
-use Rattle.tasks.specs.Tasks.{rowOf, columnOf, hasTask}
-use Rattle.tasks.specs.Counts.{total, one}
+use Rattle.number.specs.Numbers.{allBelow, total, one}
+use Rattle.grid.specs.declared.Grid.{Grid}
+use Rattle.grid.specs.Grid.{blockTotal, blockRow, blockColumn}
+use Rattle.tasks.specs.Tasks.{hasTask}
 
 -- Bit t of a mark is set.
 unfoldable pub hasBit : ℕ → ℕ → Bool
@@ -19,18 +20,19 @@ unfoldable pub isMarked : List ℕ → ℕ → ℕ → Bool
 isMarked marks t k = hasBit (getD marks k 0) t
 
 -- Bit t of a mark of block (m, n) is clear, unless the block has task t.
-unfoldable pub spareClear : ℕ → ℕ → ℕ → ℕ → ℕ → ℕ → Bool
-spareClear M N m n mark t = cond (hasTask M N t m n) true (not (hasBit mark t))
+unfoldable pub spareClear : Grid → ℕ → ℕ → ℕ → ℕ → Bool
+spareClear grid m n mark t = cond (hasTask grid t m n) true (not (hasBit mark t))
 
 -- A mark of block k has the right kind and no spare bit: 7 in bits 28 to 31, none of bits 6 to 27, and of bits 0 to 5 only
 -- those of the block's tasks.
-unfoldable pub markValid : ℕ → ℕ → ℕ → ℕ → Bool
-markValid M N k mark =
-    eqb (mark / 2 ^ 28) 7 && (ltb (mark % 2 ^ 28) (2 ^ 6) && allBelow (spareClear M N (rowOf N k) (columnOf N k) mark) 6)
+unfoldable pub markValid : Grid → ℕ → ℕ → Bool
+markValid grid k mark =
+    eqb (mark / 2 ^ 28) 7
+    && (ltb (mark % 2 ^ 28) (2 ^ 6) && allBelow (spareClear grid (blockRow grid k) (blockColumn grid k) mark) 6)
 
 -- Mark k of a list has the right kind and no spare bit.
-abbrev pub markValidAt : ℕ → ℕ → List ℕ → ℕ → Bool
-markValidAt M N marks k = markValid M N k (getD marks k 0)
+abbrev pub markValidAt : Grid → List ℕ → ℕ → Bool
+markValidAt grid marks k = markValid grid k (getD marks k 0)
 
 -- The bit of task t in the mark of block k, as a number.
 abbrev pub bitAt : (ℕ → ℕ → Bool) → ℕ → ℕ → ℕ
@@ -41,8 +43,8 @@ unfoldable pub markOf : (ℕ → ℕ → Bool) → ℕ → ℕ
 markOf done k = 7 * 2 ^ 28 + total (bitAt done k) 6
 
 -- The needed marks of a list are those of what is done.
-abbrev pub Shows : ℕ → ℕ → (ℕ → ℕ → Bool) → List ℕ → Type 0
-Shows M N done marks = (k : ℕ) → k < M * N → getD marks k 0 ≡ markOf done k
+abbrev pub Shows : Grid → (ℕ → ℕ → Bool) → List ℕ → Type 0
+Shows grid done marks = (k : ℕ) → k < blockTotal grid → getD marks k 0 ≡ markOf done k
 
 -- The marks after task t of block k, which was not marked: its bit is set.
 unfoldable pub withBit : List ℕ → ℕ → ℕ → List ℕ

@@ -1,36 +1,26 @@
--- The tasks of blocks: which exist, what each needs, and which are ready. There are M rows and N columns of blocks. What is
--- done is a test of a task number and a block number.
+-- The tasks of the blocks of a map: which exist, what each needs, and which are ready. There are M rows and N columns of blocks
+-- (`blockRows`, `blockColumns`); block k is block (m, n). What is done is a test of a task number and a block number.
 use mathlib.Core.Bool.{Bool, true, false, not, _&&_, _||_, cond}
 use mathlib.Core.List.{List, [], _∷_, _++_}
-use Prim.Native.Nat.{ℕ, _+_, _-_, _*_, _/_, _%_}
+use Prim.Native.Nat.{ℕ, _+_, _-_}
 use lib.Dec.{ltb, eqb}
-
--- Blocks are numbered row after row: block (m, n) is k = m×N + n.
-abbrev pub blockAt : ℕ → ℕ → ℕ → ℕ
-blockAt N m n = m * N + n
-
--- The row of blocks that block k stands in.
-abbrev pub rowOf : ℕ → ℕ → ℕ
-rowOf N k = k / N
-
--- The column of blocks that block k stands in.
-abbrev pub columnOf : ℕ → ℕ → ℕ
-columnOf N k = k % N
+use Rattle.grid.specs.declared.Grid.{Grid}
+use Rattle.grid.specs.Grid.{blockRows, blockColumns, blockTotal, blockRow, blockColumn}
 
 -- The column "exists" of the table of tasks, for the block (m, n): 0 collect and 5 finish always, the down link where
 -- m < M-1, the up link where m > 0, the right link where n < N-1, the left link where n > 0.
-unfoldable pub hasTask : ℕ → ℕ → ℕ → ℕ → ℕ → Bool
-hasTask M N t m n =
+unfoldable pub hasTask : Grid → ℕ → ℕ → ℕ → Bool
+hasTask grid t m n =
     cond (eqb t 0) true
-    (cond (eqb t 1) (ltb (m + 1) M)
+    (cond (eqb t 1) (ltb (m + 1) (blockRows grid))
     (cond (eqb t 2) (ltb 0 m)
-    (cond (eqb t 3) (ltb (n + 1) N)
+    (cond (eqb t 3) (ltb (n + 1) (blockColumns grid))
     (cond (eqb t 4) (ltb 0 n)
     (eqb t 5)))))
 
 -- Task t exists at block k: there is such a block, and it has the task.
-unfoldable pub exists : ℕ → ℕ → ℕ → ℕ → Bool
-exists M N t k = ltb k (M * N) && hasTask M N t (rowOf N k) (columnOf N k)
+unfoldable pub exists : Grid → ℕ → ℕ → Bool
+exists grid t k = ltb k (blockTotal grid) && hasTask grid t (blockRow grid k) (blockColumn grid k)
 
 -- A task of a block: what a call names, and what a need is.
 pub record BlockTask : Type 0 where
@@ -47,29 +37,29 @@ abbrev pub ownCollect : ℕ → List BlockTask
 ownCollect k = needIf true 0 k
 
 -- 1 of above.
-abbrev pub downOfAbove : ℕ → ℕ → List BlockTask
-downOfAbove N k = needIf (ltb 0 (rowOf N k)) 1 (k - N)
+abbrev pub downOfAbove : Grid → ℕ → List BlockTask
+downOfAbove grid k = needIf (ltb 0 (blockRow grid k)) 1 (k - blockColumns grid)
 
 -- 2 of below.
-abbrev pub upOfBelow : ℕ → ℕ → ℕ → List BlockTask
-upOfBelow M N k = needIf (ltb (rowOf N k + 1) M) 2 (k + N)
+abbrev pub upOfBelow : Grid → ℕ → List BlockTask
+upOfBelow grid k = needIf (ltb (blockRow grid k + 1) (blockRows grid)) 2 (k + blockColumns grid)
 
 -- 3 of left.
-abbrev pub rightOfLeft : ℕ → ℕ → List BlockTask
-rightOfLeft N k = needIf (ltb 0 (columnOf N k)) 3 (k - 1)
+abbrev pub rightOfLeft : Grid → ℕ → List BlockTask
+rightOfLeft grid k = needIf (ltb 0 (blockColumn grid k)) 3 (k - 1)
 
 -- 4 of right.
-abbrev pub leftOfRight : ℕ → ℕ → List BlockTask
-leftOfRight N k = needIf (ltb (columnOf N k + 1) N) 4 (k + 1)
+abbrev pub leftOfRight : Grid → ℕ → List BlockTask
+leftOfRight grid k = needIf (ltb (blockColumn grid k + 1) (blockColumns grid)) 4 (k + 1)
 
 -- The column "needs" of the table of tasks, for block k, without those that fall away; collect needs nothing.
-unfoldable pub needsOf : ℕ → ℕ → ℕ → ℕ → List BlockTask
-needsOf M N t k =
-    cond (eqb t 1) (ownCollect k ++ downOfAbove N k)
-    (cond (eqb t 2) (ownCollect k ++ (downOfAbove N k ++ upOfBelow M N k))
-    (cond (eqb t 3) (ownCollect k ++ (downOfAbove N k ++ (upOfBelow M N k ++ rightOfLeft N k)))
-    (cond (eqb t 4) (ownCollect k ++ (downOfAbove N k ++ (upOfBelow M N k ++ (rightOfLeft N k ++ leftOfRight N k))))
-    (cond (eqb t 5) (ownCollect k ++ (downOfAbove N k ++ (upOfBelow M N k ++ (rightOfLeft N k ++ leftOfRight N k))))
+unfoldable pub needsOf : Grid → ℕ → ℕ → List BlockTask
+needsOf grid t k =
+    cond (eqb t 1) (ownCollect k ++ downOfAbove grid k)
+    (cond (eqb t 2) (ownCollect k ++ (downOfAbove grid k ++ upOfBelow grid k))
+    (cond (eqb t 3) (ownCollect k ++ (downOfAbove grid k ++ (upOfBelow grid k ++ rightOfLeft grid k)))
+    (cond (eqb t 4) (ownCollect k ++ (downOfAbove grid k ++ (upOfBelow grid k ++ (rightOfLeft grid k ++ leftOfRight grid k))))
+    (cond (eqb t 5) (ownCollect k ++ (downOfAbove grid k ++ (upOfBelow grid k ++ (rightOfLeft grid k ++ leftOfRight grid k))))
     []))))
 
 -- Each of these tasks is done.
@@ -78,8 +68,8 @@ allDone done [] = true
 allDone done (need ∷ needs) = done (need .task) (need .block) && allDone done needs
 
 -- Ready: the task exists there, is not done, and its needs are all done.
-unfoldable pub ready : ℕ → ℕ → (ℕ → ℕ → Bool) → ℕ → ℕ → Bool
-ready M N done t k = exists M N t k && (not (done t k) && allDone done (needsOf M N t k))
+unfoldable pub ready : Grid → (ℕ → ℕ → Bool) → ℕ → ℕ → Bool
+ready grid done t k = exists grid t k && (not (done t k) && allDone done (needsOf grid t k))
 
 -- Nothing is done.
 abbrev pub nothingDone : ℕ → ℕ → Bool

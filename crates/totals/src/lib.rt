@@ -1,2 +1,2 @@
-// What a job with all its tasks done comes to, as two statements (specs/) and their proofs: it leaves what the serial call leaves,
-// and rectangle sums on the table it made are the heights' sums. It has no code.
+// The totals that an operator reads: rectangle sums on the table that a whole job made are the heights' sums, as a statement (specs/)
+// and its proof (proofs/). It has no code.

@@ -10,7 +10,8 @@ use lib.ListN.{length}
 use Rattle.refusal.specs.declared.Refusal.{Refusal}
 use Rattle.refusal.specs.declared.Outcome.{Outcome}
 use Rattle.refusal.specs.declared.Outcome.the-variants.{Accepted, Refused}
-use Rattle.refusal.specs.Table.{accepted, firstDue, answerOf}
+use Rattle.refusal.specs.Refusals.{accepted}
+use Rattle.refusal.specs.Table.{firstDue, answerOf}
 use Rattle.plan.specs.declared.Plan.{Plan}
 use Rattle.plan.specs.declared.Sizes.{Sizes}
 use Rattle.plan.specs.declared.PlanSizes.{PlanSizes}

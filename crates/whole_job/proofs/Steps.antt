@@ -8,19 +8,18 @@ use native.Mathlib.Omega.{arith}
 use lib.IntN.{ℤ}
 use lib.ListN.{length}
 use borrow.Author.Tests.{ltb-false, not-false}
-use Rattle.refusal.specs.Table.{accepted}
+use Rattle.refusal.specs.Refusals.{accepted}
 use Rattle.refusal.proofs.Table.{not-due}
 use Rattle.plan.specs.declared.Plan.{Plan}
 use Rattle.plan.specs.Rules.{keepsRules}
-use Rattle.plan.specs.Sizes.{blockRows, blockColumns, neededMarks, neededStrips, neededPixels, taskCount, sizesOf}
+use Rattle.plan.specs.Sizes.{neededMarks, neededStrips, neededPixels, taskCount, sizesOf}
 use Rattle.tasks.specs.Tasks.{BlockTask, ready, nothingDone}
 use Rattle.tasks.proofs.Counting.{count-nothing}
 use Rattle.tasks.proofs.Progress.{count-ready}
 use Rattle.report.specs.Report.{report}
-use Rattle.task_words.proofs.Geometry.{pixel-below}
 use Rattle.job_spec.specs.Calls.{Buffers, startAnswer, started, lentRows, afterTask, afterCalls}
 use Rattle.job_spec.specs.Demand3.{doneBy, doneFrom, doneAfter, countAfter}
-use Rattle.job_spec.proofs.Accepts.{start-accepted}
+use Rattle.job_spec.proofs.Start.{start-accepted}
 use Rattle.job_spec.proofs.Demand3.{demand3, next-ready}
 use Rattle.whole_job.specs.WholeJob.{afterStep, afterSteps, wholeAnswer, afterWholeJob, WholeJobDone}
 
@@ -43,12 +42,12 @@ module _ (plan : Plan) (call : BlockTask) where
 
   -- A call of a ready task makes one more done.
   count-more : (calls : List BlockTask)
-      → ready (blockRows plan) (blockColumns plan) (doneAfter plan calls) (call .task) (call .block) ≡ true
+      → ready (plan .grid) (doneAfter plan calls) (call .task) (call .block) ≡ true
       → countAfter plan (calls ++ (call ∷ [])) ≡ countAfter plan calls + 1
   unfolding doneAfter doneBy
   count-more calls r =
       rw (done-more calls nothingDone, r)
-      (count-ready (blockRows plan) (blockColumns plan) (doneAfter plan calls) (call .task) (call .block) r)
+      (count-ready (plan .grid) (doneAfter plan calls) (call .task) (call .block) r)
 
 -- ---- steps as calls
 
@@ -62,7 +61,7 @@ module _ (plan : Plan) (heights : List ℤ) (lent : Buffers) (start : startAnswe
     (map-long : neededPixels plan ≤ length heights) (output-long : neededPixels plan ≤ length (lent .output)) where
   as-calls : (count : ℕ) → count ≤ taskCount plan → AsCalls plan heights (started plan lent) count
   unfolding afterSteps afterStep afterCalls doneAfter doneFrom
-  as-calls zero h = record { calls = []; same = refl; counted = count-nothing (blockRows plan) (blockColumns plan) }
+  as-calls zero h = record { calls = []; same = refl; counted = count-nothing (plan .grid) }
   as-calls (suc count) h =
       let before = as-calls count (omega arith) in
       let calls = before .calls in
@@ -110,11 +109,7 @@ whole-job-done plan heights lent whole =
     let claim = demand3 plan heights lent start map-long output-long (steps .calls) in
     rw (whole, steps .same)
     (record {
-      serial-words = claim .whole-job (steps .counted);
-      output-past = λ q h.
-          claim .other-output q
-          (λ k y x f a b e. omega (arith, pixel-below plan k y x a b));
-      output-length = claim .output-length;
+      output-is = claim .whole-job (steps .counted);
       marks-past = claim .marks-past;
       strips-past = claim .strips-past;
       marks-length = claim .marks-length;

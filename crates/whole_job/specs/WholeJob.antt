@@ -2,18 +2,18 @@
 use mathlib.Core.Path.{_≡_}
 use mathlib.Core.Bool.{cond}
 use mathlib.Core.List.{List}
-use Prim.Native.Nat.{ℕ, zero, suc, _*_, _/_, _%_, _≤_, _<_}
+use Prim.Native.Nat.{ℕ, zero, suc, _≤_}
 use lib.IntN.{ℤ}
 use lib.Dec.{eqb}
 use lib.ListN.{length}
-use Rattle.refusal.specs.Table.{Answer, accepted, firstDue, ifAccepted}
+use Rattle.refusal.specs.Refusals.{Answer, accepted}
+use Rattle.refusal.specs.Table.{firstDue, ifAccepted}
 use Rattle.plan.specs.declared.Plan.{Plan}
-use Rattle.plan.specs.Sizes.{neededMarks, neededStrips, neededPixels, taskCount}
-use Rattle.plan.specs.Lists.{wordAt}
-use Rattle.report.specs.Values.{Values}
+use Rattle.plan.specs.Sizes.{neededMarks, neededStrips, taskCount}
+use Rattle.buffer.specs.Lists.{wordAt}
+use Rattle.report.specs.Values.{Values, allDoneValues}
 use Rattle.report.specs.Report.{report}
-use Rattle.task_words.specs.Writes.{mapOf}
-use Rattle.task_words.specs.Matching.{serialResult}
+use Rattle.serial.specs.Serial.{serialOutput}
 use Rattle.job_spec.specs.Calls.{Buffers, started, lentRows, afterTask}
 
 -- The lists after the task that a report's values name; as they were where they name none.
@@ -41,24 +41,15 @@ afterWholeJob plan heights lent =
 
 -- What is claimed of an accepted whole job, `after` being the lists after it.
 pub record WholeClaim (plan : Plan) (heights : List ℤ) (lent after : Buffers) : Type 0 where
-  -- Each output word below h×w is the word that the serial passes give there.
-  pub serial-words : (q : ℕ) → q < neededPixels plan
-      → wordAt (after .output) q
-      ≡ serialResult plan (mapOf plan heights) 4 (q / plan .columns) (q % plan .columns)
-  -- The output past h×w is as it was, and so is its length.
-  pub output-past : (q : ℕ) → neededPixels plan ≤ q → wordAt (after .output) q ≡ wordAt (lent .output) q
-  pub output-length : length (after .output) ≡ length (lent .output)
+  -- The output is the one that the serial call leaves of the same map and output, the words past h×w included.
+  pub output-is : after .output ≡ serialOutput plan heights (lent .output)
   -- Marks and strips past the needed lengths are as they were, and so are their lengths.
   pub marks-past : (k : ℕ) → neededMarks plan ≤ k → wordAt (after .marks) k ≡ wordAt (lent .marks) k
   pub strips-past : (q : ℕ) → neededStrips plan ≤ q → wordAt (after .strips) q ≡ wordAt (lent .strips) q
   pub marks-length : length (after .marks) ≡ length (lent .marks)
   pub strips-length : length (after .strips) ≡ length (lent .strips)
   -- The report counts 6MN - 2M - 2N tasks and a tally of two for each pixel, and names none.
-  pub report-is : report plan (after .marks)
-      ≡ record {
-        answer = accepted;
-        value = record { count = taskCount plan; tally = 2 * neededPixels plan; ready = 0; task = 0; block = 0 };
-      }
+  pub report-is : report plan (after .marks) ≡ record { answer = accepted; value = allDoneValues plan }
 
 -- The claim holds of every whole job that is accepted.
 abbrev pub WholeJobDone : Type 0

@@ -1,3 +1,4 @@
 pub mod Ring
 pub mod Machine
 pub mod Signs
+pub mod Residues

@@ -2,80 +2,37 @@
 -- Assumes nothing.
 use mathlib.Core.Path.{refl}
 use Rattle.word.specs.Word.{modulus, minusOne, _⊕_, _⊖_, _⊗_, residue}
-use Rattle.plan.specs.Rules.{allBelow, coefficientsKept, passKept, passesKept, keepsRules}
-use Rattle.plan.specs.Sizes.{blockCount, blockExtent, orderSum, sizesOf}
-use Rattle.plan.specs.Lists.{listOf}
-use Rattle.plan_reader.specs.ReadPlan.{
-  passPlace,
-  wordRows,
-  headRows,
-  coefficientRows,
-  passRows,
-  passesRows,
-  endRows,
-  sideRows,
-  planRows,
-  readPlan,
-}
+use Rattle.number.specs.Numbers.{allBelow, total}
+use Rattle.plan.specs.Rules.{coefficientsKept, passKept, passesKept, keepsRules}
+use Rattle.grid.specs.Grid.{gridKept, blockCount, blockExtent, blockRow, blockColumn, blockArea, blockPixelPlace, neighbour, goesOn}
+use Rattle.plan.specs.Sizes.{sizesOf}
+use Rattle.buffer.specs.Written.{rectangleWritten, rowWritten, written, cleared}
+use Rattle.buffer.specs.Lists.{listOf}
+use Rattle.plan_reader.specs.ReadPlan.{passPlace, wordRows, headRows, coefficientRows, passRows, passesRows, endRows, sideRows, planRows, readPlan}
 use Rattle.passes.specs.Line.{history, output}
 use Rattle.passes.specs.Filter.{lessFeedback, filterStep}
 use Rattle.passes.specs.Passes.{filterLine, filterLines, passesOver, serialPasses}
-use Rattle.passes.specs.Pixel.{pixel, heightMap}
+use Rattle.buffer.specs.Pixel.{pixel, heightMap}
 use Rattle.passes.specs.Table.{cornerOf, rectangleSum}
-use Rattle.filter.specs.Filters.{filterOf}
-use Rattle.filter.specs.Written.{written}
+use Rattle.filter.specs.PlanFilters.{filterOf}
 use Rattle.serial.specs.Serial.{serialAnswer, serialWords, serialOutput}
 use Rattle.rectangle.specs.Rectangle.{rectangleCall}
 use Rattle.tasks.specs.Tasks.{hasTask, exists, needsOf, allDone}
-use Rattle.tasks.specs.Counts.{total}
 use Rattle.tasks.specs.Marks.{hasBit, isMarked, spareClear, markValid, markOf, withBit}
 use Rattle.tasks.specs.Verdict.{blocksOf, lookedAt, leastBrokenOf, leastBroken, verdictRows}
-use Rattle.task_words.specs.Geometry.{blockRow, blockColumn, blockPixelPlace, neighbour, stripNeeded}
-use Rattle.task_words.specs.Strips.{
-  stripPlace,
-  insideBlock,
-  edgeWord,
-  stripWord,
-  nearestFirst,
-  pastEdges,
-  stripWrittenTo,
-  slotWritten,
-}
-use Rattle.task_words.specs.Writes.{mapOf, aloneWord, collected, linkWord, linked, finishWord, blockWrittenTo, finished}
-use Rattle.job_spec.specs.Calls.{
-  startAnswer,
-  unmarked,
-  cleared,
-  marksAfterStart,
-  stripsAfterStart,
-  started,
-  lentRows,
-  taskAnswer,
-  stripsAfter,
-  outputAfter,
-  performed,
-  afterTask,
-  afterCalls,
-}
-use Rattle.worked_examples.specs.Examples.{
-  serialExample,
-  rectangleExample,
-  afterJob,
-  outputExample,
-  stripsExample,
-  jobExamples,
-  starred,
-  ExamplesHold,
-}
+use Rattle.task_words.specs.Strips.{stripPlace, insideBlock, edgeWord, stripWord, nearestFirst, pastEdges, stripWrittenTo, slotWritten}
+use Rattle.task_words.specs.Writes.{aloneWord, collected, linkWord, linked, finishWord, blockWritten, finished}
+use Rattle.job_spec.specs.Calls.{startAnswer, unmarked, marksAfterStart, stripsAfterStart, started, lentRows, taskAnswer, stripsAfter, outputAfter, performed, afterTask, afterCalls}
+use Rattle.worked_examples.specs.Examples.{serialExample, rectangleExample, afterJob, outputExample, stripsExample, jobExamples, starred, ExamplesHold}
 
 pub examples-hold : ExamplesHold
 unfolding modulus minusOne _⊕_ _⊖_ _⊗_ residue allBelow coefficientsKept passKept passesKept keepsRules blockCount
-    blockExtent orderSum sizesOf listOf passPlace wordRows headRows coefficientRows passRows passesRows endRows sideRows planRows readPlan history
+    blockExtent gridKept blockArea sizesOf listOf passPlace wordRows headRows coefficientRows passRows passesRows endRows sideRows planRows readPlan history
     output lessFeedback filterStep filterLine filterLines passesOver serialPasses pixel heightMap cornerOf rectangleSum filterOf
     written serialAnswer serialWords serialOutput rectangleCall hasTask exists needsOf allDone total hasBit isMarked spareClear
     markValid markOf withBit blocksOf lookedAt leastBrokenOf leastBroken verdictRows blockRow blockColumn blockPixelPlace neighbour
-    stripNeeded stripPlace insideBlock edgeWord stripWord nearestFirst pastEdges stripWrittenTo slotWritten mapOf aloneWord
-    collected linkWord linked finishWord blockWrittenTo finished startAnswer unmarked cleared marksAfterStart stripsAfterStart
+    goesOn stripPlace insideBlock edgeWord stripWord nearestFirst pastEdges stripWrittenTo rowWritten slotWritten aloneWord
+    collected linkWord linked finishWord blockWritten rectangleWritten finished startAnswer unmarked cleared marksAfterStart stripsAfterStart
     started lentRows taskAnswer stripsAfter outputAfter performed afterTask afterCalls serialExample rectangleExample afterJob
     outputExample stripsExample jobExamples starred
 examples-hold = refl

@@ -6,7 +6,7 @@ use Prim.Native.Nat.{ℕ}
 use lib.IntN.{ℤ, pos}
 use lib.ListN.{replicate}
 use Rattle.word.specs.Word.{residue}
-use Rattle.refusal.specs.Table.{Answer, numberIn, placeIn}
+use Rattle.refusal.specs.Refusals.{Answer, numberIn, placeIn}
 use Rattle.plan.specs.declared.Pass.{Pass}
 use Rattle.plan.specs.declared.Plan.{Plan}
 use Rattle.plan.specs.Sizes.{neededMarks, neededStrips, neededPixels}
@@ -46,11 +46,11 @@ fourCoefficients = 0x50000001 ∷ 0x50000001 ∷ 0x50000001 ∷ 0x50000001 ∷ [
 -- A plan of a size with these passes, of order 0 or 1, and block side 1.
 abbrev planOf : (rows columns : ℕ) (down up right left : Pass) → Plan
 planOf rows columns down up right left =
-    record { rows = rows; columns = columns; side = 1; passes = down ∷ up ∷ right ∷ left ∷ [] }
+    record { grid = record { rows = rows; columns = columns; side = 1 }; passes = down ∷ up ∷ right ∷ left ∷ [] }
 
 -- The summed-area table of two rows and three columns.
 abbrev tablePlan : Plan
-tablePlan = record { rows = 2; columns = 3; side = 2; passes = summedAreaPasses }
+tablePlan = record { grid = record { rows = 2; columns = 3; side = 2 }; passes = summedAreaPasses }
 
 -- Order 0 and a gain.
 abbrev gainAlone : ℤ → Pass
@@ -142,7 +142,7 @@ jobExamples job forth back =
 
 -- Three rows and one column in two blocks, b = 2.
 abbrev columnPlan : Plan
-columnPlan = record { rows = 3; columns = 1; side = 2; passes = down ∷ up ∷ unchanged ∷ unchanged ∷ [] }
+columnPlan = record { grid = record { rows = 3; columns = 1; side = 2 }; passes = down ∷ up ∷ unchanged ∷ unchanged ∷ [] }
 
 -- ---- the list
 

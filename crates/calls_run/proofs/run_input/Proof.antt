@@ -15,15 +15,15 @@ take-words-requires c κs = search needs
 plan-length-requires : tie.Need-plan-length-requires
 plan-length-requires c κs = search needs
 
-smaller-requires : tie.Need-smaller-requires
-smaller-requires c κs = search needs
+lesser-requires : tie.Need-lesser-requires
+lesser-requires c κs = search needs
 
 array-share-prefix-words : tie.Need-array-share-prefix-words
 array-share-prefix-words c = search needs
 
 slice-aggregate-read-plan : tie.Need-slice-aggregate-read-plan
 slice-aggregate-read-plan c =
-    let s = c .before .smaller in
+    let s = c .before .lesser in
     sym (length-take-le _ _ (omega (arith, s .ensures, c .before .before .before .before .take-words .ensures)))
 
 read-plan-requires : tie.Need-read-plan-requires
@@ -66,7 +66,7 @@ run-input-spec =
     slice-aggregate-take-words
     take-words-requires
     plan-length-requires
-    smaller-requires
+    lesser-requires
     array-share-prefix-words
     slice-aggregate-read-plan
     read-plan-requires

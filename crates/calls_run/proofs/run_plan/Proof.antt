@@ -24,11 +24,11 @@ slice-aggregate-take-heights c = search needs
 take-heights-requires : tie.Need-take-heights-requires
 take-heights-requires c κs = search needs
 
-smaller-requires : tie.Need-smaller-requires
-smaller-requires c κs = search needs
+lesser-requires : tie.Need-lesser-requires
+lesser-requires c κs = search needs
 
-smaller-requires-2 : tie.Need-smaller-requires-2
-smaller-requires-2 c κs = search needs
+lesser-requires-2 : tie.Need-lesser-requires-2
+lesser-requires-2 c κs = search needs
 
 mul-run-job : tie.Need-mul-run-job
 mul-run-job c = search needs
@@ -84,8 +84,8 @@ run-plan-spec =
     returns
     slice-aggregate-take-heights
     take-heights-requires
-    smaller-requires
-    smaller-requires-2
+    lesser-requires
+    lesser-requires-2
     mul-run-job
     sub-run-job
     part-run-job-start

@@ -15,11 +15,11 @@ Inv-loop words tasks₀ blocks₀ count i₀ tasks blocks i =
 abbrev μ-loop : tie.MeasureT-loop
 μ-loop words tasks₀ blocks₀ count i₀ tasks blocks i = count - i
 
-smaller-requires : tie.Need-smaller-requires Inv-loop μ-loop
-smaller-requires c κs = search needs
+lesser-requires : tie.Need-lesser-requires Inv-loop μ-loop
+lesser-requires c κs = search needs
 
-smaller-requires-2 : tie.Need-smaller-requires-2 Inv-loop μ-loop
-smaller-requires-2 c κs = search needs
+lesser-requires-2 : tie.Need-lesser-requires-2 Inv-loop μ-loop
+lesser-requires-2 c κs = search needs
 
 loop-holds : tie.Need-loop-holds Inv-loop μ-loop
 loop-holds c = search needs
@@ -87,8 +87,8 @@ take-calls-spec =
     (tie.spec
     Inv-loop
     μ-loop
-    smaller-requires
-    smaller-requires-2
+    lesser-requires
+    lesser-requires-2
     loop-holds
     mul-number
     mul-number-2

@@ -14,11 +14,11 @@ Inv-loop words wanted heights₀ count i₀ heights i =
 abbrev μ-loop : tie.MeasureT-loop
 μ-loop words wanted heights₀ count i₀ heights i = count - i
 
-smaller-requires : tie.Need-smaller-requires Inv-loop μ-loop
-smaller-requires c κs = search needs
+lesser-requires : tie.Need-lesser-requires Inv-loop μ-loop
+lesser-requires c κs = search needs
 
-smaller-requires-2 : tie.Need-smaller-requires-2 Inv-loop μ-loop
-smaller-requires-2 c κs = search needs
+lesser-requires-2 : tie.Need-lesser-requires-2 Inv-loop μ-loop
+lesser-requires-2 c κs = search needs
 
 loop-holds : tie.Need-loop-holds Inv-loop μ-loop
 loop-holds c = search needs
@@ -59,8 +59,8 @@ take-heights-spec =
     (tie.spec
     Inv-loop
     μ-loop
-    smaller-requires
-    smaller-requires-2
+    lesser-requires
+    lesser-requires-2
     loop-holds
     mul-decode-signed32
     shared-slice-read-decode-signed32

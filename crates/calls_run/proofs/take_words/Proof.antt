@@ -13,8 +13,8 @@ Inv-loop input words₀ count i₀ words i = (length words ≡ length words₀) 
 abbrev μ-loop : tie.MeasureT-loop
 μ-loop input words₀ count i₀ words i = count - i
 
-smaller-requires : tie.Need-smaller-requires Inv-loop μ-loop
-smaller-requires c κs = search needs
+lesser-requires : tie.Need-lesser-requires Inv-loop μ-loop
+lesser-requires c κs = search needs
 
 loop-holds : tie.Need-loop-holds Inv-loop μ-loop
 loop-holds c = search needs
@@ -49,7 +49,7 @@ take-words-spec =
     (tie.spec
     Inv-loop
     μ-loop
-    smaller-requires
+    lesser-requires
     loop-holds
     word-at-requires
     mul-words

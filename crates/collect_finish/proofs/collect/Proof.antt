@@ -1,65 +1,77 @@
 -- `collect` has written the strips of the passes so far; the work array holds the block filtered alone, with gain 1.
-use mathlib.Core.Path.{_≡_, refl, sym, _∙_}
-use Prim.Native.Nat.{_-_, _≤_}
+use Prim.Native.Nat.{_-_}
 use native.Mathlib.Omega.{arith}
 use borrow.Author.Needs.{needs}
-use lib.ListN.{length}
-use Rattle.task_words.specs.Geometry.{partOf}
-use Rattle.task_words.specs.Strips.{slotWritten}
-use Rattle.task_words.specs.Writes.{mapOf, aloneWord, collected}
-use Rattle.task_words.proofs.Strips.{slot-none}
-use Rattle.collect_finish.proofs.Work.{shape-in-work, block-in-map, corner-in-map}
-use Rattle.collect_finish.proofs.Cells.{blank-clear}
-use Rattle.collect_finish.proofs.Passes.{collect-words-order, Alone, alone-turn}
-use Rattle.collect_finish.proofs.Edges.{slot-more}
-use Rattle.collect_finish.proofs.Images.{alone-start}
+use Rattle.plan.proofs.Record.{in-grid}
+use Rattle.filter.specs.PlanFilters.{mapOf}
+use Rattle.collect_finish.specs.WorkFits.{ShapedBlock}
+use Rattle.collect_finish.proofs.WorkPlaces.{shape-in-work, block-in-map, corner-in-map}
+use Rattle.collect_finish.proofs.WorkCells.{blank-clear}
+use Rattle.collect_finish.proofs.Collecting.{Collecting, collect-start, collect-pass, collect-strip, collect-turn, collect-end}
 use Rattle.collect_finish.proofs.collect.Statement.{statement}
 use Rattle.collect_finish.proofs.collect.Tie as tie
 
 abbrev Inv-loop : tie.InvT-loop
 Inv-loop k map strips₀ plan shape corner work₀ pass₀ strips work pass =
-    (pass ≤ 4)
-    × (length strips ≡ length strips₀)
-    × Alone plan k (partOf plan k (mapOf plan map)) pass work
-    × (strips ≡ slotWritten plan k (aloneWord plan (mapOf plan map) k) pass strips₀)
+    Collecting plan k (mapOf plan map) strips₀ strips pass work
 
 abbrev μ-loop : tie.MeasureT-loop
 μ-loop k map strips₀ plan shape corner work₀ pass₀ strips work pass = 4 - pass
 
+-- ---- stations: each is reached from a later one
+
+abbrev start : tie.After-block-shape Inv-loop μ-loop → tie.Start Inv-loop μ-loop
+start c = c .before .before .before
+
+abbrev at-shape : tie.After-load-block Inv-loop μ-loop → tie.After-block-shape Inv-loop μ-loop
+at-shape c = c .before .before .before .before .before
+
+abbrev at-load : tie.At-loop Inv-loop μ-loop → tie.After-load-block Inv-loop μ-loop
+at-load c = c .before .before
+
+abbrev in-turn : tie.After-filter-with-gain Inv-loop μ-loop → tie.In-loop Inv-loop μ-loop
+in-turn c = c .before .before
+
+abbrev at-filter : tie.After-run-block-pass Inv-loop μ-loop → tie.After-filter-with-gain Inv-loop μ-loop
+at-filter c = c .before .before
+
+abbrev at-pass : tie.After-gains-from Inv-loop μ-loop → tie.After-run-block-pass Inv-loop μ-loop
+at-pass c = c .before .before
+
+abbrev at-gain : tie.After-write-strip Inv-loop μ-loop → tie.After-gains-from Inv-loop μ-loop
+at-gain c = c .before .before .before
+
+-- ---- where the block lies
+
+placed : (c : tie.After-block-shape Inv-loop μ-loop)
+    → ShapedBlock (start c .args .t1) (start c .args .k) (c .block-shape .result)
+placed c = record { block = start c .pre .block; shaped = c .block-shape .ensures }
+
+abbrev shape-at-loop : tie.At-loop Inv-loop μ-loop → tie.After-block-shape Inv-loop μ-loop
+shape-at-loop c = at-shape (at-load c)
+
+-- ---- needs
+
 block-shape-requires : tie.Need-block-shape-requires Inv-loop μ-loop
-block-shape-requires c κs = search needs
+block-shape-requires c κs = let block = c .before .before .pre .block in in-grid _ (block .kept) _ (block .counted)
 
 mul-corner : tie.Need-mul-corner Inv-loop μ-loop
-mul-corner c =
-    let s = c .before .before .before in
-    omega (arith, corner-in-map (s .args .t1) (s .args .k) _ _ (c .before .block-shape .ensures) (s .pre .0) (s .pre .1) (s .pre .2))
+mul-corner c = let b = c .before .before in omega (arith, corner-in-map (placed b) (start b .pre .map-long))
 
 add-corner : tie.Need-add-corner Inv-loop μ-loop
-add-corner c =
-    let s = c .before .before .before .before in
-    omega (arith, corner-in-map (s .args .t1) (s .args .k) _ _ (c .before .before .block-shape .ensures) (s .pre .0) (s .pre .1) (s .pre .2))
+add-corner c = let b = c .before .before .before in omega (arith, corner-in-map (placed b) (start b .pre .map-long))
 
 slice-aggregate-load-block : tie.Need-slice-aggregate-load-block Inv-loop μ-loop
 slice-aggregate-load-block c = search needs
 
 load-block-requires : tie.Need-load-block-requires Inv-loop μ-loop
 load-block-requires c κs =
-    let s = c .before .before .before .before .before in
-    let shaped = c .before .before .before .block-shape .ensures in (
-      block-in-map (s .args .t1) (s .args .k) _ _ shaped (s .pre .0) (s .pre .1) (s .pre .2),
-      shape-in-work (s .args .t1) (s .args .k) 0 _ shaped (s .pre .0) (s .pre .1),
-      blank-clear _,
-    )
+    let b = c .before .before .before .before in
+    record { inside = block-in-map (placed b) (start b .pre .map-long); held = shape-in-work (placed b); clear = blank-clear _ }
 
 loop-holds : tie.Need-loop-holds Inv-loop μ-loop
 loop-holds c =
-    let s = c .before .before .before .before .before .before .before in
-    let shaped = c .before .before .before .before .before .block-shape .ensures in (
-      omega arith,
-      refl,
-      alone-start (s .args .t1) (s .args .k) (s .pre .0) (s .pre .1) (s .args .map .now) _ _ shaped (c .before .load-block .ensures),
-      sym (slot-none (s .args .t1) (s .args .k) _ _),
-    )
+    let b = at-shape (c .before) in collect-start (placed b) (start b .args .map .now) (c .before .load-block .ensures)
 
 mul-described : tie.Need-mul-described Inv-loop μ-loop
 mul-described c = search needs
@@ -75,12 +87,11 @@ slice-aggregate-run-block-pass c = search needs
 
 run-block-pass-requires : tie.Need-run-block-pass-requires Inv-loop μ-loop
 run-block-pass-requires c κs =
-    let l = c .before .before .before .before in
-    let s = l .before .before .before .before .before .before .before .before in (
-      collect-words-order (s .args .t1) (l .loop .pass) (s .pre .0) (omega arith) _ (c .before .filter-with-gain .ensures),
-      shape-in-work (s .args .t1) (s .args .k) 0 _ (l .before .before .before .before .before .before .block-shape .ensures) (s .pre .0) (s .pre .1),
-      l .loop .inv .2 .block .sized,
-    )
+    let f = c .before in
+    let t = in-turn f in
+    let l = t .before in
+    let b = shape-at-loop l in
+    collect-pass (placed b) (l .loop .inv) (t .loop-test .taken) (f .filter-with-gain .ensures)
 
 add-gains-from : tie.Need-add-gains-from Inv-loop μ-loop
 add-gains-from c = search needs
@@ -93,15 +104,13 @@ slice-aggregate-write-strip c = search needs
 
 write-strip-requires : tie.Need-write-strip-requires Inv-loop μ-loop
 write-strip-requires c κs =
-    let l = c .before .before .before .before .before .before .before .before .before in
-    let s = l .before .before .before .before .before .before .before .before in (
-      s .pre .0,
-      s .pre .1,
-      c .before .before .before .before .before .before .before .before .loop-test .taken,
-      l .before .before .before .before .before .before .block-shape .ensures,
-      c .before .before .before .before .run-block-pass .kept .1 .1 .1 .0 ∙ l .loop .inv .2 .block .sized,
-      omega (arith, l .loop .inv .1, s .pre .3),
-    )
+    let p = at-pass (c .before .before) in
+    let f = at-filter p in
+    let t = in-turn f in
+    let l = t .before in
+    let b = shape-at-loop l in
+    collect-strip (placed b) (l .loop .inv) (t .loop-test .taken) (f .filter-with-gain .ensures)
+    (p .run-block-pass .ensures) (start b .pre .strips-long)
 
 add-pass : tie.Need-add-pass Inv-loop μ-loop
 add-pass c = search needs
@@ -111,30 +120,21 @@ loop-less c = search needs
 
 loop-again : tie.Need-loop-again Inv-loop μ-loop
 loop-again c =
-    let l = c .before .before .before .before .before .before .before .before .before .before .before .before in
-    let s = l .before .before .before .before .before .before .before .before in
-    let kept = s .pre .0 in
-    let here = s .pre .1 in
-    let counted = c .before .before .before .before .before .before .before .before .before .before .before .loop-test .taken in
-    let shaped = l .before .before .before .before .before .before .block-shape .ensures in
-    let alone = alone-turn (s .args .t1) (s .args .k) kept here _ (l .loop .pass) counted _ _ _ shaped _ (c .before .before .before .before .before .before .before .before .before .filter-with-gain .ensures)
-    (c .before .before .before .before .before .before .before .run-block-pass .ensures) (l .loop .inv .2) in (
-      omega arith,
-      omega (arith, c .before .before .write-strip .kept, l .loop .inv .1),
-      alone,
-      slot-more (s .args .t1) (s .args .k) (l .loop .pass) kept here counted (mapOf (s .args .t1) (s .args .map .now)) _ alone _
-          (c .before .before .before .before .before .gains-from .ensures) (s .args .strips .now) (l .loop .strips) _ (l .loop .inv .3) (c .before .before .write-strip .ensures),
-    )
+    let w = c .before .before in
+    let g = at-gain w in
+    let p = at-pass g in
+    let f = at-filter p in
+    let t = in-turn f in
+    let l = t .before in
+    let b = shape-at-loop l in
+    collect-turn (placed b) (l .loop .inv) (t .loop-test .taken) (f .filter-with-gain .ensures)
+    (p .run-block-pass .ensures) (g .gains-from .ensures) (w .write-strip .ensures)
 
 same-length : tie.Need-same-length Inv-loop μ-loop
 same-length c = search needs
 
 returns : tie.Need-returns Inv-loop μ-loop
-unfolding collected
-returns c =
-    let l = c .before in
-    let e : l .loop .pass ≡ 4 = omega arith in
-    rw e at (l .loop .inv .3)
+returns c = collect-end (c .before .loop .inv) (c .loop-test .left)
 
 pub collect-spec : {M : Type 1} → statement M
 collect-spec =

@@ -1,41 +1,44 @@
 -- `copy_rectangle` has copied the rows passed so far, times the gain.
-use mathlib.Core.Path.{_≡_, refl}
 use Prim.Native.Nat.{_+_, _*_, _-_, _≤_}
 use native.Mathlib.Omega.{arith}
 use borrow.Author.Needs.{needs}
 use lib.ListN.{length}
-use Rattle.collect_finish.specs.Copies.{rowWritten, gridPlace, gridScaled, gridWritten}
-use Rattle.collect_finish.proofs.Copies.{rectangle-none, rectangle-more}
+use Rattle.buffer.specs.Copies.{strideScaled}
+use Rattle.collect_finish.proofs.CopiedRows.{RowsWritten, rows-none, rows-all, scaled-more}
 use Rattle.collect_finish.proofs.copy_rectangle.Statement.{statement}
 use Rattle.collect_finish.proofs.copy_rectangle.Tie as tie
 
 abbrev Inv-loop : tie.InvT-loop
 Inv-loop from from-start from-stride to₀ to-start to-stride height width gain row₀ to row =
-    (row ≤ height)
-    × (length to ≡ length to₀)
-    × (to ≡ gridWritten to-start to-stride width (gridScaled gain from from-start from-stride) row to₀)
+    RowsWritten to-start to-stride width (strideScaled gain from from-start from-stride) height row to₀ to
 
 abbrev μ-loop : tie.MeasureT-loop
 μ-loop from from-start from-stride to₀ to-start to-stride height width gain row₀ to row = height - row
 
--- This row is in both buffers.
+-- ---- stations
+
+abbrev start : tie.At-loop Inv-loop μ-loop → tie.Start Inv-loop μ-loop
+start c = c .before .before .before
+
+abbrev in-turn : tie.After-copy-row Inv-loop μ-loop → tie.In-loop Inv-loop μ-loop
+in-turn c = c .before .before
+
+-- ---- this row is in both buffers
+
 row-in-from : (c : tie.In-loop Inv-loop μ-loop)
-    → let a = c .before .before .before .before .args in
+    → let a = start (c .before) .args in
     a .from-start + c .before .loop .row * a .from-stride + a .width ≤ length (a .from .now)
-row-in-from c = c .before .before .before .before .pre .0 .row (c .before .loop .row) (omega arith)
+row-in-from c = start (c .before) .pre .0 .row _ (c .loop-test .taken)
 
 row-in-to : (c : tie.In-loop Inv-loop μ-loop)
-    → let a = c .before .before .before .before .args in
+    → let a = start (c .before) .args in
     a .to-start + c .before .loop .row * a .to-stride + a .width ≤ length (a .to .now)
-row-in-to c = c .before .before .before .before .pre .1 .row (c .before .loop .row) (omega arith)
+row-in-to c = start (c .before) .pre .1 .row _ (c .loop-test .taken)
+
+-- ---- needs
 
 loop-holds : tie.Need-loop-holds Inv-loop μ-loop
-loop-holds c =
-    let a = c .before .before .args in (
-      omega arith,
-      refl,
-      rectangle-none (gridPlace (a .to-start) (a .to-stride)) (gridScaled (a .gain) (a .from .now) (a .from-start) (a .from-stride)) _ _,
-    )
+loop-holds c = rows-none
 
 mul-copy-row : tie.Need-mul-copy-row Inv-loop μ-loop
 mul-copy-row c = let h = row-in-from c in omega arith
@@ -50,7 +53,8 @@ add-copy-row-2 : tie.Need-add-copy-row-2 Inv-loop μ-loop
 add-copy-row-2 c = let h = row-in-to (c .before) in omega arith
 
 copy-row-requires : tie.Need-copy-row-requires Inv-loop μ-loop
-copy-row-requires c κs = (row-in-from (c .before), rw (c .before .before .loop .inv .1) (row-in-to (c .before)))
+copy-row-requires c κs =
+    let t = c .before in (row-in-from t, rw (t .before .loop .inv .length-kept) (row-in-to t))
 
 add-row : tie.Need-add-row Inv-loop μ-loop
 add-row c = search needs
@@ -59,24 +63,19 @@ loop-less : tie.Need-loop-less Inv-loop μ-loop
 loop-less c = search needs
 
 loop-again : tie.Need-loop-again Inv-loop μ-loop
-unfolding rowWritten
 loop-again c =
-    let f = c .before .before in
-    let l = f .before .before .before in
-    let a = l .before .before .before .args in (
-      omega arith,
-      omega (arith, f .copy-row .kept, l .loop .inv .1),
-      rectangle-more (gridPlace (a .to-start) (a .to-stride)) (gridScaled (a .gain) (a .from .now) (a .from-start) (a .from-stride)) _
-          (l .loop .row) _ (l .loop .to) _ (l .loop .inv .2) (f .copy-row .ensures),
-    )
+    let d = c .before .before in
+    let t = in-turn d in
+    let l = t .before in
+    let a = start l .args in
+    scaled-more (a .gain) (a .from .now) (a .from-start) (a .from-stride) (l .loop .inv) (t .loop-test .taken)
+    (d .copy-row .ensures)
 
 same-length : tie.Need-same-length Inv-loop μ-loop
 same-length c = search needs
 
 returns : tie.Need-returns Inv-loop μ-loop
-returns c =
-    let e : c .before .loop .row ≡ c .before .before .before .before .args .height = omega arith in
-    rw e at (c .before .loop .inv .2)
+returns c = rows-all (c .before .loop .inv) (c .loop-test .left)
 
 pub copy-rectangle-spec : {M : Type 1} → statement M
 copy-rectangle-spec =

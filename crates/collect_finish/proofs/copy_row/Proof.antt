@@ -1,8 +1,7 @@
 -- `copy_row` copies or multiplies: gain 1 changes nothing.
-use mathlib.Core.Path.{_∙_}
 use native.Mathlib.Omega.{arith}
 use borrow.Author.Needs.{needs}
-use Rattle.collect_finish.proofs.Copies.{row-unscaled}
+use Rattle.collect_finish.proofs.CopiedRows.{unscaled-row}
 use Rattle.collect_finish.proofs.copy_row.Statement.{statement}
 use Rattle.collect_finish.proofs.copy_row.Tie as tie
 
@@ -17,14 +16,12 @@ same-length c = search needs
 
 returns : tie.Need-returns
 returns c =
-    let r = c .before .before in
-    let t = r .before .before in
-    let k = t .before .before in
-    let a = k .before .args in
-    rw (t .if1 .taken)
-    (r .copy-words .ensures
-    ∙ row-unscaled (a .to-start) (a .from .now) (a .from-start) (a .count) (a .to .now)
-    (λ i. omega (arith, k .shared-slice-known .given i)))
+    let d = c .before .before in
+    let t = d .before .before in
+    let known = t .before .before in
+    let a = known .before .args in
+    unscaled-row (a .gain) (a .to-start) (a .from .now) (a .from-start) (a .count) (a .to .now) (t .if1 .taken)
+    (λ i. omega (arith, known .shared-slice-known .given i)) (d .copy-words .ensures)
 
 same-length-2 : tie.Need-same-length-2
 same-length-2 c = search needs

@@ -1,72 +1,103 @@
 -- `finish` has run the passes so far in the work array with all gains in the first, the neighbours' strips past the block's
 -- edges times the gains of the passes after each.
-use mathlib.Core.Path.{_≡_, _∙_}
-use Prim.Native.Nat.{_-_, _≤_}
+use Prim.Native.Nat.{_-_}
 use native.Mathlib.Omega.{arith}
 use borrow.Author.Needs.{needs}
-use Rattle.task_words.specs.Geometry.{partOf}
-use Rattle.task_words.specs.Writes.{mapOf}
-use Rattle.collect_finish.proofs.Work.{shape-in-work, block-in-work, block-in-map, corner-in-map}
-use Rattle.collect_finish.proofs.Cells.{blank-clear}
-use Rattle.collect_finish.proofs.Passes.{finishFilters, finishEdges, finish-words-order, Holds, MarginsClear, finish-turn, clear-turn}
-use Rattle.collect_finish.proofs.Images.{holds-start, margins-start, finish-end}
+use Rattle.plan.proofs.Record.{in-grid}
+use Rattle.filter.specs.PlanFilters.{mapOf}
+use Rattle.collect_finish.specs.WorkFits.{ShapedBlock}
+use Rattle.collect_finish.proofs.WorkPlaces.{shape-in-work, block-in-work, block-in-map, corner-in-map}
+use Rattle.collect_finish.proofs.WorkCells.{blank-clear}
+use Rattle.collect_finish.proofs.Finishing.{Finishing, finish-start, finish-margin, finish-pass, finish-turn, finish-end}
 use Rattle.collect_finish.proofs.finish.Statement.{statement}
 use Rattle.collect_finish.proofs.finish.Tie as tie
 
 abbrev Inv-loop : tie.InvT-loop
-Inv-loop plan k map strips output shape corner work₀ pass₀ work pass =
-    (pass ≤ 4)
-    × Holds plan k (finishFilters plan) (finishEdges plan strips k) (partOf plan k (mapOf plan map)) pass work
-    × MarginsClear plan k pass work
+Inv-loop plan k map strips output grid shape corner work₀ pass₀ work pass = Finishing plan k (mapOf plan map) strips pass work
 
 abbrev μ-loop : tie.MeasureT-loop
-μ-loop plan k map strips output shape corner work₀ pass₀ work pass = 4 - pass
+μ-loop plan k map strips output grid shape corner work₀ pass₀ work pass = 4 - pass
+
+-- ---- stations: each is reached from a later one
+
+abbrev start : tie.After-block-shape Inv-loop μ-loop → tie.Start Inv-loop μ-loop
+start c = c .before .before .before .before
+
+abbrev at-shape : tie.After-touch-output Inv-loop μ-loop → tie.After-block-shape Inv-loop μ-loop
+at-shape c = c .before .before .before .before .before .before
+
+abbrev at-touch : tie.After-load-block Inv-loop μ-loop → tie.After-touch-output Inv-loop μ-loop
+at-touch c = c .before .before .before
+
+abbrev at-load : tie.At-loop Inv-loop μ-loop → tie.After-load-block Inv-loop μ-loop
+at-load c = c .before .before
+
+abbrev in-turn : tie.After-gains-from Inv-loop μ-loop → tie.In-loop Inv-loop μ-loop
+in-turn c = c .before
+
+abbrev at-gain : tie.After-load-margin Inv-loop μ-loop → tie.After-gains-from Inv-loop μ-loop
+at-gain c = c .before .before
+
+abbrev at-margin : tie.After-gains-first Inv-loop μ-loop → tie.After-load-margin Inv-loop μ-loop
+at-margin c = c .before .before
+
+abbrev at-filter : tie.After-run-block-pass Inv-loop μ-loop → tie.After-gains-first Inv-loop μ-loop
+at-filter c = c .before .before
+
+abbrev after-turns : tie.After-copy-rectangle-arg Inv-loop μ-loop → tie.After-loop Inv-loop μ-loop
+after-turns c = c .before .before
+
+-- ---- where the block lies
+
+placed : (c : tie.After-block-shape Inv-loop μ-loop)
+    → ShapedBlock (start c .args .plan) (start c .args .k) (c .block-shape .result)
+placed c = record { block = start c .pre .block; shaped = c .block-shape .ensures }
+
+abbrev shape-at-loop : tie.At-loop Inv-loop μ-loop → tie.After-block-shape Inv-loop μ-loop
+shape-at-loop c = at-shape (at-touch (at-load c))
+
+-- ---- needs
 
 block-shape-requires : tie.Need-block-shape-requires Inv-loop μ-loop
-block-shape-requires c κs = search needs
+block-shape-requires c κs =
+    let block = c .before .before .before .pre .block in in-grid _ (block .kept) _ (block .counted)
 
 mul-corner : tie.Need-mul-corner Inv-loop μ-loop
-mul-corner c =
-    let s = c .before .before .before .before .before in
-    omega (arith, corner-in-map (s .args .plan) (s .args .k) _ _ (c .before .before .block-shape .ensures) (s .pre .0) (s .pre .1) (s .pre .2))
+mul-corner c = let b = c .before .before in omega (arith, corner-in-map (placed b) (start b .pre .map-long))
 
 add-corner : tie.Need-add-corner Inv-loop μ-loop
-add-corner c =
-    let s = c .before .before .before .before .before .before in
-    omega (arith, corner-in-map (s .args .plan) (s .args .k) _ _ (c .before .before .before .block-shape .ensures) (s .pre .0) (s .pre .1) (s .pre .2))
+add-corner c = let b = c .before .before .before in omega (arith, corner-in-map (placed b) (start b .pre .map-long))
 
 slice-aggregate-touch-output : tie.Need-slice-aggregate-touch-output Inv-loop μ-loop
 slice-aggregate-touch-output c = search needs
 
 touch-output-requires : tie.Need-touch-output-requires Inv-loop μ-loop
 touch-output-requires c κs =
-    let s = c .before .before .before .before .before .before .before .before in
-    let shaped = c .before .before .before .before .before .block-shape .ensures in (
-      block-in-map (s .args .plan) (s .args .k) _ _ shaped (s .pre .0) (s .pre .1) (s .pre .4),
-      shape-in-work (s .args .plan) (s .args .k) 0 _ shaped (s .pre .0) (s .pre .1),
-      blank-clear _,
-    )
+    let b = c .before .before .before .before .before in
+    record {
+      inside = block-in-map (placed b) (start b .pre .output-long);
+      held = shape-in-work (placed b);
+      clear = blank-clear _;
+    }
 
 slice-aggregate-load-block : tie.Need-slice-aggregate-load-block Inv-loop μ-loop
 slice-aggregate-load-block c = search needs
 
 load-block-requires : tie.Need-load-block-requires Inv-loop μ-loop
 load-block-requires c κs =
-    let s = c .before .before .before .before .before .before .before .before .before .before .before in
-    let shaped = c .before .before .before .before .before .before .before .before .block-shape .ensures in (
-      block-in-map (s .args .plan) (s .args .k) _ _ shaped (s .pre .0) (s .pre .1) (s .pre .2),
-      shape-in-work (s .args .plan) (s .args .k) 0 _ shaped (s .pre .0) (s .pre .1),
-      c .before .before .touch-output .ensures,
-    )
+    let t = c .before .before in
+    let b = at-shape t in
+    record {
+      inside = block-in-map (placed b) (start b .pre .map-long);
+      held = shape-in-work (placed b);
+      clear = t .touch-output .ensures;
+    }
 
 loop-holds : tie.Need-loop-holds Inv-loop μ-loop
 loop-holds c =
-    let s = c .before .before .before .before .before .before .before .before .before .before .before .before .before in
-    let shaped = c .before .before .before .before .before .before .before .before .before .before .block-shape .ensures in (
-      omega arith,
-      holds-start (s .args .plan) (s .args .k) (s .pre .0) (s .pre .1) (s .args .map .now) _ _ shaped (c .before .load-block .ensures) _ _,
-      margins-start (s .args .plan) (s .args .k) (s .pre .0) (s .pre .1) (s .args .map .now) _ _ shaped (c .before .load-block .ensures),
-    )
+    let l = c .before in
+    let b = at-shape (at-touch l) in
+    finish-start (placed b) (start b .args .map .now) (l .load-block .ensures)
 
 add-gains-from : tie.Need-add-gains-from Inv-loop μ-loop
 add-gains-from c = search needs
@@ -82,17 +113,10 @@ slice-aggregate-load-margin c = search needs
 
 load-margin-requires : tie.Need-load-margin-requires Inv-loop μ-loop
 load-margin-requires c κs =
-    let l = c .before .before .before in
-    let s = l .before .before .before .before .before .before .before .before .before .before .before .before .before .before in
-    let shaped = l .before .before .before .before .before .before .before .before .before .before .before .block-shape .ensures in (
-      s .pre .0,
-      s .pre .1,
-      omega arith,
-      shaped,
-      s .pre .3,
-      l .loop .inv .1 .sized,
-      rw shaped (l .loop .inv .2 .of (l .loop .pass) (omega arith) (omega arith)),
-    )
+    let t = in-turn (c .before) in
+    let l = t .before in
+    let b = shape-at-loop l in
+    finish-margin (placed b) (l .loop .inv) (t .loop-test .taken) (start b .pre .strips-long)
 
 gains-first-requires : tie.Need-gains-first-requires Inv-loop μ-loop
 gains-first-requires c κs = search needs
@@ -102,12 +126,13 @@ slice-aggregate-run-block-pass c = search needs
 
 run-block-pass-requires : tie.Need-run-block-pass-requires Inv-loop μ-loop
 run-block-pass-requires c κs =
-    let l = c .before .before .before .before .before .before .before in
-    let s = l .before .before .before .before .before .before .before .before .before .before .before .before .before .before in (
-      finish-words-order (s .args .plan) (l .loop .pass) (s .pre .0) (omega arith) _ (c .before .gains-first .ensures),
-      shape-in-work (s .args .plan) (s .args .k) 0 _ (l .before .before .before .before .before .before .before .before .before .before .before .block-shape .ensures) (s .pre .0) (s .pre .1),
-      c .before .before .before .load-margin .ensures .length-kept ∙ l .loop .inv .1 .sized,
-    )
+    let f = c .before in
+    let m = at-margin f in
+    let g = at-gain m in
+    let t = in-turn g in
+    let l = t .before in
+    finish-pass (placed (shape-at-loop l)) (l .loop .inv) (t .loop-test .taken) (g .gains-from .ensures)
+    (m .load-margin .ensures) (f .gains-first .ensures)
 
 add-pass : tie.Need-add-pass Inv-loop μ-loop
 add-pass c = search needs
@@ -117,18 +142,14 @@ loop-less c = search needs
 
 loop-again : tie.Need-loop-again Inv-loop μ-loop
 loop-again c =
-    let l = c .before .before .before .before .before .before .before .before .before in
-    let s = l .before .before .before .before .before .before .before .before .before .before .before .before .before .before in
-    let counted = c .before .before .before .before .before .before .before .before .loop-test .taken in
-    let shaped = l .before .before .before .before .before .before .before .before .before .before .before .block-shape .ensures in (
-      omega (arith, counted),
-      finish-turn (s .args .plan) (s .args .k) (s .pre .0) (s .pre .1) (s .args .strips .now) _ (l .loop .pass) counted _ _
-          (l .loop .inv .1) (l .loop .inv .2) _ shaped _ (c .before .before .before .before .before .before .before .gains-from .ensures) (c .before .before .before .before .before .load-margin .ensures) _
-          (c .before .before .before .gains-first .ensures) _ (c .before .run-block-pass .ensures),
-      clear-turn (s .args .plan) (s .args .k) (s .pre .0) (s .pre .1) (s .args .strips .now) _ (l .loop .pass) counted _ _
-          (l .loop .inv .1) (l .loop .inv .2) _ shaped _ (c .before .before .before .before .before .before .before .gains-from .ensures) (c .before .before .before .before .before .load-margin .ensures) _
-          (c .before .before .before .gains-first .ensures) _ (c .before .run-block-pass .ensures),
-    )
+    let p = c .before in
+    let f = at-filter p in
+    let m = at-margin f in
+    let g = at-gain m in
+    let t = in-turn g in
+    let l = t .before in
+    finish-turn (placed (shape-at-loop l)) (l .loop .inv) (t .loop-test .taken) (g .gains-from .ensures)
+    (m .load-margin .ensures) (f .gains-first .ensures) (p .run-block-pass .ensures)
 
 slice-aggregate-copy-rectangle : tie.Need-slice-aggregate-copy-rectangle Inv-loop μ-loop
 slice-aggregate-copy-rectangle c = search needs
@@ -141,22 +162,19 @@ add-copy-rectangle c = search needs
 
 copy-rectangle-requires : tie.Need-copy-rectangle-requires Inv-loop μ-loop
 copy-rectangle-requires c κs =
-    let s = c .before .before .before .before .before .before .before .before .before .before .before .before .before .before .before .before .before in
-    let shaped = c .before .before .before .before .before .before .before .before .before .before .before .before .before .before .block-shape .ensures in (
-      block-in-work (s .args .plan) (s .args .k) _ _ shaped (s .pre .0) (s .pre .1) (c .before .before .before .loop .inv .1 .sized),
-      block-in-map (s .args .plan) (s .args .k) _ _ shaped (s .pre .0) (s .pre .1) (s .pre .4),
-    )
+    let l = after-turns c .before in
+    let b = shape-at-loop l in
+    (block-in-work (placed b) (l .loop .inv .holds .sized), block-in-map (placed b) (start b .pre .output-long))
 
 same-length : tie.Need-same-length Inv-loop μ-loop
 same-length c = search needs
 
 returns : tie.Need-returns Inv-loop μ-loop
 returns c =
-    let s = c .before .before .before .before .before .before .before .before .before .before .before .before .before .before .before .before .before .before .before .before in
-    let l = c .before .before .before .before .before .before in
-    let e : l .loop .pass ≡ 4 = omega arith in
-    finish-end (s .args .plan) (s .args .k) (s .pre .0) (s .pre .1) (mapOf (s .args .plan) (s .args .map .now)) (s .args .strips .now) (l .loop .work)
-    (s .args .output .now) _ _ (c .before .before .before .before .before .before .before .before .before .before .before .before .before .before .before .before .before .block-shape .ensures) (rw e at (l .loop .inv .1)) (c .before .before .copy-rectangle .ensures)
+    let d = c .before .before in
+    let e = after-turns (d .before) in
+    let b = shape-at-loop (e .before) in
+    finish-end (placed b) (e .before .loop .inv) (e .loop-test .left) (start b .args .output .now) (d .copy-rectangle .ensures)
 
 pub finish-spec : {M : Type 1} → statement M
 finish-spec =

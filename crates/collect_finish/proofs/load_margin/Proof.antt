@@ -1,42 +1,54 @@
 -- `load_margin` copies the neighbour's rectangle of the strip, times the gain, into the margin.
-use mathlib.Core.Path.{_≡_, ap, _∙_}
+use mathlib.Core.Path.{_≡_, refl, ap, _∙_}
 use native.Mathlib.Omega.{arith}
 use borrow.Author.Needs.{needs}
 use lib.ListN.{length}
 use Prim.Native.Nat.{_+_, _≤_}
-use Rattle.plan.proofs.Record.{order-limited-at}
-use Rattle.passes.specs.Passes.{axisOf, directionOf, along, across}
-use Rattle.task_words.specs.Strips.{orderOf}
-use Rattle.collect_finish.specs.Work.{workStride, marginStart}
-use Rattle.collect_finish.proofs.Neighbours.{StripLies}
-use Rattle.collect_finish.proofs.Loads.{extent-small, strip-lies, first-in-work, strip-in-work, strip-loaded}
+use Rattle.axis.specs.Axis.{axisOf, directionOf}
+use Rattle.plan.specs.Sizes.{orderOf}
+use Rattle.collect_finish.specs.Work.{workStride, linesOf, marginStart, marginFirst}
+use Rattle.collect_finish.proofs.WorkPlaces.{edge-asked}
+use Rattle.collect_finish.proofs.StripRectangles.{StripLies}
+use Rattle.collect_finish.proofs.MarginLoads.{strip-lies, first-in-work, strip-in-strips, strip-in-work, strip-loaded}
 use Rattle.collect_finish.proofs.load_margin.Statement.{statement}
 use Rattle.collect_finish.proofs.load_margin.Tie as tie
 
+-- ---- stations
+
+abbrev start : tie.After-strip-before → tie.Start
+start c = c .before .before .before .before
+
+abbrev at-strip : tie.After-along → tie.After-strip-before
+at-strip c = c .before .before .before .before
+
+abbrev at-margin : tie.After-along2 → tie.After-margin-start
+at-margin c = c .before
+
+abbrev at-steps : tie.After-across → tie.After-along2
+at-steps c = c .before .before .before .before
+
+-- ---- what is known there
+
 lies : (c : tie.After-strip-before)
-    → let a = c .before .before .before .before .args in
-    StripLies (axisOf (a .pass)) (length (a .strips .now)) (orderOf (a .t1) (a .pass))
-    (across (axisOf (a .pass)) (a .shape .rows) (a .shape .columns)) (c .strip-before .result)
-lies c =
-    let s = c .before .before .before .before in
-    strip-lies (s .args .t1) (s .args .k) (s .args .pass) (s .pre .0) (s .pre .1) (s .pre .2) (s .args .shape) (s .pre .3) _
-    (c .strip-before .ensures) _ (s .pre .4)
+    → let a = start c .args in
+    StripLies (axisOf (a .pass)) (length (a .strips .now)) (orderOf (a .t1) (a .pass)) (linesOf (a .shape) (a .pass))
+    (c .strip-before .result)
+lies c = strip-lies (start c .pre .moves) (c .strip-before .ensures)
 
 -- Where the margin starts.
 start-is : (c : tie.After-margin-start)
-    → let a = c .before .before .before .before .before .before .before .before .before .args in
-    c .margin-start .result
-    ≡ marginStart (directionOf (a .pass)) (orderOf (a .t1) (a .pass)) (along (axisOf (a .pass)) (a .shape .rows) (a .shape .columns))
+    → let a = start (at-strip (c .before)) .args in
+    c .margin-start .result ≡ marginFirst (a .t1) (a .shape) (a .pass)
 start-is c =
-    let a = c .before .before .before .before .before .before .before .before .before .args in
+    let a = start (at-strip (c .before)) .args in
     c .margin-start .ensures ∙ ap (marginStart (directionOf (a .pass)) (orderOf (a .t1) (a .pass))) (c .before .along .ensures)
 
-index-small : (c : tie.After-margin-start) → c .margin-start .result + c .before .before .before .before .before .strip-before .result .first ≤ workStride
+index-small : (c : tie.After-margin-start)
+    → c .margin-start .result + at-strip (c .before) .strip-before .result .first ≤ workStride
 index-small c =
-    let b = c .before .before .before .before .before in
-    let s = b .before .before .before .before in
-    first-in-work (s .args .t1) (s .args .k) (s .args .pass) (s .pre .0) (s .pre .1) (s .pre .2) (s .args .shape) (s .pre .3) _
-    (b .strip-before .ensures) _ (s .pre .4) _ (start-is c)
+    let b = at-strip (c .before) in first-in-work (start b .pre .moves) (b .strip-before .ensures) (start-is c)
+
+-- ---- needs
 
 mul-described : tie.Need-mul-described
 mul-described c = search needs
@@ -60,12 +72,7 @@ along-requires : tie.Need-along-requires
 along-requires c κs = search needs
 
 margin-start-requires : tie.Need-margin-start-requires
-margin-start-requires c κs =
-    let s = c .before .before .before .before .before .before .before .before in (
-      order-limited-at (s .args .t1) (s .pre .0) (s .args .pass) (s .pre .2),
-      rw (c .along .ensures)
-          (extent-small (s .args .t1) (s .args .k) (s .args .pass) (s .pre .0) (s .pre .1) (s .pre .2) (s .args .shape) (s .pre .3)),
-    )
+margin-start-requires c κs = edge-asked (start (at-strip c) .pre .moves) (c .along .ensures)
 
 add-index : tie.Need-add-index
 add-index c = omega (arith, index-small c)
@@ -74,7 +81,7 @@ along-requires-2 : tie.Need-along-requires-2
 along-requires-2 c κs = search needs
 
 work-place-requires : tie.Need-work-place-requires
-work-place-requires c κs = index-small (c .before .before)
+work-place-requires c κs = index-small (at-margin (c .before))
 
 along-requires-3 : tie.Need-along-requires-3
 along-requires-3 c κs = search needs
@@ -84,13 +91,14 @@ across-requires c κs = search needs
 
 copy-rectangle-requires : tie.Need-copy-rectangle-requires
 copy-rectangle-requires c κs =
-    let m = c .before .before .before .before .before in
-    let b = m .before .before .before .before .before in
-    let s = b .before .before .before .before in (
-      rw (c .before .before .before .before .along2 .ensures, c .before .along3 .ensures, c .across .ensures) (lies b .grid-in),
-      rw (c .before .before .work-place .ensures, c .before .along3 .ensures, c .across .ensures)
-          (strip-in-work (s .args .t1) (s .args .k) (s .args .pass) (s .pre .0) (s .pre .1) (s .pre .2) (s .args .shape) (s .pre .3) _
-          (b .strip-before .ensures) _ (s .pre .4) _ (start-is m) _ (s .pre .5)),
+    let t = at-steps c in
+    let m = at-margin t in
+    let b = at-strip (m .before) in
+    let step = t .along2 .ensures in
+    let place = c .before .before .work-place .ensures in
+    let tall = c .before .along3 .ensures in (
+      strip-in-strips (start b .pre .moves) (b .strip-before .ensures) (start-is m) step place tall (c .across .ensures),
+      strip-in-work (start b .pre .moves) (b .strip-before .ensures) (start-is m) step place tall (c .across .ensures),
     )
 
 same-length : tie.Need-same-length
@@ -98,18 +106,16 @@ same-length c = search needs
 
 returns : tie.Need-returns
 returns c =
-    let w = c .before .before .before in
-    let m = w .before .before .before .before .before in
-    let b = m .before .before .before .before .before in
-    let s = b .before .before .before .before in
-    strip-loaded (s .args .t1) (s .args .k) (s .args .pass) (s .pre .0) (s .pre .1) (s .pre .2) (s .args .shape) (s .pre .3) _
-    (b .strip-before .ensures) _ (s .pre .4) _ (start-is m) _ _ _ _ (s .pre .5) (s .pre .6)
-    (rw (
-      w .before .before .before .before .along2 .ensures,
-      w .before .before .work-place .ensures,
-      w .before .along3 .ensures,
-      w .across .ensures,
-    ) at (c .before .before .copy-rectangle .ensures))
+    let d = c .before .before in
+    let x = d .before in
+    let t = at-steps x in
+    let m = at-margin t in
+    let b = at-strip (m .before) in
+    let fits = start b .pre in
+    let a = start b .args in
+    strip-loaded (fits .moves) (b .strip-before .ensures) (start-is m) (t .along2 .ensures)
+    (x .before .before .work-place .ensures) (x .before .along3 .ensures) (x .across .ensures) (a .gain) (a .strips .now) refl
+    (fits .clear) (d .copy-rectangle .ensures)
 
 pub load-margin-spec : {M : Type 1} → statement M
 load-margin-spec =

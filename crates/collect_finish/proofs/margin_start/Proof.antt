@@ -1,20 +1,29 @@
--- `margin_start` is the start of the margin by direction.
+-- `margin_start` is the start of the margin, by the direction of the pass.
+use mathlib.Core.Path.{sym, _∙_}
 use borrow.Author.Needs.{needs}
-use Rattle.strips.proofs.Passes.{even-forward, odd-backward}
+use Rattle.axis.specs.Axis.{directionOf}
+use Rattle.axis.proofs.Passes.{runs-forward, runs-backward}
 use Rattle.collect_finish.proofs.margin_start.Statement.{statement}
 use Rattle.collect_finish.proofs.margin_start.Tie as tie
 
-sub-result : tie.Need-sub-result
-sub-result c = search needs
+is-backward-requires : tie.Need-is-backward-requires
+is-backward-requires c κs = search needs
 
 add-result : tie.Need-add-result
 add-result c = search needs
 
+sub-result : tie.Need-sub-result
+sub-result c = search needs
+
 returns : tie.Need-returns
-returns c = rw (even-forward _ (c .if1 .taken))
+returns c =
+    let b = c .before in
+    rw (runs-backward (directionOf (b .before .args .pass)) (sym (b .is-backward .ensures) ∙ c .if1 .taken))
 
 returns-2 : tie.Need-returns-2
-returns-2 c = rw (odd-backward _ (c .if1 .left))
+returns-2 c =
+    let b = c .before in
+    rw (runs-forward (directionOf (b .before .args .pass)) (sym (b .is-backward .ensures) ∙ c .if1 .left))
 
 pub margin-start-spec : {M : Type 1} → statement M
-margin-start-spec = tie.close (tie.spec sub-result add-result returns returns-2)
+margin-start-spec = tie.close (tie.spec is-backward-requires add-result sub-result returns returns-2)

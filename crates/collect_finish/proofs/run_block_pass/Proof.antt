@@ -1,14 +1,14 @@
 -- `run_block_pass` is the pass of its filter over the block.
 use borrow.Author.Needs.{needs}
 use Rattle.collect_finish.specs.Work.{blockPass}
-use Rattle.collect_finish.proofs.Work.{window-fits}
+use Rattle.collect_finish.proofs.WorkPlaces.{window-fits}
 use Rattle.collect_finish.proofs.run_block_pass.Statement.{statement}
 use Rattle.collect_finish.proofs.run_block_pass.Tie as tie
 
 run-pass-requires : tie.Need-run-pass-requires
 run-pass-requires c κs =
-    let s = c .before .before in
-    (s .pre .0, window-fits _ _ _ _ _ (s .pre .1) (s .pre .0) (s .pre .2))
+    let fits = c .before .before .pre in
+    (fits .limited, window-fits _ _ _ _ (fits .held) (fits .limited) (fits .sized))
 
 same-length : tie.Need-same-length
 same-length c = search needs

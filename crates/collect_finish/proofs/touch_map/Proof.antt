@@ -1,9 +1,11 @@
 -- `touch_map` leaves the work array 0 outside the block.
-use Prim.Native.Nat.{_+_, _-_, _*_, _≤_}
+use Prim.Native.Nat.{_+_, _-_, _*_}
 use native.Mathlib.Omega.{arith}
 use borrow.Author.Needs.{needs}
 use lib.ListN.{length}
 use Rattle.collect_finish.specs.Work.{ClearOutside}
+use Rattle.collect_finish.specs.WorkFits.{RowFits}
+use Rattle.collect_finish.proofs.WorkCells.{row-fits}
 use Rattle.collect_finish.proofs.touch_map.Statement.{statement}
 use Rattle.collect_finish.proofs.touch_map.Tie as tie
 
@@ -13,25 +15,34 @@ Inv-loop map start stride shape work₀ row₀ work row = ClearOutside shape wor
 abbrev μ-loop : tie.MeasureT-loop
 μ-loop map start stride shape work₀ row₀ work row = shape .rows - row
 
--- This row is in the map.
-row-in : (c : tie.Then1 Inv-loop μ-loop)
-    → let a = c .before .before .before .before .args in
-    a .start + c .before .before .loop .row * a .stride + a .shape .columns ≤ length (a .map .now)
-row-in c = c .before .before .before .before .pre .0 .row (c .before .before .loop .row) (c .if1 .taken)
+-- ---- stations
+
+abbrev start : tie.At-loop Inv-loop μ-loop → tie.Start Inv-loop μ-loop
+start c = c .before .before
+
+abbrev at-loop : tie.Then1 Inv-loop μ-loop → tie.At-loop Inv-loop μ-loop
+at-loop c = c .before .before
+
+-- What this row asks.
+row-asked : (c : tie.Then1 Inv-loop μ-loop)
+    → let l = at-loop c .loop in
+    let a = start (at-loop c) .args in
+    RowFits (length (a .map .now)) (a .start + l .row * a .stride) (a .shape) (l .row) (l .work)
+row-asked c = row-fits _ (start (at-loop c) .pre) (c .if1 .taken) (at-loop c .loop .inv)
+
+-- ---- needs
 
 loop-holds : tie.Need-loop-holds Inv-loop μ-loop
 loop-holds c = search needs
 
 mul-touch-map-row : tie.Need-mul-touch-map-row Inv-loop μ-loop
-mul-touch-map-row c = let h = row-in c in omega arith
+mul-touch-map-row c = omega (arith, row-asked c .inside)
 
 add-touch-map-row : tie.Need-add-touch-map-row Inv-loop μ-loop
-add-touch-map-row c = let h = row-in c in omega arith
+add-touch-map-row c = omega (arith, row-asked c .inside)
 
 touch-map-row-requires : tie.Need-touch-map-row-requires Inv-loop μ-loop
-touch-map-row-requires c κs =
-    let t = c .before in
-    (row-in t, t .if1 .taken, t .before .before .before .before .pre .1, t .before .before .loop .inv)
+touch-map-row-requires c κs = row-asked (c .before)
 
 add-row : tie.Need-add-row Inv-loop μ-loop
 add-row c = search needs

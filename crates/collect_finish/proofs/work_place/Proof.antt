@@ -1,8 +1,8 @@
 -- `work_place` is the place of an index of the first line.
 use mathlib.Core.Path.{_∙_}
 use borrow.Author.Needs.{needs}
-use Rattle.passes.specs.Passes.{axisOf}
-use Rattle.collect_finish.proofs.Work.{place-along}
+use Rattle.axis.specs.Axis.{axisOf}
+use Rattle.collect_finish.proofs.WorkPlaces.{place-along}
 use Rattle.collect_finish.proofs.work_place.Statement.{statement}
 use Rattle.collect_finish.proofs.work_place.Tie as tie
 

@@ -2,41 +2,55 @@
 use mathlib.Core.Path.{_≡_, ap, _∙_}
 use native.Mathlib.Omega.{arith}
 use borrow.Author.Needs.{needs}
-use Rattle.plan.proofs.Record.{order-limited-at}
-use Rattle.plan.proofs.Tests.{failed, passed}
-use Rattle.passes.specs.Passes.{axisOf, directionOf, along}
-use Rattle.task_words.specs.Geometry.{rowsOf, columnsOf}
-use Rattle.task_words.specs.Strips.{orderOf}
-use Rattle.strips.specs.Shapes.{shapeOf}
-use Rattle.collect_finish.specs.Work.{edgeStart}
-use Rattle.collect_finish.proofs.Edges.{
-  cleared-strip,
-  copied-strip,
-  extent-small,
-  edge-in-work,
-  edge-fits,
-  words-fit,
-  strip-fits,
-}
+use Rattle.number.proofs.Tests.{failed, passed}
+use Rattle.axis.specs.Axis.{directionOf}
+use Rattle.plan.specs.Sizes.{orderOf}
+use Rattle.plan.proofs.Record.{in-grid}
+use Rattle.buffer.proofs.Copies.{words-fit}
+use Rattle.strips.specs.StripRecord.{edgeStart}
+use Rattle.collect_finish.specs.Work.{edgeFirst}
+use Rattle.collect_finish.proofs.WorkPlaces.{edge-asked}
+use Rattle.collect_finish.proofs.WorkEdges.{edge-in-work, edge-fits, words-in-strips, strip-in-strips, cleared-strip, copied-strip}
 use Rattle.collect_finish.proofs.write_strip.Statement.{statement}
 use Rattle.collect_finish.proofs.write_strip.Tie as tie
 
-extent-is : (c : tie.After-along)
-    → let a = c .before .before .before .before .before .before .before .args in
-    c .along .result ≡ along (axisOf (a .pass)) (rowsOf (a .t1) (a .k)) (columnsOf (a .t1) (a .k))
-unfolding shapeOf
-extent-is c =
-    let s = c .before .before .before .before .before .before .before in
-    c .along .ensures ∙ ap (λ z. along (axisOf (s .args .pass)) (z .rows) (z .columns)) (s .pre .3)
+-- ---- stations
+
+abbrev start : tie.After-strip-start → tie.Start
+start c = c .before .before .before .before .before
+
+abbrev at-strip : tie.After-goes-on → tie.After-strip-start
+at-strip c = c .before
+
+-- Where no neighbour needs the strip,
+abbrev unneeded : tie.After-clear-words-arg → tie.Then1
+unneeded c = c .before
+
+-- and where one does.
+abbrev needed : tie.After-along → tie.Else1
+needed c = c .before
+
+abbrev at-extent : tie.After-edge-start → tie.After-along
+at-extent c = c .before
+
+abbrev at-edge : tie.After-across → tie.After-edge-start
+at-edge c = c .before
+
+abbrev at-width : tie.After-work-place → tie.After-across
+at-width c = c .before
+
+abbrev at-place : tie.After-along2 → tie.After-work-place
+at-place c = c .before .before
 
 -- Where the strip starts in the work array.
 edge-is : (c : tie.After-edge-start)
-    → let a = c .before .before .before .before .before .before .before .before .args in
-    c .edge-start .result
-    ≡ edgeStart (directionOf (a .pass)) (orderOf (a .t1) (a .pass)) (along (axisOf (a .pass)) (rowsOf (a .t1) (a .k)) (columnsOf (a .t1) (a .k)))
+    → let a = start (at-strip (needed (at-extent c) .before)) .args in
+    c .edge-start .result ≡ edgeFirst (a .t1) (a .shape) (a .pass)
 edge-is c =
-    let a = c .before .before .before .before .before .before .before .before .args in
-    c .edge-start .ensures ∙ ap (edgeStart (directionOf (a .pass)) (orderOf (a .t1) (a .pass))) (extent-is (c .before))
+    let a = start (at-strip (needed (at-extent c) .before)) .args in
+    c .edge-start .ensures ∙ ap (edgeStart (directionOf (a .pass)) (orderOf (a .t1) (a .pass))) (at-extent c .along .ensures)
+
+-- ---- needs
 
 mul-described : tie.Need-mul-described
 mul-described c = search needs
@@ -47,63 +61,57 @@ element-copy-out-described c = search needs
 strip-start-requires : tie.Need-strip-start-requires
 strip-start-requires c κs = search needs
 
-strip-needed-requires : tie.Need-strip-needed-requires
-strip-needed-requires c κs = search needs
+goes-on-requires : tie.Need-goes-on-requires
+goes-on-requires c κs = let block = start c .pre .placed .block in in-grid _ (block .kept) _ (block .counted)
 
 mul-clear-words : tie.Need-mul-clear-words
 mul-clear-words c =
-    let t = c .before .before .before in
-    let s = t .before .before .before .before in
-    omega (arith, words-fit (s .args .t1) (s .args .k) (s .args .pass) (s .pre .0) (s .pre .1) (s .pre .2) (t .strip-start .result) (t .strip-start .ensures) _ (s .pre .5))
+    let b = at-strip (unneeded c .before) in omega (arith, words-in-strips (start b .pre) (b .strip-start .ensures))
 
 clear-words-requires : tie.Need-clear-words-requires
 clear-words-requires c κs =
-    let t = c .before .before .before in
-    let s = t .before .before .before .before in
-    words-fit (s .args .t1) (s .args .k) (s .args .pass) (s .pre .0) (s .pre .1) (s .pre .2) (t .strip-start .result) (t .strip-start .ensures) _ (s .pre .5)
+    let b = at-strip (unneeded c .before) in words-fit _ _ _ (words-in-strips (start b .pre) (b .strip-start .ensures))
 
 same-length : tie.Need-same-length
 same-length c = search needs
 
 returns : tie.Need-returns
 returns c =
-    let t = c .before .before .before .before .before .before in
-    let s = t .before .before .before .before in
-    let n = c .before .before .before .before .before in
-    c .before .before .clear-words .ensures
-    ∙ cleared-strip (s .args .t1) (s .args .k) (s .args .pass) (s .args .gain) (s .args .work .now) (s .args .strips .now) (t .strip-start .result) (t .strip-start .ensures)
-    (failed (n .strip-needed .ensures) (c .before .before .before .before .if1 .taken))
+    let d = c .before .before in
+    let t = unneeded (d .before) in
+    let b = at-strip (t .before) in
+    let a = start b .args in
+    cleared-strip (start b .pre) (b .strip-start .ensures) (a .gain) (a .work .now) (a .strips .now)
+    (failed (t .before .goes-on .ensures) (t .if1 .taken)) (d .clear-words .ensures)
 
 along-requires : tie.Need-along-requires
 along-requires c κs = search needs
 
 edge-start-requires : tie.Need-edge-start-requires
-edge-start-requires c κs =
-    let s = c .before .before .before .before .before .before .before in (
-      order-limited-at (s .args .t1) (s .pre .0) (s .args .pass) (s .pre .2),
-      rw (extent-is c) (extent-small (s .args .t1) (s .args .k) (s .args .pass) (s .pre .0) (s .pre .1) (s .pre .2)),
-    )
+edge-start-requires c κs = edge-asked (start (at-strip (needed c .before)) .pre) (c .along .ensures)
 
 across-requires : tie.Need-across-requires
 across-requires c κs = search needs
 
 work-place-requires : tie.Need-work-place-requires
 work-place-requires c κs =
-    let s = c .before .before .before .before .before .before .before .before .before in
-    omega (arith, edge-is (c .before), edge-in-work (s .args .t1) (s .args .k) (s .args .pass) (s .pre .0) (s .pre .1) (s .pre .2))
+    let e = at-edge c in
+    omega (arith, edge-is e, edge-in-work (start (at-strip (needed (at-extent e) .before)) .pre))
 
 along-requires-2 : tie.Need-along-requires-2
 along-requires-2 c κs = search needs
 
 copy-rectangle-requires : tie.Need-copy-rectangle-requires
 copy-rectangle-requires c κs =
-    let x = c .before .before .before in
-    let t = x .before .before .before .before .before in
-    let s = t .before .before .before .before in (
-      rw (c .before .before .work-place .ensures, edge-is (x .before), x .across .ensures, c .along2 .ensures)
-          (edge-fits (s .args .t1) (s .args .k) (s .args .pass) (s .pre .0) (s .pre .1) (s .pre .2) _ (s .pre .4)),
-      rw (x .across .ensures, c .along2 .ensures)
-          (strip-fits (s .args .t1) (s .args .k) (s .args .pass) (s .pre .0) (s .pre .1) (s .pre .2) (t .strip-start .result) (t .strip-start .ensures) _ (s .pre .5)),
+    let p = at-place c in
+    let x = at-width p in
+    let e = at-edge x in
+    let b = at-strip (needed (at-extent e) .before) in
+    let starts = b .strip-start .ensures in
+    let place = p .work-place .ensures in
+    let wide = x .across .ensures in (
+      edge-fits (start b .pre) starts (edge-is e) place (c .along2 .ensures) wide,
+      strip-in-strips (start b .pre) starts (edge-is e) place (c .along2 .ensures) wide,
     )
 
 same-length-2 : tie.Need-same-length-2
@@ -111,13 +119,16 @@ same-length-2 c = search needs
 
 returns-2 : tie.Need-returns-2
 returns-2 c =
-    let w = c .before .before .before in
-    let x = w .before .before .before in
-    let t = x .before .before .before .before .before in
-    let s = t .before .before .before .before in
-    copied-strip (s .args .t1) (s .args .k) (s .args .pass) (s .args .gain) (s .args .work .now) (s .args .strips .now) (t .strip-start .result) (t .strip-start .ensures)
-    (passed (x .before .before .before .before .strip-needed .ensures) (x .before .before .before .if1 .left)) _
-    (rw (w .before .before .work-place .ensures, edge-is (x .before), x .across .ensures, w .along2 .ensures) at (c .before .before .copy-rectangle .ensures))
+    let d = c .before .before in
+    let p = at-place (d .before) in
+    let x = at-width p in
+    let e = at-edge x in
+    let t = needed (at-extent e) in
+    let b = at-strip (t .before) in
+    let a = start b .args in
+    copied-strip (start b .pre) (b .strip-start .ensures) (edge-is e) (p .work-place .ensures) (d .before .along2 .ensures)
+    (x .across .ensures) (a .gain) (a .work .now) (a .strips .now) (passed (t .before .goes-on .ensures) (t .if1 .left))
+    (d .copy-rectangle .ensures)
 
 pub write-strip-spec : {M : Type 1} → statement M
 write-strip-spec =
@@ -126,7 +137,7 @@ write-strip-spec =
     mul-described
     element-copy-out-described
     strip-start-requires
-    strip-needed-requires
+    goes-on-requires
     mul-clear-words
     clear-words-requires
     same-length

@@ -7,8 +7,8 @@ use borrow.Author.Needs.{needs}
 use borrow.Author.Tests.{leb-true}
 use lib.Dec.{leb}
 use lib.ListN.{length}
-use Rattle.plan.proofs.Tests.{and-left, and-right}
-use Rattle.filter.specs.Filters.{filterBy}
+use Rattle.number.proofs.Tests.{and-left, and-right}
+use Rattle.filter.specs.FilterWords.{filterBy}
 use Rattle.filter.specs.Kernel.{filterInPlace}
 use Rattle.filter.proofs.Turns.{lines-fit-fewer, apart-fewer, place-more, places-more}
 use Rattle.filter.proofs.filter_lines.Statement.{statement}

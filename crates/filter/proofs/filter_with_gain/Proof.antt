@@ -1,7 +1,7 @@
 -- `filter_with_gain` has the words of the filter, but for the gain.
 use mathlib.Core.Path.{ap}
 use borrow.Author.Needs.{needs}
-use Rattle.filter.specs.Filters.{withGain}
+use Rattle.filter.specs.FilterWords.{withGain}
 use Rattle.filter.proofs.filter_with_gain.Statement.{statement}
 use Rattle.filter.proofs.filter_with_gain.Tie as tie
 

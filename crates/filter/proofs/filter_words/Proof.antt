@@ -8,7 +8,7 @@ use mir.Syntax.{w64}
 use mir.ValLaws.{toZ-ofZ}
 use Rattle.word.specs.Word.{residue}
 use Rattle.plan.specs.Rules.{orderLimit, coefficientAt}
-use Rattle.filter.specs.Filters.{filterWords}
+use Rattle.filter.specs.FilterWords.{filterWords}
 use Rattle.filter.proofs.Buffers.{HoldsBelow, holds-more}
 use Rattle.filter.proofs.Filters.{residues-are}
 use Rattle.filter.proofs.filter_words.Statement.{statement}

@@ -2,7 +2,7 @@
 use mathlib.Core.Path.{ap, _∙_}
 use borrow.Author.Needs.{needs}
 use Rattle.plan.specs.Rules.{passAt}
-use Rattle.filter.specs.Filters.{withGain, filterWords}
+use Rattle.filter.specs.FilterWords.{withGain, filterWords}
 use Rattle.filter.proofs.Filters.{gainsFirstWords-first, gainsFirstWords-other}
 use Rattle.filter.proofs.gains_first.Statement.{statement}
 use Rattle.filter.proofs.gains_first.Tie as tie

@@ -9,7 +9,7 @@ use Rattle.word.specs.Word.{residue, _⊗_}
 use Rattle.plan.specs.Rules.{passAt}
 use Rattle.passes.specs.Gains.{gainsFrom}
 use Rattle.passes.proofs.Gains.{gainsFrom-none, gainsFrom-last}
-use Rattle.filter.specs.Filters.{filterOf, filtersOf}
+use Rattle.filter.specs.PlanFilters.{filterOf, filtersOf}
 use Rattle.filter.proofs.gains_from.Statement.{statement}
 use Rattle.filter.proofs.gains_from.Tie as tie
 

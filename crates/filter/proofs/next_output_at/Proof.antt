@@ -3,7 +3,7 @@ use mathlib.Core.Path.{ap, _∙_}
 use native.Mathlib.Omega.{arith}
 use borrow.Author.Needs.{needs}
 use Rattle.word.specs.Word.{_⊖_}
-use Rattle.plan.specs.Lists.{wordAt}
+use Rattle.buffer.specs.Lists.{wordAt}
 use Rattle.filter.specs.Kernel.{feedbackFrom}
 use Rattle.filter.proofs.Turns.{taps-later}
 use Rattle.filter.proofs.next_output_at.Statement.{statement}

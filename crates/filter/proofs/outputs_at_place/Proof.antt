@@ -4,7 +4,7 @@ use Prim.Native.Nat.{_+_, _-_, _*_, _<_, _≤_}
 use native.Mathlib.Omega.{arith}
 use borrow.Author.Needs.{needs}
 use lib.ListN.{length, length-set}
-use Rattle.filter.specs.Filters.{filterBy}
+use Rattle.filter.specs.FilterWords.{filterBy}
 use Rattle.filter.specs.Kernel.{outputsAt}
 use Rattle.filter.proofs.Turns.{line-more}
 use Rattle.filter.proofs.outputs_at_place.Statement.{statement}

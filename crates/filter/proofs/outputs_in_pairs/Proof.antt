@@ -4,7 +4,7 @@ use Prim.Native.Nat.{_+_, _-_, _*_, _≤_}
 use native.Mathlib.Omega.{arith}
 use borrow.Author.Needs.{needs}
 use lib.ListN.{length}
-use Rattle.filter.specs.Filters.{filterBy}
+use Rattle.filter.specs.FilterWords.{filterBy}
 use Rattle.filter.specs.Kernel.{filterInPlace}
 use Rattle.filter.proofs.Turns.{places-more}
 use Rattle.filter.proofs.TwoPlaces.{two-places-fit, two-places}

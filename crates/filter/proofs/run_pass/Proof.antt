@@ -3,7 +3,7 @@ use mathlib.Core.Path.{_≡_}
 use native.Mathlib.Omega.{arith}
 use borrow.Author.Needs.{needs}
 use lib.ListN.{length}
-use Rattle.filter.specs.Filters.{filterWith}
+use Rattle.filter.specs.FilterWords.{filterWith}
 use Rattle.filter.specs.Windows.{windowPass}
 use Rattle.filter.proofs.Windows.{lines-fit, lines-apart}
 use Rattle.filter.proofs.Scaling.{fits-down, gain-then-pass, gain-then-none}

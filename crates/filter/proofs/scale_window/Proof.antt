@@ -4,7 +4,8 @@ use Prim.Native.Nat.{_+_, _-_, _≤_}
 use native.Mathlib.Omega.{arith}
 use borrow.Author.Needs.{needs}
 use lib.ListN.{length}
-use Rattle.filter.specs.Windows.{pixelPlace, scaleRows}
+use Rattle.number.specs.Numbers.{rowMajor}
+use Rattle.filter.specs.Windows.{scaleRows}
 use Rattle.filter.proofs.Scaling.{row-fits, scale-row, scale-unchanged}
 use Rattle.filter.proofs.scale_window.Statement.{statement}
 use Rattle.filter.proofs.scale_window.Tie as tie
@@ -24,7 +25,7 @@ this-row : (c : tie.Then2 Inv-loop μ-loop)
     let s = l .before .before .before in
     let W = s .args .window in
     (W .top + l .loop .row ≤ length (s .args .buffer .now))
-    × (pixelPlace (W .stride) (W .top + l .loop .row) (W .left) + W .width ≤ length (s .args .buffer .now))
+    × (rowMajor (W .stride) (W .top + l .loop .row) (W .left) + W .width ≤ length (s .args .buffer .now))
 this-row c =
     let l = c .before .before in
     let s = l .before .before .before in

@@ -2,7 +2,7 @@
 use native.Mathlib.Omega.{arith}
 use Prim.Native.Nat.{_^_}
 use borrow.Author.Needs.{needs}
-use Rattle.passes.specs.Passes.{axisOf, directionOf}
+use Rattle.axis.specs.Axis.{axisOf, directionOf}
 use Rattle.filter.proofs.Numbers.{NumbersFit, numbers-fit}
 use Rattle.filter.proofs.window_lines.Statement.{statement}
 use Rattle.filter.proofs.window_lines.Tie as tie

@@ -20,8 +20,18 @@ abbrev μ-loop : tie.MeasureT-loop
 μ-loop plan tasks blocks map marks₀ strips₀ output₀ count accepted₀ i₀ marks strips output accepted i =
     count - i
 
-smaller-requires : tie.Need-smaller-requires Inv-loop μ-loop
-smaller-requires c κs = search needs
+-- ---- stations: each is reached from a later one
+
+abbrev at-task : tie.After-one-if-accepted Inv-loop μ-loop → tie.After-task Inv-loop μ-loop
+at-task c = c .before .before .before .before .before .before .before
+
+abbrev at-loop : tie.After-task Inv-loop μ-loop → tie.At-loop Inv-loop μ-loop
+at-loop c = c .before .before .before .before .before .before .before
+
+-- ---- needs
+
+lesser-requires : tie.Need-lesser-requires Inv-loop μ-loop
+lesser-requires c κs = search needs
 
 loop-holds : tie.Need-loop-holds Inv-loop μ-loop
 loop-holds c = (running-start _ _ _ _ _ _, refl, refl, refl)
@@ -30,13 +40,13 @@ mul-number : tie.Need-mul-number Inv-loop μ-loop
 mul-number c = search needs
 
 shared-slice-read-number : tie.Need-shared-slice-read-number Inv-loop μ-loop
-shared-slice-read-number c = omega (arith, c .before .before .before .smaller .ensures)
+shared-slice-read-number c = omega (arith, c .before .before .before .lesser .ensures)
 
 mul-block : tie.Need-mul-block Inv-loop μ-loop
 mul-block c = search needs
 
 shared-slice-read-block : tie.Need-shared-slice-read-block Inv-loop μ-loop
-shared-slice-read-block c = omega (arith, c .before .before .before .before .smaller .ensures)
+shared-slice-read-block c = omega (arith, c .before .before .before .before .lesser .ensures)
 
 task-requires : tie.Need-task-requires Inv-loop μ-loop
 task-requires c κs = search needs
@@ -46,8 +56,9 @@ one-if-accepted-requires c κs = search needs
 
 add-accepted : tie.Need-add-accepted Inv-loop μ-loop
 add-accepted c =
-    let run = c .before .before .before .before .before .before .before .before .before .before .before .before .before .before .loop .inv .0 in
-    omega (arith, run .few, run .inside, c .one-if-accepted .ensures, one-most (c .before .before .before .before .before .before .before .task .result))
+    let task = at-task c in
+    let run = at-loop task .loop .inv .0 in
+    omega (arith, run .few, run .inside, c .one-if-accepted .ensures, one-most (task .task .result))
 
 add-i : tie.Need-add-i Inv-loop μ-loop
 add-i c = search needs
@@ -57,9 +68,11 @@ loop-less c = search needs
 
 loop-again : tie.Need-loop-again Inv-loop μ-loop
 loop-again c =
-    let inv = c .before .before .before .before .before .before .before .before .before .before .before .before .before .before .loop .inv in
-    let called = c .before .before .before .before .before .before .before .task .ensures in (
-      running-next _ _ _ _ _ _ _ _ _ (inv .0) (omega arith) (c .before .before .before .before .before .before .before .task .result) (called .0) _ (c .one-if-accepted .ensures) _ (called .1),
+    let task = at-task c in
+    let inv = at-loop task .loop .inv in
+    let called = task .task .ensures in (
+      running-next _ _ _ _ _ _ _ _ _ (inv .0) (omega arith) (task .task .result) (called .0) _ (c .one-if-accepted .ensures) _
+          (called .1),
       c .before .before .before .before .before .before .marks .given ∙ inv .1,
       c .before .before .before .before .strips .given ∙ inv .2,
       c .before .before .output .given ∙ inv .3,
@@ -76,7 +89,7 @@ same-length-3 c = c .before .loop .inv .3
 
 returns : tie.Need-returns Inv-loop μ-loop
 returns c =
-    rw (← c .before .before .smaller .ensures) (running-end _ _ _ _ _ _ _ _ _ (c .before .loop .inv .0) (omega arith))
+    rw (← c .before .before .lesser .ensures) (running-end _ _ _ _ _ _ _ _ _ (c .before .loop .inv .0) (omega arith))
 
 pub run-calls-spec : {M : Type 1} → statement M
 run-calls-spec =
@@ -84,7 +97,7 @@ run-calls-spec =
     (tie.spec
     Inv-loop
     μ-loop
-    smaller-requires
+    lesser-requires
     loop-holds
     mul-number
     shared-slice-read-number

@@ -6,16 +6,34 @@ use Rattle.job.proofs.write_block.Statement.{statement}
 use Rattle.job.proofs.write_block.Tie as tie
 
 collect-requires : tie.Need-collect-requires
-collect-requires c κs = let fits = c .before .before .before .before .pre in (fits .rules, fits .block-below, fits .map-long, fits .strips-long)
+collect-requires c κs =
+    let fits = c .before .before .before .before .pre in
+    record {
+      block = record { kept = fits .rules; counted = fits .block-below };
+      map-long = fits .map-long;
+      strips-long = fits .strips-long;
+    }
 
 finish-requires : tie.Need-finish-requires
-finish-requires c κs = let fits = c .before .before .before .before .before .pre in (fits .rules, fits .block-below, fits .map-long, fits .strips-long, fits .output-long)
+finish-requires c κs =
+    let fits = c .before .before .before .before .before .pre in
+    record {
+      block = record { kept = fits .rules; counted = fits .block-below };
+      map-long = fits .map-long;
+      strips-long = fits .strips-long;
+      output-long = fits .output-long;
+    }
 
 sub-link : tie.Need-sub-link
 sub-link c = search needs
 
 link-requires : tie.Need-link-requires
-link-requires c κs = let fits = c .before .before .before .before .pre in (fits .rules, (fits .block-below, (omega (arith, fits .task-below), fits .strips-long)))
+link-requires c κs =
+    let fits = c .before .before .before .before .pre in
+    record {
+      strip-at = record { kept = fits .rules; counted = fits .block-below; pass-below = omega (arith, fits .task-below) };
+      strips-long = fits .strips-long;
+    }
 
 same-length : tie.Need-same-length
 same-length c = search needs

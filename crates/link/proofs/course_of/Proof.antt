@@ -1,12 +1,19 @@
 -- `course_of` is the course of the link: its lines are columns or rows.
 use borrow.Author.Needs.{needs}
-use Rattle.plan.proofs.Record.{order-limited-at}
+use Rattle.plan.proofs.Record.{in-grid, order-limited-at}
 use Rattle.link.proofs.Courses.{course-is, few-places}
 use Rattle.link.proofs.course_of.Statement.{statement}
 use Rattle.link.proofs.course_of.Tie as tie
 
+-- The stations, each from a later one.
+abbrev start : tie.After-block-shape → tie.Start
+start c = c .before .before
+
+abbrev shaped : tie.After-along2 → tie.After-block-shape
+shaped c = c .before .before .before
+
 block-shape-requires : tie.Need-block-shape-requires
-block-shape-requires c κs = search needs
+block-shape-requires c κs = let a = c .before in in-grid (a .args .t1) (a .pre .kept) (a .args .k) (a .pre .counted)
 
 mul-filter : tie.Need-mul-filter
 mul-filter c = search needs
@@ -25,18 +32,22 @@ across-requires c κs = search needs
 
 course-along-requires : tie.Need-course-along-requires
 course-along-requires c κs =
-    let b = c .before .before .before .before in
-    let a = b .before in (
-      rw (c .before .along2 .ensures) (few-places (a .args .t1) (a .pre .0) (a .args .k) (a .args .pass) _ (b .block-shape .ensures)),
-      order-limited-at (a .args .t1) (a .pre .0) (a .args .pass) (a .pre .1 .1),
-    )
+    let places = c .before in
+    let shape = shaped places in
+    let a = start shape in
+    record {
+      limited = order-limited-at (a .args .t1) (a .pre .kept) (a .args .pass) (a .pre .pass-below);
+      extent-small =
+          rw (places .along2 .ensures)
+          (few-places (a .args .t1) (a .pre .kept) (a .args .k) (a .args .pass) _ (shape .block-shape .ensures));
+    }
 
 returns : tie.Need-returns
 returns c =
-    let l = c .before in
-    let b = l .before .before .before .before in
-    course-is _ _ _ (b .block-shape .ensures) (l .before .before .along .ensures) (l .before .along2 .ensures) (l .across .ensures)
-    (c .course-along .ensures)
+    let lines = c .before in
+    let places = lines .before in
+    course-is _ _ _ (shaped places .block-shape .ensures) (places .before .along .ensures) (places .along2 .ensures)
+    (lines .across .ensures) (c .course-along .ensures)
 
 pub course-of-spec : {M : Type 1} → statement M
 course-of-spec =

@@ -4,7 +4,7 @@ use Prim.Native.Nat.{_-_}
 use native.Mathlib.Numerals.{add-one}
 use borrow.Author.Needs.{needs}
 use Rattle.passes.specs.Gains.{gainsFrom}
-use Rattle.filter.specs.Filters.{filtersOf}
+use Rattle.filter.specs.PlanFilters.{filtersOf}
 use Rattle.link.specs.Courses.{gainsAfter}
 use Rattle.link.proofs.gains_after.Statement.{statement}
 use Rattle.link.proofs.gains_after.Tie as tie

@@ -1,13 +1,46 @@
 -- `link` writes the strip of the link; one of order 0 has no words.
 use mathlib.Core.Path.{refl}
 use borrow.Author.Needs.{needs}
-use Rattle.squares.proofs.Lines.{zeros-at}
-use Rattle.squares.specs.Lines.{lineWords}
-use Rattle.link.specs.Words.{responseWords}
+use lib.ListN.{length}
+use Rattle.buffer.proofs.Listed.{zeros-at}
+use Rattle.squares.specs.LineBuffers.{lineWords}
+use Rattle.link.specs.Courses.{LinkFits}
+use Rattle.link.specs.Crossing.{responseWords}
 use Rattle.link.proofs.Courses.{link-orders}
-use Rattle.link.proofs.Writing.{link-none, link-fits, strip-long, link-is}
+use Rattle.link.proofs.Linked.{link-none, link-fits, link-laid, link-is}
 use Rattle.link.proofs.link.Statement.{statement}
 use Rattle.link.proofs.link.Tie as tie
+
+-- The stations, each from a later one.
+abbrev start : tie.After-course-of → tie.Start
+start c = c .before .before
+
+abbrev course-at : tie.After-unit-gain-filters → tie.After-course-of
+course-at c = c .before .before .before
+
+abbrev filters-at : tie.After-link-lines → tie.After-unit-gain-filters
+filters-at c = c .before .before .before
+
+abbrev lines-at : tie.After-cross → tie.After-link-lines
+lines-at c = c .before .before .before .before
+
+abbrev crossed-at : tie.After-carry-arg → tie.After-cross
+crossed-at c = c .before .before .before .before
+
+abbrev carried-at : tie.After-strip-of → tie.After-carry
+carried-at c = c .before .before
+
+abbrev strip-at : tie.After-responses5 → tie.After-strip-of
+strip-at c = c .before .before
+
+-- What the steps of a link want.
+fits : (c : tie.After-unit-gain-filters)
+    → let a = start (course-at c) .args in
+    LinkFits (a .plan) (a .k) (course-at c .course-of .result) (c .unit-gain-filters .result) (length (a .strips .now))
+fits c =
+    let a = start (course-at c) in
+    link-fits (a .args .plan) (a .args .k) (a .args .pass) (a .pre) (course-at c .course-of .ensures) (c .before .if1 .left)
+    (c .unit-gain-filters .ensures)
 
 course-of-requires : tie.Need-course-of-requires
 course-of-requires c κs = search needs
@@ -15,9 +48,9 @@ course-of-requires c κs = search needs
 returns : tie.Need-returns
 returns c =
     let d = c .before .before in
-    let a = d .before .before in
-    link-none (a .args .plan) (a .pre .0) (a .args .k) (a .args .pass) (a .pre .1 .0) (a .pre .1 .1 .0) (d .course-of .ensures)
-    (a .args .strips .now) (c .if1 .taken)
+    let a = start d in
+    link-none (a .args .plan) (a .args .k) (a .args .pass) (a .pre) (d .course-of .ensures) (a .args .strips .now)
+    (c .if1 .taken)
 
 unit-gain-filters-requires : tie.Need-unit-gain-filters-requires
 unit-gain-filters-requires c κs = search needs
@@ -26,14 +59,7 @@ slice-aggregate-link-lines : tie.Need-slice-aggregate-link-lines
 slice-aggregate-link-lines c = search needs
 
 link-lines-requires : tie.Need-link-lines-requires
-link-lines-requires c κs =
-    let f = c .before .before in
-    let i = f .before in
-    let d = i .before .before in
-    let a = d .before .before in
-    let fits = link-fits (a .args .plan) (a .pre .0) (a .args .k) (a .args .pass) (a .pre .1 .0) (a .pre .1 .1 .0)
-    (d .course-of .ensures) (i .if1 .left) (f .unit-gain-filters .ensures) (a .pre .1 .1 .1) in
-    ((fits, refl), zeros-at lineWords)
+link-lines-requires c κs = (fits (c .before .before), record { length-is = refl; zeros = zeros-at lineWords })
 
 slice-aggregate-cross : tie.Need-slice-aggregate-cross
 slice-aggregate-cross c = search needs
@@ -44,13 +70,15 @@ slice-aggregate-cross-2 c = search needs
 cross-requires : tie.Need-cross-requires
 cross-requires c κs =
     let g = c .before .before .before in
-    let f = g .before .before .before in
-    let i = f .before in
-    let d = i .before .before in
-    let a = d .before .before in
-    let fits = link-fits (a .args .plan) (a .pre .0) (a .args .k) (a .args .pass) (a .pre .1 .0) (a .pre .1 .1 .0)
-    (d .course-of .ensures) (i .if1 .left) (f .unit-gain-filters .ensures) (a .pre .1 .1 .1) in
-    ((fits .course-fits, (link-orders fits, (refl, g .link-lines .ensures .length-is))), zeros-at responseWords)
+    let link = fits (filters-at g) in (
+      record {
+        course-fits = link .course-fits;
+        orders = link-orders link;
+        lines-long = g .link-lines .ensures .length-is;
+        responses-long = refl;
+      },
+      zeros-at responseWords,
+    )
 
 slice-aggregate-carry : tie.Need-slice-aggregate-carry
 slice-aggregate-carry c = search needs
@@ -60,42 +88,26 @@ slice-aggregate-carry-2 c = search needs
 
 carry-requires : tie.Need-carry-requires
 carry-requires c κs =
-    let x = c .before .before .before .before in
-    let g = x .before .before .before .before in
-    let f = g .before .before .before in
-    let i = f .before in
-    let d = i .before .before in
-    let a = d .before .before in
-    let fits = link-fits (a .args .plan) (a .pre .0) (a .args .k) (a .args .pass) (a .pre .1 .0) (a .pre .1 .1 .0)
-    (d .course-of .ensures) (i .if1 .left) (f .unit-gain-filters .ensures) (a .pre .1 .1 .1) in
+    let x = crossed-at c in
+    let g = lines-at x in
     let ready = g .link-lines .ensures in
-    ((fits, x .cross .ensures .0), (ready, x .cross .ensures .1 _ ready))
+    (record { link-fits = fits (filters-at g); ready = ready }, x .cross .ensures _ ready)
 
-strip-start-requires : tie.Need-strip-start-requires
-strip-start-requires c κs = search needs
+strip-of-requires : tie.Need-strip-of-requires
+strip-of-requires c κs = search needs
 
 slice-aggregate-write-strip : tie.Need-slice-aggregate-write-strip
 slice-aggregate-write-strip c = search needs
 
 write-strip-requires : tie.Need-write-strip-requires
 write-strip-requires c κs =
-    let s = c .before .before in
-    let y = s .before .before in
-    let x = y .before .before .before .before .before in
-    let g = x .before .before .before .before in
-    let f = g .before .before .before in
-    let i = f .before in
-    let d = i .before .before in
-    let a = d .before .before in
-    let fits = link-fits (a .args .plan) (a .pre .0) (a .args .k) (a .args .pass) (a .pre .1 .0) (a .pre .1 .1 .0)
-    (d .course-of .ensures) (i .if1 .left) (f .unit-gain-filters .ensures) (a .pre .1 .1 .1) in (
-      fits .course-fits,
-      (
-        strip-long (a .args .plan) (a .pre .0) (a .args .k) (a .args .pass) (a .pre .1 .0) (a .pre .1 .1 .0)
-            (d .course-of .ensures) (a .pre .1 .1 .1) (s .strip-start .ensures),
-        y .carry .ensures .0,
-      ),
-    )
+    let s = strip-at c in
+    let y = carried-at s in
+    let f = filters-at (lines-at (crossed-at (y .before))) in
+    let d = course-at f in
+    let a = start d in
+    link-laid (a .args .plan) (a .args .k) (a .args .pass) (a .pre) (d .course-of .ensures) (f .before .if1 .left)
+    (s .strip-of .ensures) (y .carry .ensures .length-is)
 
 same-length : tie.Need-same-length
 same-length c = search needs
@@ -103,16 +115,13 @@ same-length c = search needs
 returns-2 : tie.Need-returns-2
 returns-2 c =
     let w = c .before .before in
-    let s = w .before .before .before in
-    let y = s .before .before in
-    let x = y .before .before .before .before .before in
-    let g = x .before .before .before .before in
-    let f = g .before .before .before in
-    let d = f .before .before .before in
-    let a = d .before .before in
-    link-is (a .args .plan) (a .pre .0) (a .args .k) (a .args .pass) (a .pre .1 .0) (a .pre .1 .1 .0) (d .course-of .ensures)
-    (f .unit-gain-filters .ensures) (a .args .strips .now) _ (s .strip-start .ensures) (y .carry .ensures .1)
-    (w .write-strip .ensures)
+    let s = strip-at (w .before) in
+    let y = carried-at s in
+    let f = filters-at (lines-at (crossed-at (y .before))) in
+    let d = course-at f in
+    let a = start d in
+    link-is (a .args .plan) (a .args .k) (a .args .pass) (a .pre) (d .course-of .ensures) (f .unit-gain-filters .ensures)
+    (a .args .strips .now) _ refl (y .carry .ensures) (s .strip-of .ensures) (w .write-strip .ensures)
 
 pub link-spec : {M : Type 1} → statement M
 link-spec =
@@ -129,7 +138,7 @@ link-spec =
     slice-aggregate-carry
     slice-aggregate-carry-2
     carry-requires
-    strip-start-requires
+    strip-of-requires
     slice-aggregate-write-strip
     write-strip-requires
     same-length

@@ -31,10 +31,13 @@ filter-with-gain-requires-4 c κs = search needs
 returns : tie.Need-returns
 unfolding unitGainFilters
 returns c =
+    let right = c .before in
+    let up = right .before in
+    let down = up .before in
     rw (
-      c .before .before .before .filter-with-gain .ensures,
-      c .before .before .filter-with-gain2 .ensures,
-      c .before .filter-with-gain3 .ensures,
+      down .filter-with-gain .ensures,
+      up .filter-with-gain2 .ensures,
+      right .filter-with-gain3 .ensures,
       c .filter-with-gain4 .ensures,
     )
 

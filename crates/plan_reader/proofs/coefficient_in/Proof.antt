@@ -3,8 +3,8 @@ use mathlib.Core.Path.{sym, ap, _∙_}
 use native.Mathlib.Omega.{arith}
 use borrow.Author.Needs.{needs}
 use Rattle.plan_reader.specs.PlanWords.{signed28}
-use Rattle.plan_reader.proofs.Signed.{read-back}
-use Rattle.plan_reader.proofs.Record.{coefficient-read, coefficient-zero}
+use Rattle.plan_reader.proofs.SignedPayload.{read-back}
+use Rattle.plan_reader.proofs.RecordParts.{coefficient-read, coefficient-zero}
 use Rattle.plan_reader.proofs.coefficient_in.Statement.{statement}
 use Rattle.plan_reader.proofs.coefficient_in.Tie as tie
 
@@ -27,7 +27,8 @@ returns : tie.Need-returns
 returns c =
     let s = c .before .before .before .before .before .args in
     read-back (search needs)
-    (c .decode-signed28 .ensures ∙ ap signed28 (c .before .payload-at .ensures) ∙ sym (coefficient-read (s .words .now) (s .place) (s .j) (omega arith)))
+    (c .decode-signed28 .ensures ∙ ap signed28 (c .before .payload-at .ensures)
+    ∙ sym (coefficient-read (s .words .now) (s .place) (s .j) (omega arith)))
 
 returns-2 : tie.Need-returns-2
 returns-2 c =

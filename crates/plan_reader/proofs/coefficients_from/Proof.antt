@@ -5,10 +5,10 @@ use native.Mathlib.Omega.{arith}
 use borrow.Author.Needs.{needs}
 use lib.ListN.{length, take, length-set}
 use Rattle.plan.specs.Rules.{orderLimit}
-use Rattle.plan.specs.Lists.{listOf}
-use Rattle.plan.proofs.Listed.{listed-none, filled-more, filled-all}
+use Rattle.buffer.specs.Lists.{listOf}
+use Rattle.buffer.proofs.Listed.{listed-none, filled-more, filled-all}
 use Rattle.plan_reader.specs.ReadPlan.{coefficientIn}
-use Rattle.plan_reader.proofs.Signed.{read-back}
+use Rattle.plan_reader.proofs.SignedPayload.{read-back}
 use Rattle.plan_reader.proofs.coefficients_from.Statement.{statement}
 use Rattle.plan_reader.proofs.coefficients_from.Tie as tie
 

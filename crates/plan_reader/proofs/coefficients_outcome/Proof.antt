@@ -5,7 +5,7 @@ use native.Mathlib.Omega.{arith}
 use borrow.Author.Needs.{needs}
 use Rattle.refusal.specs.Table.{firstDue, answerOf}
 use Rattle.plan_reader.specs.ReadPlan.{coefficientRows}
-use Rattle.plan_reader.proofs.Rows.{coefficients-none, coefficients-more}
+use Rattle.plan_reader.proofs.RefusalRows.{coefficients-none, coefficients-more}
 use Rattle.plan_reader.proofs.coefficients_outcome.Statement.{statement}
 use Rattle.plan_reader.proofs.coefficients_outcome.Tie as tie
 
@@ -35,8 +35,11 @@ loop-less c = search needs
 
 loop-again : tie.Need-loop-again Inv-loop μ-loop
 loop-again c =
-    let next = c .before in
-    (omega arith, coefficients-more _ (c .or-first .ensures) _ _ (next .before .before .loop .inv .1) (next .word-outcome .ensures))
+    let next = c .before in (
+      omega arith,
+      coefficients-more _ (c .or-first .ensures) _ _ (next .before .before .loop .inv .1)
+          (next .word-outcome .ensures),
+    )
 
 returns : tie.Need-returns Inv-loop μ-loop
 returns c =

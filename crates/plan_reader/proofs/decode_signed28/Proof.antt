@@ -1,7 +1,7 @@
 -- `plan_reader::decode_signed28` meets its contract: each sign is a law of Signed. Assumes nothing.
 use native.Mathlib.Omega.{arith}
 use borrow.Author.Needs.{needs}
-use Rattle.plan_reader.proofs.Signed.{decoded-low, lowered-fits, decoded-high}
+use Rattle.plan_reader.proofs.SignedPayload.{decoded-low, lowered-fits, decoded-high}
 use Rattle.plan_reader.proofs.decode_signed28.Statement.{statement}
 use Rattle.plan_reader.proofs.decode_signed28.Tie as tie
 

@@ -2,7 +2,7 @@
 use mathlib.Core.Path.{ap, _∙_}
 use borrow.Author.Needs.{needs}
 use Rattle.plan_reader.specs.PlanWords.{sizeAllowed, sideAllowed}
-use Rattle.plan_reader.proofs.Rows.{head-rows}
+use Rattle.plan_reader.proofs.RefusalRows.{head-rows}
 use Rattle.plan_reader.proofs.head_outcome.Statement.{statement}
 use Rattle.plan_reader.proofs.head_outcome.Tie as tie
 
@@ -35,8 +35,10 @@ returns c =
     let block = c .before in
     let size = block .before .before .before in
     head-rows _ (c .or-first .ensures)
-    (rw (size .before .size-allowed .ensures ∙ ap sizeAllowed (size .before .before .payload-at .ensures)) at (size .word-outcome .ensures))
-    (rw (block .before .within .ensures ∙ ap sideAllowed (block .before .before .payload-at2 .ensures)) at (block .word-outcome2 .ensures))
+    (rw (size .before .size-allowed .ensures
+    ∙ ap sizeAllowed (size .before .before .payload-at .ensures)) at (size .word-outcome .ensures))
+    (rw (block .before .within .ensures
+    ∙ ap sideAllowed (block .before .before .payload-at2 .ensures)) at (block .word-outcome2 .ensures))
 
 pub head-outcome-spec : {M : Type 1} → statement M
 head-outcome-spec =

@@ -3,8 +3,8 @@ use mathlib.Core.Path.{ap, _∙_}
 use borrow.Author.Needs.{needs}
 use Rattle.plan_reader.specs.PlanWords.{signed28}
 use Rattle.plan_reader.specs.ReadPlan.{passFrom}
-use Rattle.plan_reader.proofs.Signed.{read-back}
-use Rattle.plan_reader.proofs.Record.{same-pass}
+use Rattle.plan_reader.proofs.SignedPayload.{read-back}
+use Rattle.plan_reader.proofs.RecordParts.{same-pass}
 use Rattle.plan_reader.proofs.pass_from.Statement.{statement}
 use Rattle.plan_reader.proofs.pass_from.Tie as tie
 

@@ -2,7 +2,7 @@
 use mathlib.Core.Path.{ap, _∙_}
 use borrow.Author.Needs.{needs}
 use Rattle.plan_reader.specs.PlanWords.{passAllowed}
-use Rattle.plan_reader.proofs.Rows.{pass-rows}
+use Rattle.plan_reader.proofs.RefusalRows.{pass-rows}
 use Rattle.plan_reader.proofs.pass_outcome.Statement.{statement}
 use Rattle.plan_reader.proofs.pass_outcome.Tie as tie
 
@@ -42,8 +42,10 @@ returns c =
     let gain = coefficients .before .before in
     let head = gain .before in
     pass-rows _ (c .or-first2 .ensures) _ _ (c .before .or-first .ensures)
-    (rw (head .before .pass-allowed .ensures ∙ ap (passAllowed _) (head .before .before .payload-at .ensures)) at (head .word-outcome .ensures))
-    (gain .word-outcome2 .ensures) (rw (coefficients .before .order-at .ensures) at (coefficients .coefficients-outcome .ensures))
+    (rw (head .before .pass-allowed .ensures
+    ∙ ap (passAllowed _) (head .before .before .payload-at .ensures)) at (head .word-outcome .ensures))
+    (gain .word-outcome2 .ensures)
+    (rw (coefficients .before .order-at .ensures) at (coefficients .coefficients-outcome .ensures))
 
 pub pass-outcome-spec : {M : Type 1} → statement M
 pass-outcome-spec =

@@ -4,7 +4,7 @@ use Prim.Native.Nat.{_-_, _≤_}
 use native.Mathlib.Omega.{arith}
 use borrow.Author.Needs.{needs}
 use Rattle.plan_reader.specs.ReadPlan.{passPlace}
-use Rattle.plan_reader.proofs.Places.{pass-place-first, pass-place-next, pass-place-bounded}
+use Rattle.plan_reader.proofs.PassPlaces.{pass-place-first, pass-place-next, pass-place-bounded}
 use Rattle.plan_reader.proofs.pass_place.Statement.{statement}
 use Rattle.plan_reader.proofs.pass_place.Tie as tie
 
@@ -24,7 +24,8 @@ order-at-requires : tie.Need-order-at-requires Inv-loop μ-loop
 order-at-requires c κs = search needs
 
 add-place-2 : tie.Need-add-place-2 Inv-loop μ-loop
-add-place-2 c = omega (arith, pass-place-bounded (c .before .before .before .before .args .words .now) (c .before .before .loop .j))
+add-place-2 c =
+    omega (arith, pass-place-bounded (c .before .before .before .before .args .words .now) (c .before .before .loop .j))
 
 add-j : tie.Need-add-j Inv-loop μ-loop
 add-j c = search needs

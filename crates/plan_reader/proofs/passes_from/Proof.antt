@@ -4,10 +4,10 @@ use Prim.Native.Nat.{ℕ, _-_, _≤_}
 use native.Mathlib.Omega.{arith}
 use borrow.Author.Needs.{needs}
 use lib.ListN.{length, take, length-set}
-use Rattle.plan.specs.Lists.{listOf}
-use Rattle.plan.proofs.Listed.{listed-none, filled-more, filled-all}
+use Rattle.buffer.specs.Lists.{listOf}
+use Rattle.buffer.proofs.Listed.{listed-none, filled-more, filled-all}
 use Rattle.plan_reader.specs.ReadPlan.{passPlace, passFrom}
-use Rattle.plan_reader.proofs.Places.{pass-place-bounded}
+use Rattle.plan_reader.proofs.PassPlaces.{pass-place-bounded}
 use Rattle.plan_reader.proofs.passes_from.Statement.{statement}
 use Rattle.plan_reader.proofs.passes_from.Tie as tie
 
@@ -28,7 +28,8 @@ pass-place-requires : tie.Need-pass-place-requires Inv-loop μ-loop
 pass-place-requires c κs = search needs
 
 pass-from-requires : tie.Need-pass-from-requires Inv-loop μ-loop
-pass-from-requires c κs = omega (arith, pass-place-bounded (c .before .before .before .before .before .args .words .now) (c .before .before .loop .i))
+pass-from-requires c κs =
+    omega (arith, pass-place-bounded (c .before .before .before .before .before .args .words .now) (c .before .before .loop .i))
 
 mul-passes : tie.Need-mul-passes Inv-loop μ-loop
 mul-passes c = search needs

@@ -5,8 +5,8 @@ use native.Mathlib.Omega.{arith}
 use borrow.Author.Needs.{needs}
 use Rattle.refusal.specs.Table.{firstDue, answerOf}
 use Rattle.plan_reader.specs.ReadPlan.{passesRows}
-use Rattle.plan_reader.proofs.Places.{pass-place-bounded}
-use Rattle.plan_reader.proofs.Rows.{passes-none, passes-more}
+use Rattle.plan_reader.proofs.PassPlaces.{pass-place-bounded}
+use Rattle.plan_reader.proofs.RefusalRows.{passes-none, passes-more}
 use Rattle.plan_reader.proofs.passes_outcome.Statement.{statement}
 use Rattle.plan_reader.proofs.passes_outcome.Tie as tie
 
@@ -23,7 +23,8 @@ pass-place-requires : tie.Need-pass-place-requires Inv-loop μ-loop
 pass-place-requires c κs = search needs
 
 pass-outcome-requires : tie.Need-pass-outcome-requires Inv-loop μ-loop
-pass-outcome-requires c κs = omega (arith, pass-place-bounded (c .before .before .before .before .args .words .now) (c .before .before .loop .i))
+pass-outcome-requires c κs =
+    omega (arith, pass-place-bounded (c .before .before .before .before .args .words .now) (c .before .before .loop .i))
 
 or-first-requires : tie.Need-or-first-requires Inv-loop μ-loop
 or-first-requires c κs = search needs

@@ -3,7 +3,7 @@ use mathlib.Core.Path.{ap}
 use borrow.Author.Needs.{needs}
 use Rattle.plan_reader.specs.PlanWords.{rowsIn, columnsIn}
 use Rattle.plan_reader.specs.ReadPlan.{planFrom}
-use Rattle.plan_reader.proofs.Record.{same-plan}
+use Rattle.plan_reader.proofs.RecordParts.{same-plan}
 use Rattle.plan_reader.proofs.plan_from.Statement.{statement}
 use Rattle.plan_reader.proofs.plan_from.Tie as tie
 
@@ -16,14 +16,14 @@ payload-at-requires-2 c κs = search needs
 passes-from-requires : tie.Need-passes-from-requires
 passes-from-requires c κs = search needs
 
-cast-t7 : tie.Need-cast-t7
-cast-t7 c = search needs
-
-cast-t9 : tie.Need-cast-t9
-cast-t9 c = search needs
+cast-t8 : tie.Need-cast-t8
+cast-t8 c = search needs
 
 cast-t10 : tie.Need-cast-t10
 cast-t10 c = search needs
+
+cast-t11 : tie.Need-cast-t11
+cast-t11 c = search needs
 
 returns : tie.Need-returns
 unfolding planFrom
@@ -38,7 +38,7 @@ plan-from-spec =
     payload-at-requires
     payload-at-requires-2
     passes-from-requires
-    cast-t7
-    cast-t9
+    cast-t8
     cast-t10
+    cast-t11
     returns)

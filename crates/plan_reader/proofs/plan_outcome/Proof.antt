@@ -1,8 +1,8 @@
 -- `plan_reader::plan_outcome` meets its contract: the words from left to right, then the block side. Assumes nothing.
 use native.Mathlib.Omega.{arith}
 use borrow.Author.Needs.{needs}
-use Rattle.plan_reader.proofs.Places.{pass-place-bounded}
-use Rattle.plan_reader.proofs.Rows.{plan-rows}
+use Rattle.plan_reader.proofs.PassPlaces.{pass-place-bounded}
+use Rattle.plan_reader.proofs.RefusalRows.{plan-rows}
 use Rattle.plan_reader.proofs.plan_outcome.Statement.{statement}
 use Rattle.plan_reader.proofs.plan_outcome.Tie as tie
 
@@ -36,8 +36,10 @@ returns c =
     let side = last .before in
     let end = side .before in
     let passes = end .before .before in
-    plan-rows _ (c .or-first3 .ensures) (c .before .or-first2 .ensures) (last .or-first .ensures) (passes .before .head-outcome .ensures)
-    (passes .passes-outcome .ensures) (rw (end .before .pass-place .ensures) at (end .end-outcome .ensures)) (side .side-outcome .ensures)
+    plan-rows _ (c .or-first3 .ensures) (c .before .or-first2 .ensures) (last .or-first .ensures)
+    (passes .before .head-outcome .ensures)
+    (passes .passes-outcome .ensures) (rw (end .before .pass-place .ensures) at (end .end-outcome .ensures))
+    (side .side-outcome .ensures)
 
 pub plan-outcome-spec : {M : Type 1} → statement M
 plan-outcome-spec =

@@ -24,7 +24,8 @@ zero-plan-requires c κs = search needs
 returns : tie.Need-returns
 returns c =
     let t = c .before in
-    read-accepted _ (sym (t .before .before .plan-outcome .ensures) ∙ ap answerOf (t .enum-told .given .1)) (c .plan-from .ensures)
+    read-accepted _ (sym (t .before .before .plan-outcome .ensures) ∙ ap answerOf (t .enum-told .given .1))
+    (c .plan-from .ensures)
 
 returns-2 : tie.Need-returns-2
 returns-2 c =

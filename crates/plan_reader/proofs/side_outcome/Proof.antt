@@ -5,10 +5,10 @@ use Prim.Native.Nat.{_-_, _≤_}
 use native.Mathlib.Omega.{arith}
 use borrow.Author.Needs.{needs}
 use borrow.Author.Tests.{le-leb}
-use Rattle.plan.specs.Rules.{allBelow}
-use Rattle.plan.proofs.Tests.{all-none, all-more}
+use Rattle.number.specs.Numbers.{allBelow}
+use Rattle.number.proofs.Tests.{all-none, all-more}
 use Rattle.plan_reader.specs.ReadPlan.{payloadAt, orderAt, passPlace}
-use Rattle.plan_reader.proofs.Rows.{sideReaches, side-below, side-accepted}
+use Rattle.plan_reader.proofs.RefusalRows.{sideReaches, side-below, side-accepted}
 use Rattle.plan_reader.proofs.side_outcome.Statement.{statement}
 use Rattle.plan_reader.proofs.side_outcome.Tie as tie
 
@@ -52,8 +52,11 @@ loop-again c =
     let o = c .before in
     let l = o .before .before .before in
     let words = l .before .before .before .args .words .now in
-    let e = o .order-at .ensures ∙ ap (orderAt words) (o .before .pass-place .ensures) in
-    (omega arith, all-more (sideReaches words) (l .loop .i) (l .loop .inv .1) (le-leb (orderAt words (passPlace words (l .loop .i))) (payloadAt words 1) (omega arith)))
+    let e = o .order-at .ensures ∙ ap (orderAt words) (o .before .pass-place .ensures) in (
+      omega arith,
+      all-more (sideReaches words) (l .loop .i) (l .loop .inv .1)
+          (le-leb (orderAt words (passPlace words (l .loop .i))) (payloadAt words 1) (omega arith)),
+    )
 
 returns-2 : tie.Need-returns-2 Inv-loop μ-loop
 returns-2 c =

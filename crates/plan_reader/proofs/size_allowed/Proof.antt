@@ -2,8 +2,8 @@
 use mathlib.Core.Path.{_≡_, refl}
 use mathlib.Core.Bool.{true}
 use borrow.Author.Needs.{needs}
-use Rattle.plan.specs.Rules.{within}
-use Rattle.plan.proofs.Tests.{failed, passed}
+use Rattle.number.specs.Numbers.{within}
+use Rattle.number.proofs.Tests.{failed, passed}
 use Rattle.plan_reader.specs.PlanWords.{rowsIn}
 use Rattle.plan_reader.proofs.Conjunction.{first-fails, first-passes}
 use Rattle.plan_reader.proofs.size_allowed.Statement.{statement}

@@ -2,12 +2,7 @@
 use mathlib.Core.Path.{sym}
 use borrow.Author.Needs.{needs}
 use borrow.Author.Tests.{not-true, not-false}
-use Rattle.plan_reader.proofs.Rows.{
-  word-missing,
-  word-of-another-kind,
-  word-out-of-range,
-  word-accepted,
-}
+use Rattle.plan_reader.proofs.RefusalRows.{word-missing, word-of-another-kind, word-out-of-range, word-accepted}
 use Rattle.plan_reader.proofs.word_outcome.Statement.{statement}
 use Rattle.plan_reader.proofs.word_outcome.Tie as tie
 

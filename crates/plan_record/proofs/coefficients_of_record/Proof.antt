@@ -4,17 +4,18 @@ use Prim.Native.Nat.{_+_, _-_, _≤_}
 use native.Mathlib.Omega.{arith}
 use borrow.Author.Needs.{needs}
 use lib.ListN.{length, take, length-set}
-use Rattle.plan_reader.proofs.Signed.{read-back}
+use Rattle.plan_reader.proofs.SignedPayload.{read-back}
 use Rattle.plan.specs.Rules.{orderLimit}
-use Rattle.plan.specs.Lists.{listOf}
-use Rattle.plan.proofs.Listed.{listed-none, filled-more, filled-all}
+use Rattle.buffer.specs.Lists.{listOf}
+use Rattle.buffer.proofs.Listed.{listed-none, filled-more, filled-all}
 use Rattle.plan_record.specs.Records.{numberAt}
 use Rattle.plan_record.proofs.coefficients_of_record.Statement.{statement}
 use Rattle.plan_record.proofs.coefficients_of_record.Tie as tie
 
 abbrev Inv-loop : tie.InvT-loop
 Inv-loop words place coefficients₀ j₀ coefficients j =
-    (j ≤ orderLimit) × (length coefficients ≡ orderLimit) × (take j coefficients ≡ listOf (λ j. numberAt words (place + 2 + j)) j)
+    (j ≤ orderLimit) × (length coefficients ≡ orderLimit)
+    × (take j coefficients ≡ listOf (λ j. numberAt words (place + 2 + j)) j)
 
 abbrev μ-loop : tie.MeasureT-loop
 μ-loop words place coefficients₀ j₀ coefficients j = orderLimit - j
@@ -47,8 +48,11 @@ loop-less : tie.Need-loop-less Inv-loop μ-loop
 loop-less c = search needs
 
 loop-again : tie.Need-loop-again Inv-loop μ-loop
-loop-again c =
-    (omega arith, simp length-set (omega arith), filled-more _ _ _ _ (omega arith) (read-back (search needs) refl) (c .before .before .loop .inv .2))
+loop-again c = (
+  omega arith,
+  simp length-set (omega arith),
+  filled-more _ _ _ _ (omega arith) (read-back (search needs) refl) (c .before .before .loop .inv .2),
+)
 
 returns : tie.Need-returns Inv-loop μ-loop
 returns c =

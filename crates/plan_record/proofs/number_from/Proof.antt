@@ -3,7 +3,7 @@ use mathlib.Core.Path.{sym, _∙_}
 use borrow.Author.Needs.{needs}
 use mir.Syntax.{w64}
 use mir.ValLaws.{toZ-pos}
-use Rattle.plan_record.proofs.Words.{number-held, number-too-large}
+use Rattle.plan_record.proofs.RecordWords.{number-held, number-too-large}
 use Rattle.plan_record.proofs.number_from.Statement.{statement}
 use Rattle.plan_record.proofs.number_from.Tie as tie
 

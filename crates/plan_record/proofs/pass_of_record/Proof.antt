@@ -2,8 +2,8 @@
 use mathlib.Core.Path.{refl, ap, _∙_}
 use Prim.Native.Nat.{_+_}
 use borrow.Author.Needs.{needs}
-use Rattle.plan_reader.proofs.Signed.{read-back}
-use Rattle.plan_reader.proofs.Record.{same-pass}
+use Rattle.plan_reader.proofs.SignedPayload.{read-back}
+use Rattle.plan_reader.proofs.RecordParts.{same-pass}
 use Rattle.plan_record.specs.Records.{numberAt, sizeFrom, passOfRecord}
 use Rattle.plan_record.proofs.pass_of_record.Statement.{statement}
 use Rattle.plan_record.proofs.pass_of_record.Tie as tie
@@ -34,7 +34,8 @@ unfolding passOfRecord
 returns c =
     let s = c .before .before .before .before in
     let words = s .args .words .now in
-    same-pass (c .before .before .size-from .ensures ∙ ap sizeFrom (read-back {answer = numberAt words (s .args .place)} (search needs) refl))
+    same-pass (c .before .before .size-from .ensures
+    ∙ ap sizeFrom (read-back {answer = numberAt words (s .args .place)} (search needs) refl))
     (read-back {answer = numberAt words (s .args .place + 1)} (search needs) refl)
     (c .coefficients-of-record .ensures)
 

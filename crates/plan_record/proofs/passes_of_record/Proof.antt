@@ -4,8 +4,8 @@ use Prim.Native.Nat.{ℕ, _+_, _*_, _-_, _≤_}
 use native.Mathlib.Omega.{arith}
 use borrow.Author.Needs.{needs}
 use lib.ListN.{length, take, length-set}
-use Rattle.plan.specs.Lists.{listOf}
-use Rattle.plan.proofs.Listed.{listed-none, filled-more, filled-all}
+use Rattle.buffer.specs.Lists.{listOf}
+use Rattle.buffer.proofs.Listed.{listed-none, filled-more, filled-all}
 use Rattle.plan_record.specs.Records.{passLength, passOfRecord}
 use Rattle.plan_record.proofs.passes_of_record.Statement.{statement}
 use Rattle.plan_record.proofs.passes_of_record.Tie as tie

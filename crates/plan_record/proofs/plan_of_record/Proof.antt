@@ -1,7 +1,7 @@
 -- `plan_record::plan_of_record` meets its contract, field by field. Assumes nothing.
 use mathlib.Core.Path.{refl, ap, _∙_}
-use Rattle.plan_reader.proofs.Signed.{read-back}
-use Rattle.plan_reader.proofs.Record.{same-plan}
+use Rattle.plan_reader.proofs.SignedPayload.{read-back}
+use Rattle.plan_reader.proofs.RecordParts.{same-plan}
 use Rattle.plan_record.specs.Records.{numberAt, sizeFrom, planOfRecord}
 use borrow.Author.Needs.{needs}
 use Rattle.plan_record.proofs.plan_of_record.Statement.{statement}
@@ -33,7 +33,8 @@ unfolding planOfRecord
 returns c =
     let s = c .before .before .before .before .before .before .before in
     let words = s .args .words .now in
-    same-plan (c .before .before .before .before .before .size-from .ensures ∙ ap sizeFrom (read-back {answer = numberAt words 0} (search needs) refl))
+    same-plan (c .before .before .before .before .before .size-from .ensures
+    ∙ ap sizeFrom (read-back {answer = numberAt words 0} (search needs) refl))
     (c .before .before .before .size-from2 .ensures ∙ ap sizeFrom (read-back {answer = numberAt words 1} (search needs) refl))
     (c .before .size-from3 .ensures ∙ ap sizeFrom (read-back {answer = numberAt words 2} (search needs) refl))
     (c .passes-of-record .ensures)

@@ -3,9 +3,9 @@ use native.Mathlib.Omega.{arith}
 use Prim.Native.Nat.{_+_, _-_, _*_, _≤_}
 use mathlib.Core.Path.{_≡_}
 use lib.ListN.{length, take}
-use Rattle.plan_reader.proofs.Signed.{read-back}
+use Rattle.plan_reader.proofs.SignedPayload.{read-back}
 use Rattle.plan_record.specs.Records.{passLength, recordLength}
-use Rattle.plan_record.proofs.Words.{front, front-none, front-more, front-all}
+use Rattle.plan_record.proofs.RecordWords.{front, front-none, front-more, front-all}
 use borrow.Author.Needs.{needs}
 use Rattle.plan_record.proofs.record_of_plan.Statement.{statement}
 use Rattle.plan_record.proofs.record_of_plan.Tie as tie
@@ -39,7 +39,8 @@ loop-holds : tie.Need-loop-holds Inv-loop μ-loop
 loop-holds c = (
   omega arith,
   search needs,
-  front-none _ (read-back (search needs) (c .before .before .number-from .ensures)) (read-back (search needs) (c .before .number-from2 .ensures))
+  front-none _ (read-back (search needs) (c .before .before .number-from .ensures))
+      (read-back (search needs) (c .before .number-from2 .ensures))
       (read-back (search needs) (c .number-from3 .ensures)),
 )
 

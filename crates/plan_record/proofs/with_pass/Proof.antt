@@ -1,4 +1,5 @@
--- `plan_record::with_pass` meets its contract: order and gain stand in place, and then the first j coefficients. Assumes nothing.
+-- `plan_record::with_pass` meets its contract: order and gain stand in place, and then the first j coefficients.
+-- Assumes nothing.
 use native.Mathlib.Omega.{arith}
 use Prim.Native.Nat.{_+_, _-_, _≤_}
 use mathlib.Core.Path.{_≡_, refl}
@@ -8,8 +9,8 @@ use Rattle.plan.specs.Rules.{orderLimit, coefficientAt}
 use lib.IntN.{pos}
 use native.Mathlib.Nat.{add-zero}
 use Rattle.word.proofs.Signs.{readBack}
-use Rattle.plan_reader.proofs.Signed.{read-back}
-use Rattle.plan_record.proofs.Words.{copied-more, pass-filled}
+use Rattle.plan_reader.proofs.SignedPayload.{read-back}
+use Rattle.plan_record.proofs.RecordWords.{copied-more, pass-filled}
 use Rattle.plan_record.specs.Records.{recordLength}
 use borrow.Author.Needs.{needs}
 use Rattle.plan_record.proofs.with_pass.Statement.{statement}
@@ -88,7 +89,8 @@ returns c =
     let a = c .before .before .before .before .args in
     let e : l .j ≡ orderLimit = omega arith in (
       l .inv .1,
-      pass-filled (a .words) (l .filled) (a .place) (a .t3) (readBack (n .result)) (readBack (a .t3 .gain)) (search needs) (search needs)
+      pass-filled (a .words) (l .filled) (a .place) (a .t3) (readBack (n .result)) (readBack (a .t3 .gain)) (search needs)
+          (search needs)
           (read-back (search needs) (n .ensures)) (read-back (search needs) refl) (rw e at (l .inv .2)),
     )
 

@@ -11,7 +11,7 @@ use mir.ValLaws.{toZ-ofZ}
 use borrow.Author.Needs.{needs, sfits-of}
 use Rattle.plan.specs.Rules.{inSigned28, coefficientAt}
 use Rattle.plan_writer.specs.WritePlan.{wordOf, payload28, coefficientWords}
-use Rattle.plan_writer.proofs.Words.{coefficient-signed, no-coefficients, more-coefficients}
+use Rattle.plan_writer.proofs.WrittenWords.{coefficient-signed, no-coefficients, more-coefficients}
 use Rattle.plan_writer.proofs.write_coefficients.Statement.{statement}
 use Rattle.plan_writer.proofs.write_coefficients.Tie as tie
 
@@ -48,8 +48,11 @@ add-write-word c = search needs
 value-word-requires : tie.Need-value-word-requires Inv-loop μ-loop
 value-word-requires c κs =
     let s = c .before .before .before .before .before in
-    let j = c .before .before .before .loop .j in
-    (omega arith, ap inSigned28 (back (c .before)) ∙ coefficient-signed (s .args .t1) j (s .pre .0) (s .pre .1) (c .before .before .loop-test .taken))
+    let j = c .before .before .before .loop .j in (
+      omega arith,
+      ap inSigned28 (back (c .before))
+          ∙ coefficient-signed (s .args .t1) j (s .pre .order-limited) (s .pre .kept) (c .before .before .loop-test .taken),
+    )
 
 write-word-requires : tie.Need-write-word-requires Inv-loop μ-loop
 write-word-requires c κs = omega (arith, same (c .before .before .before .before))
@@ -66,8 +69,15 @@ loop-again c =
     let l = v .before .before in
     let a = l .before .before .args in
     let w = c .before .before .before .value-word in
-    let e : w .result ≡ wordOf 5 (payload28 (coefficientAt (a .t1) (l .loop .j))) = w .ensures ∙ ap (λ (z : ℤ). wordOf 5 (payload28 z)) (back v) in
-    (omega arith, cc (more-coefficients (a .t1) (a .words .now) (a .place) (l .loop .j), c .before .before .write-word .ensures .1, l .loop .inv .1))
+    let e : w .result ≡ wordOf 5 (payload28 (coefficientAt (a .t1) (l .loop .j))) =
+    w .ensures ∙ ap (λ (z : ℤ). wordOf 5 (payload28 z)) (back v) in (
+      omega arith,
+      cc (
+        more-coefficients (a .t1) (a .words .now) (a .place) (l .loop .j),
+        c .before .before .write-word .ensures .1,
+        l .loop .inv .1,
+      ),
+    )
 
 add-result : tie.Need-add-result Inv-loop μ-loop
 add-result c = search needs

@@ -1,4 +1,5 @@
--- `write_pass` meets its contract: pass word, gain word and coefficient words, one after the other, are the words of the pass. Assumes nothing.
+-- `write_pass` meets its contract: pass word, gain word and coefficient words, one after the other, are the words of the
+-- pass. Assumes nothing.
 use mathlib.Core.Path.{_≡_, ap, _∙_}
 use native.Mathlib.Omega.{arith}
 use lib.IntN.{ℤ}
@@ -9,7 +10,7 @@ use borrow.Author.Needs.{needs}
 use Rattle.plan.specs.Rules.{inSigned28}
 use Rattle.plan.proofs.Record.{pass-rules}
 use Rattle.plan_writer.specs.WritePlan.{wordOf, payload28}
-use Rattle.plan_writer.proofs.Words.{coefficients-kept, pass-parts}
+use Rattle.plan_writer.proofs.WrittenWords.{coefficients-kept, pass-parts}
 use Rattle.plan_writer.proofs.write_pass.Statement.{statement}
 use Rattle.plan_writer.proofs.write_pass.Tie as tie
 
@@ -20,7 +21,7 @@ back c = let f : SFits w64 (c .args .pass .gain) = search needs in toZ-ofZ w64 _
 pass-word-requires : tie.Need-pass-word-requires
 pass-word-requires c κs =
     let s = c .before .before in
-    (s .pre .0, omega (arith, pass-rules (s .args .side) (s .args .pass) (s .pre .1) .order-limited))
+    (s .pre .pass-number, omega (arith, pass-rules (s .args .side) (s .args .pass) (s .pre .kept) .order-limited))
 
 write-word-requires : tie.Need-write-word-requires
 write-word-requires c κs = search needs
@@ -28,18 +29,19 @@ write-word-requires c κs = search needs
 value-word-requires : tie.Need-value-word-requires
 value-word-requires c κs =
     let s = c .before .before .before .before .before .before .before .before in
-    (omega arith, ap inSigned28 (back s) ∙ pass-rules (s .args .side) (s .args .pass) (s .pre .1) .gain-kept)
+    (omega arith, ap inSigned28 (back s) ∙ pass-rules (s .args .side) (s .args .pass) (s .pre .kept) .gain-kept)
 
 write-word-requires-2 : tie.Need-write-word-requires-2
 write-word-requires-2 c κs = search needs
 
 write-coefficients-requires : tie.Need-write-coefficients-requires
 write-coefficients-requires c κs =
-    let s = c .before .before .before .before .before .before .before .before .before .before .before .before .before in (
-      pass-rules (s .args .side) (s .args .pass) (s .pre .1) .order-limited,
-      coefficients-kept (s .args .side) (s .args .pass) (s .pre .1),
-      omega (arith, s .pre .2),
-    )
+    let s = c .before .before .before .before .before .before .before .before .before .before .before .before .before in
+    record {
+      order-limited = pass-rules (s .args .side) (s .args .pass) (s .pre .kept) .order-limited;
+      kept = coefficients-kept (s .args .side) (s .args .pass) (s .pre .kept);
+      room = omega (arith, s .pre .room);
+    }
 
 same-length : tie.Need-same-length
 same-length c = search needs

@@ -1,13 +1,15 @@
--- `write_passes` meets its contract. The loop's invariant: the words of the first i passes are written, and `next` is the place after them. Assumes nothing.
+-- `write_passes` meets its contract. The loop's invariant: the words of the first i passes are written, and `next` is the
+-- place after them. Assumes nothing.
 use mathlib.Core.Path.{_≡_, ap, _∙_}
 use Prim.Native.Nat.{_+_, _-_, _*_, _≤_}
 use native.Mathlib.Omega.{arith}
 use lib.ListN.{length}
 use lib.Seq.{sets, length-sets}
 use borrow.Author.Needs.{needs}
-use Rattle.plan.specs.Sizes.{orderSum}
+use Rattle.number.proofs.Sums.{total-none, total-grows}
+use Rattle.plan.specs.Sizes.{orderOf, orderSum}
 use Rattle.plan_writer.specs.WritePlan.{passesWords}
-use Rattle.plan_writer.proofs.Words.{pass-kept, no-orders, more-orders, orders-grow, no-passes, more-passes}
+use Rattle.plan_writer.proofs.WrittenWords.{pass-kept, more-orders, no-passes, more-passes}
 use Rattle.plan_writer.proofs.write_passes.Statement.{statement}
 use Rattle.plan_writer.proofs.write_passes.Tie as tie
 
@@ -24,7 +26,7 @@ same c =
     ap length (c .loop .inv .2) ∙ length-sets (a .words .now) (a .place) (passesWords (a .t1) (c .loop .i))
 
 loop-holds : tie.Need-loop-holds Inv-loop μ-loop
-loop-holds c = (omega arith, omega (arith, no-orders (c .before .args .t1)), no-passes _ _ _)
+loop-holds c = (omega arith, omega (arith, total-none (orderOf (c .before .args .t1))), no-passes _ _ _)
 
 mul-pass : tie.Need-mul-pass Inv-loop μ-loop
 mul-pass c = search needs
@@ -36,11 +38,18 @@ write-pass-requires : tie.Need-write-pass-requires Inv-loop μ-loop
 write-pass-requires c κs =
     let l = c .before .before .before in
     let s = l .before .before in
-    let h = c .before .before .loop-test .taken in (
-      h,
-      pass-kept (s .args .t1) (s .pre .0) (l .loop .i) h,
-      omega (arith, same l, more-orders (s .args .t1) (l .loop .i), orders-grow (s .args .t1) 4 (l .loop .i + 1) (omega arith), s .pre .1),
-    )
+    let h = c .before .before .loop-test .taken in
+    record {
+      pass-number = h;
+      kept = pass-kept (s .args .t1) (s .pre .0) (l .loop .i) h;
+      room =
+          omega (
+            arith,
+            same l,
+            total-grows (orderOf (s .args .t1)) (l .loop .i) 4 h,
+            s .pre .1,
+          );
+    }
 
 add-i : tie.Need-add-i Inv-loop μ-loop
 add-i c = search needs
@@ -63,8 +72,10 @@ same-length c = same (c .before)
 
 returns : tie.Need-returns Inv-loop μ-loop
 returns c =
-    let e : c .before .loop .i ≡ 4 = omega arith in
-    (omega (arith, ap (orderSum (c .before .before .before .args .t1)) e, c .before .loop .inv .1), rw e at (c .before .loop .inv .2))
+    let e : c .before .loop .i ≡ 4 = omega arith in (
+      omega (arith, ap (orderSum (c .before .before .before .args .t1)) e, c .before .loop .inv .1),
+      rw e at (c .before .loop .inv .2),
+    )
 
 pub write-passes-spec : {M : Type 1} → statement M
 write-passes-spec =

@@ -30,7 +30,8 @@ write-words-requires c κs =
     let sized = k .before .before in
     let a = sized .before .before .args in (
       rules-kept (a .plan) (a .words .now) _ (sized .sizes .ensures) _ (k .known2 .given .1),
-      room-enough (a .plan) (a .words .now) _ (sized .sizes .ensures) _ (k .known2 .given .1) _ (tested .too-short .ensures) (c .before .enum-told .given .1),
+      room-enough (a .plan) (a .words .now) _ (sized .sizes .ensures) _ (k .known2 .given .1) _ (tested .too-short .ensures)
+          (c .before .enum-told .given .1),
     )
 
 returns : tie.Need-returns
@@ -46,7 +47,8 @@ returns-2 c =
     let k = tested .before .before in
     let sized = k .before .before in
     let a = sized .before .before .args in
-    short-call (a .plan) (a .words .now) _ (sized .sizes .ensures) _ (k .known2 .given .1) _ (tested .too-short .ensures) _ (c .before .room .given .1)
+    short-call (a .plan) (a .words .now) _ (sized .sizes .ensures) _ (k .known2 .given .1) _ (tested .too-short .ensures) _
+    (c .before .room .given .1)
 
 same-length : tie.Need-same-length
 same-length c = search needs
@@ -59,7 +61,9 @@ returns-3 c =
     let k = tested .before .before in
     let sized = k .before .before in
     let a = sized .before .before .args in
-    let call = written-call (a .plan) (a .words .now) _ (sized .sizes .ensures) _ (k .known2 .given .1) _ (tested .too-short .ensures) (told .enum-told .given .1) in
+    let call =
+    written-call (a .plan) (a .words .now) _ (sized .sizes .ensures) _ (k .known2 .given .1) _ (tested .too-short .ensures)
+    (told .enum-told .given .1) in
     (call .0, written .write-words .ensures ∙ call .1)
 
 pub write-plan-spec : {M : Type 1} → statement M

@@ -1,8 +1,9 @@
--- `write_words` meets its contract: size word, block word, passes and end word, one after the other, are the words of the plan. Assumes nothing.
+-- `write_words` meets its contract: size word, block word, passes and end word, one after the other, are the words of the
+-- plan. Assumes nothing.
 use native.Mathlib.Omega.{arith}
 use borrow.Author.Needs.{needs}
 use Rattle.plan.proofs.Record.{rules}
-use Rattle.plan_writer.proofs.Words.{plan-parts}
+use Rattle.plan_writer.proofs.WrittenWords.{plan-parts}
 use Rattle.plan_writer.proofs.write_words.Statement.{statement}
 use Rattle.plan_writer.proofs.write_words.Tie as tie
 
@@ -34,7 +35,8 @@ returns c =
     let sized = blocked .before .before .before .before .before in
     let s = sized .before .before .before .before in
     plan-parts (s .args .words .now) (s .args .plan) (sized .before .size-word .ensures) (blocked .before .block-word .ensures)
-    (sized .write-word .ensures) (blocked .write-word2 .ensures) (passed .write-passes .ensures) (c .before .before .write-word3 .ensures .1)
+    (sized .write-word .ensures) (blocked .write-word2 .ensures) (passed .write-passes .ensures)
+    (c .before .before .write-word3 .ensures .1)
 
 pub write-words-spec : {M : Type 1} → statement M
 write-words-spec =

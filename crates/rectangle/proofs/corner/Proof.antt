@@ -5,7 +5,7 @@ use Prim.Native.Nat.{ℕ}
 use native.Mathlib.Omega.{arith}
 use Rattle.passes.specs.Table.{cornerOf}
 use Rattle.rectangle.specs.Rectangle.{tableOf}
-use Rattle.rectangle.proofs.Places.{corner-inside, corner-first-row, corner-first-column, corner-at}
+use Rattle.rectangle.proofs.CornerPlaces.{corner-inside, corner-first-row, corner-first-column, corner-at}
 use Rattle.rectangle.proofs.corner.Statement.{statement}
 use Rattle.rectangle.proofs.corner.Tie as tie
 
@@ -26,26 +26,26 @@ sub-result c = search needs
 
 mul-result : tie.Need-mul-result
 mul-result c =
-    let a = c .before .before .before in
-    omega (arith, corner-inside (a .args .plan .rows) (a .args .plan .columns) (a .args .row) (a .args .column) (a .pre .0) (a .pre .1) (c .before .before .if1 .left) (c .before .if2 .left))
+    omega (arith, corner-inside (c .before .before .before .pre) (c .before .before .if1 .left) (c .before .if2 .left))
 
 sub-result-2 : tie.Need-sub-result-2
 sub-result-2 c = search needs
 
 add-result : tie.Need-add-result
 add-result c =
-    let a = c .before .before .before in
-    omega (arith, corner-inside (a .args .plan .rows) (a .args .plan .columns) (a .args .row) (a .args .column) (a .pre .0) (a .pre .1) (c .before .before .if1 .left) (c .before .if2 .left))
+    omega (arith, corner-inside (c .before .before .before .pre) (c .before .before .if1 .left) (c .before .if2 .left))
 
 mul-result-2 : tie.Need-mul-result-2
 mul-result-2 c =
-    let a = c .before .before .before in
-    omega (arith, corner-inside (a .args .plan .rows) (a .args .plan .columns) (a .args .row) (a .args .column) (a .pre .0) (a .pre .1) (c .before .before .if1 .left) (c .before .if2 .left))
+    omega (arith, corner-inside (c .before .before .before .pre) (c .before .before .if1 .left) (c .before .if2 .left))
 
 shared-slice-read-result : tie.Need-shared-slice-read-result
 shared-slice-read-result c =
-    let a = c .before .before .before .before in
-    omega (arith, corner-inside (a .args .plan .rows) (a .args .plan .columns) (a .args .row) (a .args .column) (a .pre .0) (a .pre .1) (c .before .before .before .if1 .left) (c .before .before .if2 .left))
+    omega (
+      arith,
+      corner-inside (c .before .before .before .before .pre) (c .before .before .before .if1 .left)
+          (c .before .before .if2 .left),
+    )
 
 returns-3 : tie.Need-returns-3
 returns-3 c = corner-at _ _ _ (c .before .before .before .if1 .left) (c .before .before .if2 .left)

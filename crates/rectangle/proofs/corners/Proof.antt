@@ -27,7 +27,16 @@ add-requires c κs = search needs
 
 returns : tie.Need-returns
 unfolding rectangleSum
-returns c = simp (c .add .ensures, c .before .before .sub2 .ensures, c .before .before .before .before .sub .ensures, c .before .corner4 .ensures, c .before .before .before .corner3 .ensures, c .before .before .before .before .before .corner2 .ensures, c .before .before .before .before .before .before .corner .ensures)
+returns c =
+    simp (
+      c .add .ensures,
+      c .before .before .sub2 .ensures,
+      c .before .before .before .before .sub .ensures,
+      c .before .corner4 .ensures,
+      c .before .before .before .corner3 .ensures,
+      c .before .before .before .before .before .corner2 .ensures,
+      c .before .before .before .before .before .before .corner .ensures,
+    )
 
 pub corners-spec : {M : Type 1} → statement M
 corners-spec =

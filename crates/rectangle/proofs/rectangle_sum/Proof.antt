@@ -1,6 +1,5 @@
 -- `rectangle::rectangle_sum` meets its contract: the sum where the answer accepts, 0 beside a refusal. Assumes nothing.
 use mathlib.Core.Path.{sym, ap, _∙_}
-use native.Mathlib.Omega.{arith}
 use borrow.Author.Needs.{needs}
 use Rattle.refusal.specs.Table.{answerOf}
 use Rattle.rectangle.proofs.SumAnswers.{accepted-fits, given-accepted, given-refused}
@@ -21,9 +20,7 @@ corners-requires c κs =
     let r = c .before .before in
     let a = r .before .before .args in
     let accepts = sym (r .answer .ensures) ∙ ap answerOf (c .enum-told .given .1) in
-    let fits = accepted-fits (a .plan) (a .table .now) (a .top) (a .left) (a .bottom) (a .right) accepts in
-    let inside = fits .1 in
-    (omega arith, inside .bottom-low, omega arith, inside .right-low, fits .0)
+    accepted-fits (a .plan) (a .table .now) (a .top) (a .left) (a .bottom) (a .right) accepts
 
 returns : tie.Need-returns
 returns c =

@@ -1,40 +1,39 @@
 -- Invariant of both loops: what is left of the search from this task and this block on is the whole search.
-use mathlib.Core.Path.{_∙_, _≡_, refl, sym}
+use mathlib.Core.Path.{_∙_, _≡_, sym}
 use Prim.Native.Nat.{_+_, _-_, _≤_}
 use native.Mathlib.Omega.{arith}
 use borrow.Author.Needs.{needs}
 use Rattle.report.proofs.Search.{row-end, row-hit, row-miss, task-end, task-row}
 use Rattle.report.specs.Report.{firstBlock, firstReady, firstTask, orElse}
-use Rattle.tasks.proofs.Bounds.{blocks-most}
 use Rattle.tasks.specs.Marks.{isMarked}
 use Rattle.tasks.specs.Tasks.{ready}
 use Rattle.report.proofs.first_ready.Statement.{statement}
 use Rattle.report.proofs.first_ready.Tie as tie
 
 abbrev Inv-loop : tie.InvT-loop
-Inv-loop block-rows block-columns marks blocks task block₀ block =
+Inv-loop grid marks blocks task block₀ block =
     (block ≤ blocks)
-    × (firstReady block-rows block-columns (isMarked marks)
-    ≡ orElse (firstBlock (ready block-rows block-columns (isMarked marks)) task block (blocks - block))
-    (firstTask (ready block-rows block-columns (isMarked marks)) blocks (task + 1) (6 - (task + 1))))
+    × (firstReady grid (isMarked marks)
+    ≡ orElse (firstBlock (ready grid (isMarked marks)) task block (blocks - block))
+    (firstTask (ready grid (isMarked marks)) blocks (task + 1) (6 - (task + 1))))
 
 abbrev μ-loop : tie.MeasureT-loop
-μ-loop block-rows block-columns marks blocks task block₀ block = blocks - block
+μ-loop grid marks blocks task block₀ block = blocks - block
 
 abbrev Inv-out : tie.InvT-out
-Inv-out block-rows block-columns marks blocks task₀ task =
+Inv-out grid marks blocks task₀ task =
     (task ≤ 6)
-    × (firstReady block-rows block-columns (isMarked marks) ≡ firstTask (ready block-rows block-columns (isMarked marks)) blocks task (6 - task))
+    × (firstReady grid (isMarked marks) ≡ firstTask (ready grid (isMarked marks)) blocks task (6 - task))
 
 abbrev μ-out : tie.MeasureT-out
-μ-out block-rows block-columns marks blocks task₀ task = 6 - task
+μ-out grid marks blocks task₀ task = 6 - task
 
-mul-blocks : tie.Need-mul-blocks Inv-loop μ-loop Inv-out μ-out
-mul-blocks c = let most = blocks-most (c .before .pre .grid) in omega arith
+blocks-requires : tie.Need-blocks-requires Inv-loop μ-loop Inv-out μ-out
+blocks-requires c κs = search needs
 
 out-holds : tie.Need-out-holds Inv-loop μ-loop Inv-out μ-out
 unfolding firstReady
-out-holds c = (omega arith, refl)
+out-holds c = (omega arith, rw (c .blocks2 .ensures))
 
 loop-holds : tie.Need-loop-holds Inv-loop μ-loop Inv-out μ-out
 loop-holds c = (omega arith, c .before .out .inv .1 ∙ task-row _ _ _ _ (omega arith))
@@ -49,7 +48,11 @@ loop-less : tie.Need-loop-less Inv-loop μ-loop Inv-out μ-out
 loop-less c = search needs
 
 loop-again : tie.Need-loop-again Inv-loop μ-loop Inv-out μ-out
-loop-again c = (omega arith, c .before .before .before .loop .inv .1 ∙ row-miss _ _ _ _ (omega arith) (sym (c .before .is-ready .ensures) ∙ c .if2 .left) _)
+loop-again c = (
+  omega arith,
+  c .before .before .before .loop .inv .1
+      ∙ row-miss _ _ _ _ (omega arith) (sym (c .before .is-ready .ensures) ∙ c .if2 .left) _,
+)
 
 add-task : tie.Need-add-task Inv-loop μ-loop Inv-out μ-out
 add-task c = search needs
@@ -64,7 +67,10 @@ returns : tie.Need-returns Inv-loop μ-loop Inv-out μ-out
 returns c = sym (c .before .out .inv .1 ∙ task-end _ _ _ _ (omega arith))
 
 returns-2 : tie.Need-returns-2 Inv-loop μ-loop Inv-out μ-out
-returns-2 c = sym (c .before .before .before .loop .inv .1 ∙ row-hit _ _ _ _ (omega arith) (sym (c .before .is-ready .ensures) ∙ c .if2 .taken) _)
+returns-2 c =
+    sym
+    (c .before .before .before .loop .inv .1
+    ∙ row-hit _ _ _ _ (omega arith) (sym (c .before .is-ready .ensures) ∙ c .if2 .taken) _)
 
 pub first-ready-spec : {M : Type 1} → statement M
 first-ready-spec =
@@ -74,7 +80,7 @@ first-ready-spec =
     μ-loop
     Inv-out
     μ-out
-    mul-blocks
+    blocks-requires
     out-holds
     loop-holds
     is-ready-requires

@@ -3,8 +3,9 @@ use mathlib.Core.Path.{_∙_, _≡_, ap, sym}
 use Prim.Native.Nat.{_-_, _≤_}
 use native.Mathlib.Omega.{arith}
 use borrow.Author.Needs.{needs}
-use Rattle.tasks.proofs.Sums.{one-most, sum-on, total-none}
-use Rattle.tasks.specs.Counts.{doneAt, one, oneAt, total}
+use Rattle.number.proofs.Sums.{one-most, sum-on, total-none}
+use Rattle.tasks.specs.Counts.{doneAt, oneAt}
+use Rattle.number.specs.Numbers.{one, total}
 use Rattle.tasks.specs.Marks.{isMarked}
 use Rattle.report.proofs.marked_at.Statement.{statement}
 use Rattle.report.proofs.marked_at.Tie as tie

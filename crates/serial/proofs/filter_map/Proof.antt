@@ -18,7 +18,7 @@ returns c =
     let u = c .before .before in
     let r = u .before .before .before .before in
     let s = r .before .before .before in
-    steps-reach (s .args .plan) (s .args .map .now) (s .pre .0) (s .args .output .now) (s .pre .2)
+    steps-reach (s .args .plan) (s .args .map .now) (s .pre .kept) (s .args .output .now) (s .pre .output-long)
     (r .read-down .ensures) (u .finish-up .ensures)
 
 pub filter-map-spec : {M : Type 1} → statement M

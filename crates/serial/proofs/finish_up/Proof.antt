@@ -4,9 +4,8 @@ use Prim.Native.Nat.{_-_, _≤_}
 use native.Mathlib.Omega.{arith}
 use borrow.Author.Needs.{needs}
 use lib.ListN.{length}
-use Rattle.plan.proofs.Record.{rules}
 use Rattle.serial.specs.Stages.{bandsPassedUp}
-use Rattle.serial.proofs.Stages.{band-up-more, bands-up-all}
+use Rattle.serial.proofs.Stages.{some-bands, band-up-more, bands-up-all}
 use Rattle.serial.proofs.finish_up.Statement.{statement}
 use Rattle.serial.proofs.finish_up.Tie as tie
 
@@ -17,13 +16,21 @@ Inv-loop plan output₀ last done₀ output done =
 abbrev μ-loop : tie.MeasureT-loop
 μ-loop plan output₀ last done₀ output done = last - done
 
+band-count-requires : tie.Need-band-count-requires Inv-loop μ-loop
+band-count-requires c κs = search needs
+
 sub-last : tie.Need-sub-last Inv-loop μ-loop
-sub-last c = rules (c .before .before .args .plan) (c .before .before .pre .0) .rows-low
+sub-last c = let s = c .before .before in omega (arith, c .band-count .ensures, some-bands (s .args .plan) (s .pre .0))
 
 pass-over-band-requires : tie.Need-pass-over-band-requires Inv-loop μ-loop
 pass-over-band-requires c κs =
     let s = c .before .before .before in
-    (s .pre .0, omega arith, omega (arith, rules (s .args .plan) (s .pre .0) .rows-low), s .pre .1)
+    record {
+      kept = s .pre .0;
+      is-pass = omega arith;
+      counted = omega (arith, some-bands (s .args .plan) (s .pre .0));
+      output-long = s .pre .1;
+    }
 
 loop-holds : tie.Need-loop-holds Inv-loop μ-loop
 unfolding bandsPassedUp
@@ -39,12 +46,13 @@ pass-over-band-requires-2 : tie.Need-pass-over-band-requires-2 Inv-loop μ-loop
 pass-over-band-requires-2 c κs =
     let l = c .before .before in
     let u = l .before .before .before in
-    let s = u .before .before .before .before in (
-      s .pre .0,
-      omega arith,
-      omega arith,
-      omega (arith, l .loop .inv .1, u .pass-over-band .kept, s .pre .1),
-    )
+    let s = u .before .before .before .before in
+    record {
+      kept = s .pre .0;
+      is-pass = omega arith;
+      counted = omega arith;
+      output-long = omega (arith, l .loop .inv .1, u .pass-over-band .kept, s .pre .1);
+    }
 
 add-pass-over-band : tie.Need-add-pass-over-band Inv-loop μ-loop
 add-pass-over-band c = search needs
@@ -54,12 +62,13 @@ pass-over-band-requires-3 c κs =
     let p = c .before .before .before in
     let l = p .before .before .before in
     let u = l .before .before .before in
-    let s = u .before .before .before .before in (
-      s .pre .0,
-      omega arith,
-      omega arith,
-      omega (arith, p .pass-over-band2 .kept, l .loop .inv .1, u .pass-over-band .kept, s .pre .1),
-    )
+    let s = u .before .before .before .before in
+    record {
+      kept = s .pre .0;
+      is-pass = omega arith;
+      counted = omega arith;
+      output-long = omega (arith, p .pass-over-band2 .kept, l .loop .inv .1, u .pass-over-band .kept, s .pre .1);
+    }
 
 add-pass-over-band-2 : tie.Need-add-pass-over-band-2 Inv-loop μ-loop
 add-pass-over-band-2 c = search needs
@@ -70,19 +79,14 @@ pass-over-band-requires-4 c κs =
     let p = r .before .before .before .before in
     let l = p .before .before .before in
     let u = l .before .before .before in
-    let s = u .before .before .before .before in (
-      s .pre .0,
-      omega arith,
-      omega arith,
-      omega (
-        arith,
-        r .pass-over-band3 .kept,
-        p .pass-over-band2 .kept,
-        l .loop .inv .1,
-        u .pass-over-band .kept,
-        s .pre .1,
-      ),
-    )
+    let s = u .before .before .before .before in
+    record {
+      kept = s .pre .0;
+      is-pass = omega arith;
+      counted = omega arith;
+      output-long =
+          omega (arith, r .pass-over-band3 .kept, p .pass-over-band2 .kept, l .loop .inv .1, u .pass-over-band .kept, s .pre .1);
+    }
 
 loop-less : tie.Need-loop-less Inv-loop μ-loop
 loop-less c = search needs
@@ -104,24 +108,26 @@ pass-over-band-requires-5 : tie.Need-pass-over-band-requires-5 Inv-loop μ-loop
 pass-over-band-requires-5 c κs =
     let l = c .before .before in
     let u = l .before .before .before in
-    let s = u .before .before .before .before in (
-      s .pre .0,
-      omega arith,
-      rules (s .args .plan) (s .pre .0) .rows-low,
-      omega (arith, l .loop .inv .1, u .pass-over-band .kept, s .pre .1),
-    )
+    let s = u .before .before .before .before in
+    record {
+      kept = s .pre .0;
+      is-pass = omega arith;
+      counted = some-bands (s .args .plan) (s .pre .0);
+      output-long = omega (arith, l .loop .inv .1, u .pass-over-band .kept, s .pre .1);
+    }
 
 pass-over-band-requires-6 : tie.Need-pass-over-band-requires-6 Inv-loop μ-loop
 pass-over-band-requires-6 c κs =
     let r = c .before .before .before in
     let l = r .before .before .before in
     let u = l .before .before .before in
-    let s = u .before .before .before .before in (
-      s .pre .0,
-      omega arith,
-      rules (s .args .plan) (s .pre .0) .rows-low,
-      omega (arith, r .pass-over-band5 .kept, l .loop .inv .1, u .pass-over-band .kept, s .pre .1),
-    )
+    let s = u .before .before .before .before in
+    record {
+      kept = s .pre .0;
+      is-pass = omega arith;
+      counted = some-bands (s .args .plan) (s .pre .0);
+      output-long = omega (arith, r .pass-over-band5 .kept, l .loop .inv .1, u .pass-over-band .kept, s .pre .1);
+    }
 
 same-length : tie.Need-same-length Inv-loop μ-loop
 same-length c = search needs
@@ -133,7 +139,7 @@ returns c =
     let l = r .before .before .before in
     let u = l .before .before .before in
     let s = u .before .before .before .before in
-    bands-up-all (s .args .plan) (l .loop .done) _ (omega arith) (u .pass-over-band .ensures) (l .loop .inv .2)
+    bands-up-all (s .args .plan) (l .loop .done) _ _ (omega arith) (omega arith) (u .pass-over-band .ensures) (l .loop .inv .2)
     (r .pass-over-band5 .ensures) (f .pass-over-band6 .ensures)
 
 pub finish-up-spec : {M : Type 1} → statement M
@@ -142,6 +148,7 @@ finish-up-spec =
     (tie.spec
     Inv-loop
     μ-loop
+    band-count-requires
     sub-last
     pass-over-band-requires
     loop-holds

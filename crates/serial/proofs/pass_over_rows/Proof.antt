@@ -16,13 +16,14 @@ run-pass-requires c κs =
     let s = f .before .before in
     let a = s .args in (
       rw (f .gains-first .ensures, gainsFirstWords-order (a .plan) (a .pass))
-          (order-limited-at (a .plan) (s .pre .0) (a .pass) (s .pre .1)),
-      rw (c .before .rows-before .ensures)
-          (rows-fit (a .plan) (s .pre .0) (length (a .output .now)) (a .top) (a .height) (s .pre .2) (s .pre .3) (s .pre .4) _ _),
+          (order-limited-at (a .plan) (s .pre .kept) (a .pass) (s .pre .is-pass)),
+      rw (c .before .history-rows .ensures)
+          (rows-fit (a .plan) (s .pre .kept) (length (a .output .now)) (a .top) (a .height) (s .pre .tall) (s .pre .in-map)
+          (s .pre .output-long) _ _),
     )
 
-rows-before-requires : tie.Need-rows-before-requires
-rows-before-requires c κs = search needs
+history-rows-requires : tie.Need-history-rows-requires
+history-rows-requires c κs = search needs
 
 same-length : tie.Need-same-length
 same-length c = search needs
@@ -34,14 +35,14 @@ returns c =
     let f = q .before in
     let a = f .before .before .args in
     rows-passed (a .plan) (a .top) (a .height) (a .pass) (a .output .now) (f .gains-first .ensures)
-    (q .rows-before .ensures) (r .run-pass .ensures)
+    (q .history-rows .ensures) (r .run-pass .ensures)
 
 pub pass-over-rows-spec : {M : Type 1} → statement M
 pass-over-rows-spec =
     tie.close
     (tie.spec
     gains-first-requires
-    rows-before-requires
+    history-rows-requires
     run-pass-requires
     same-length
     returns)

@@ -4,17 +4,18 @@ use Prim.Native.Nat.{_-_, _≤_}
 use native.Mathlib.Omega.{arith}
 use lib.ListN.{length, take, length-set}
 use lib.Seq.{length-take-le}
-use Rattle.plan.specs.Lists.{listOf}
-use Rattle.plan.proofs.Listed.{listed-none, filled-more}
+use Rattle.buffer.specs.Lists.{listOf}
+use Rattle.buffer.proofs.Listed.{listed-none, filled-more}
 use Rattle.plan_reader.specs.ReadPlan.{readPlan}
-use Rattle.smooth_job.specs.Program.{planLimit, wordIn}
+use Rattle.plan.specs.Sizes.{wordLimit}
+use Rattle.smooth_job.specs.Program.{wordIn}
 use borrow.Author.Needs.{needs}
 use Rattle.smooth_job.proofs.plan_in.Statement.{statement}
 use Rattle.smooth_job.proofs.plan_in.Tie as tie
 
 abbrev Inv-loop : tie.InvT-loop
 Inv-loop input count words₀ i₀ words i =
-    (i ≤ count) × (length words ≡ planLimit) × (take i words ≡ listOf (wordIn input) i)
+    (i ≤ count) × (length words ≡ wordLimit) × (take i words ≡ listOf (wordIn input) i)
 
 abbrev μ-loop : tie.MeasureT-loop
 μ-loop input count words₀ i₀ words i = count - i

@@ -16,11 +16,11 @@ Inv-loop input most i₀ i =
 abbrev μ-loop : tie.MeasureT-loop
 μ-loop input most i₀ i = most - i
 
-smaller-requires : tie.Need-smaller-requires Inv-loop μ-loop
-smaller-requires c κs = search needs
+lesser-requires : tie.Need-lesser-requires Inv-loop μ-loop
+lesser-requires c κs = search needs
 
 loop-holds : tie.Need-loop-holds Inv-loop μ-loop
-loop-holds c = (omega arith, omega (arith, c .smaller .ensures), search-start _ _ (c .smaller .ensures))
+loop-holds c = (omega arith, omega (arith, c .lesser .ensures), search-start _ _ (c .lesser .ensures))
 
 word-at-requires : tie.Need-word-at-requires Inv-loop μ-loop
 word-at-requires c κs = search needs
@@ -58,7 +58,7 @@ plan-length-spec =
     (tie.spec
     Inv-loop
     μ-loop
-    smaller-requires
+    lesser-requires
     loop-holds
     word-at-requires
     add-result

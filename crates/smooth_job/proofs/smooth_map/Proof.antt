@@ -4,7 +4,7 @@ use Prim.Native.Nat.{_-_, _≤_}
 use native.Mathlib.Omega.{arith}
 use lib.ListN.{length, take, length-set}
 use lib.Seq.{length-take-le}
-use Rattle.plan.proofs.Listed.{listed-none, filled-more}
+use Rattle.buffer.proofs.Listed.{listed-none, filled-more}
 use Rattle.smooth_job.specs.Program.{pixelLimit, heightsIn}
 use Rattle.smooth_job.proofs.Signed.{read-back}
 use borrow.Author.Needs.{needs}

@@ -2,9 +2,9 @@
 use Prim.Native.Nat.{_+_}
 use native.Mathlib.Omega.{arith}
 use borrow.Author.Needs.{needs}
-use Rattle.squares.specs.Lines.{filterAt}
+use Rattle.squares.specs.LineBuffers.{filterAt}
 use Rattle.squares.proofs.Lines.{lines-fit, pass-some, pass-none}
-use Rattle.squares.proofs.Rows.{rows-few}
+use Rattle.squares.proofs.LineRows.{rows-few}
 use Rattle.squares.proofs.line_pass.Statement.{statement}
 use Rattle.squares.proofs.line_pass.Tie as tie
 

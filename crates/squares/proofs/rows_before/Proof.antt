@@ -1,11 +1,12 @@
 -- `rows_before` has the rows of the passes so far.
-use mathlib.Core.Path.{_≡_, refl}
+use mathlib.Core.Path.{_≡_, sym}
 use Prim.Native.Nat.{_-_, _*_, _≤_}
 use native.Mathlib.Omega.{arith}
 use borrow.Author.Needs.{needs}
+use Rattle.number.proofs.Sums.{total-none}
 use Rattle.plan.specs.Rules.{orderLimit}
-use Rattle.squares.specs.Lines.{filterAt, rowsBefore}
-use Rattle.squares.proofs.Rows.{rows-next}
+use Rattle.squares.specs.LineBuffers.{filterAt, rowsBefore}
+use Rattle.squares.proofs.LineRows.{rows-next}
 use Rattle.squares.proofs.rows_before.Statement.{statement}
 use Rattle.squares.proofs.rows_before.Tie as tie
 
@@ -18,7 +19,7 @@ abbrev μ-loop : tie.MeasureT-loop
 
 loop-holds : tie.Need-loop-holds Inv-loop μ-loop
 unfolding rowsBefore
-loop-holds c = (omega arith, refl, omega arith)
+loop-holds c = (omega arith, sym (total-none _), omega arith)
 
 mul-filter : tie.Need-mul-filter Inv-loop μ-loop
 mul-filter c = search needs

@@ -3,10 +3,10 @@ use mathlib.Core.Path.{_≡_}
 use Prim.Native.Nat.{_+_, _-_, _≤_}
 use native.Mathlib.Omega.{arith}
 use borrow.Author.Needs.{needs}
-use Rattle.squares.specs.Lines.{filterAt}
+use Rattle.squares.specs.LineBuffers.{filterAt}
 use Rattle.squares.specs.Rows.{LinesPassed}
 use Rattle.squares.proofs.Lines.{passed-none, passed-next}
-use Rattle.squares.proofs.Rows.{rows-few}
+use Rattle.squares.proofs.LineRows.{rows-few}
 use Rattle.squares.proofs.run_lines.Statement.{statement}
 use Rattle.squares.proofs.run_lines.Tie as tie
 
@@ -49,7 +49,8 @@ loop-again c =
     let f = a .pre in
     let next = a .args .first + l .loop .done + 1 in (
       omega arith,
-      passed-next (filterAt (a .args .filters)) (a .args .places) (a .args .first) (l .loop .done) (a .args .lines .now) (f .orders)
+      passed-next (filterAt (a .args .filters)) (a .args .places) (a .args .first) (l .loop .done) (a .args .lines .now)
+          (f .orders)
           (omega (arith, f .passes)) (f .some-places) (f .few-places) (omega (arith, f .long, l .loop .inv .1 .length-kept))
           (l .loop .inv .1)
           (omega (arith, f .passes, rows-few (filterAt (a .args .filters)) (f .orders) next (omega (arith, f .passes))))

@@ -6,8 +6,8 @@ use native.Mathlib.Omega.{arith}
 use borrow.Author.Needs.{needs}
 use lib.ListN.{getD, length, length-set}
 use Rattle.plan.specs.Rules.{orderLimit}
-use Rattle.plan.specs.Lists.{wordAt}
-use Rattle.squares.specs.Lines.{rowWords}
+use Rattle.buffer.specs.Lists.{wordAt}
+use Rattle.squares.specs.LineBuffers.{rowWords}
 use Rattle.squares.proofs.Units.{square-next}
 use Rattle.squares.proofs.square_from.Statement.{statement}
 use Rattle.squares.proofs.square_from.Tie as tie

@@ -5,9 +5,9 @@ use native.Mathlib.Omega.{arith}
 use borrow.Author.Needs.{needs}
 use lib.ListN.{length, length-set}
 use Rattle.plan.specs.Rules.{orderLimit}
-use Rattle.plan.specs.Lists.{wordAt}
+use Rattle.buffer.specs.Lists.{wordAt}
 use Rattle.filter.proofs.Buffers.{HoldsBelow, holds-more}
-use Rattle.squares.specs.Lines.{rowWords}
+use Rattle.squares.specs.LineBuffers.{rowWords}
 use Rattle.squares.proofs.square_row.Statement.{statement}
 use Rattle.squares.proofs.square_row.Tie as tie
 
@@ -56,7 +56,8 @@ loop-again c =
     let a = l .before .args in (
       omega arith,
       length-set (l .loop .words) _ _ ∙ l .loop .inv .1,
-      holds-more (l .loop .line) (λ j. wordAt (a .lines .now) ((a .row + j) * rowWords + a .column)) (l .loop .words) _ (omega arith) refl
+      holds-more (l .loop .line) (λ j. wordAt (a .lines .now) ((a .row + j) * rowWords + a .column)) (l .loop .words) _
+          (omega arith) refl
           (l .loop .inv .2),
     )
 

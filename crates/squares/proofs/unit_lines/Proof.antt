@@ -4,9 +4,9 @@ use Prim.Native.Nat.{_-_, _<_, _≤_}
 use native.Mathlib.Omega.{arith}
 use borrow.Author.Needs.{needs}
 use lib.ListN.{length, length-set}
-use Rattle.passes.specs.Passes.{directionOf}
-use Rattle.filter.specs.Written.{written}
-use Rattle.squares.specs.Lines.{rowWords, unitLines}
+use Rattle.axis.specs.Axis.{directionOf}
+use Rattle.buffer.specs.Written.{written}
+use Rattle.squares.specs.LineBuffers.{rowWords, unitLines}
 use Rattle.squares.proofs.Lines.{margin-below}
 use Rattle.squares.proofs.Units.{units-next}
 use Rattle.squares.proofs.unit_lines.Statement.{statement}
@@ -61,7 +61,8 @@ loop-again c =
     let a = l .before .before .args in (
       omega arith,
       length-set (l .loop .lines) _ _ ∙ l .loop .inv .1,
-      units-next (directionOf (a .pass)) (a .row) (a .places) (l .loop .line) (a .lines .now) (l .loop .inv .2) (c .margin .ensures),
+      units-next (directionOf (a .pass)) (a .row) (a .places) (l .loop .line) (a .lines .now) (l .loop .inv .2)
+          (c .margin .ensures),
     )
 
 same-length : tie.Need-same-length Inv-loop μ-loop

@@ -1,11 +1,12 @@
 -- `strip_of` is block k's strip of the pass.
-use borrow.Author.Needs.{needs}
+use Rattle.plan.proofs.Record.{in-grid}
 use Rattle.strips.proofs.StripRecords.{strip-of-is}
+use borrow.Author.Needs.{needs}
 use Rattle.strips.proofs.strip_of.Statement.{statement}
 use Rattle.strips.proofs.strip_of.Tie as tie
 
 block-shape-requires : tie.Need-block-shape-requires
-block-shape-requires c κs = search needs
+block-shape-requires c κs = in-grid _ (c .before .pre .kept) _ (c .before .pre .counted)
 
 strip-start-requires : tie.Need-strip-start-requires
 strip-start-requires c κs = search needs

@@ -2,7 +2,7 @@
 use native.Mathlib.Omega.{arith}
 use Prim.Native.Nat.{_-_}
 use borrow.Author.Needs.{needs}
-use Rattle.strips.proofs.Passes.{forward-low}
+use Rattle.axis.proofs.Passes.{forward-low}
 use Rattle.strips.proofs.StripRecords.{strip-with-is}
 use Rattle.strips.proofs.strip_with.Statement.{statement}
 use Rattle.strips.proofs.strip_with.Tie as tie

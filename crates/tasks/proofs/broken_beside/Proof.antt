@@ -1,38 +1,49 @@
--- Without a neighbour the number of blocks; with one, the look at its mark.
-use native.Mathlib.Omega.{arith}
-use Rattle.plan.proofs.Tests.{failed, passed}
-use Rattle.tasks.proofs.Bounds.{beside-lent, blocks-most}
+-- With a neighbour the look at its mark; without one the number of blocks.
+use mathlib.Core.Path.{_∙_}
+use borrow.Author.Needs.{needs}
+use Rattle.tasks.proofs.Lent.{beside-lent}
+use Rattle.grid.proofs.Shapes.{found-block, found-none}
 use Rattle.tasks.proofs.Verdicts.{beside-absent, beside-there}
 use Rattle.tasks.proofs.broken_beside.Statement.{statement}
 use Rattle.tasks.proofs.broken_beside.Tie as tie
 
-has-neighbour-requires : tie.Need-has-neighbour-requires
-has-neighbour-requires c κs = (c .before .pre .0 .lent .grid, c .before .pre .0 .inside)
-
-mul-result : tie.Need-mul-result
-mul-result c = let most = blocks-most (c .before .before .before .pre .0 .lent .grid) in omega arith
-
-returns : tie.Need-returns
-returns c = beside-absent _ _ _ _ (c .before .before .before .pre .0 .inside) _ (failed (c .before .has-neighbour .ensures) (c .if1 .taken))
-
 neighbour-requires : tie.Need-neighbour-requires
-neighbour-requires c κs = let lent = c .before .before .before .pre .0 in (lent .lent .grid, lent .inside, passed (c .before .has-neighbour .ensures) (c .if1 .left))
+neighbour-requires c κs = search needs
+
+enum-known-beside : tie.Need-enum-known-beside
+enum-known-beside c = search needs
 
 broken-at-requires : tie.Need-broken-at-requires
-broken-at-requires c κs = rw (c .neighbour .ensures) (beside-lent _ (c .before .before .before .before .pre .0) (passed (c .before .before .has-neighbour .ensures) (c .before .if1 .left)))
+broken-at-requires c κs =
+    let found = c .before .before .before in
+    beside-lent _ _ (found .before .before .pre .0)
+    (found-block _ _ _ (found .neighbour .ensures) (c .before .beside .given .1))
+
+enum-told : tie.Need-enum-told
+enum-told c = search needs
+
+blocks-requires : tie.Need-blocks-requires
+blocks-requires c κs = search needs
+
+returns : tie.Need-returns
+returns c =
+    let found = c .before .before .before .before in
+    beside-there _ _ _ _ _ _ (found-block _ _ _ (found .neighbour .ensures) (c .before .before .beside .given .1))
+    (c .broken-at .ensures)
 
 returns-2 : tie.Need-returns-2
 returns-2 c =
-    let there = passed (c .before .before .before .has-neighbour .ensures) (c .before .before .if1 .left) in
-    beside-there _ _ _ _ (c .before .before .before .before .before .pre .0 .inside) _ _ _ there (c .before .neighbour .ensures) (c .broken-at .ensures)
+    c .blocks2 .ensures
+    ∙ beside-absent _ _ _ _ (found-none _ _ (c .before .before .before .neighbour .ensures) (c .before .enum-told .given .1))
 
 pub broken-beside-spec : {M : Type 1} → statement M
 broken-beside-spec =
     tie.close
     (tie.spec
-    has-neighbour-requires
-    mul-result
-    returns
     neighbour-requires
+    enum-known-beside
     broken-at-requires
+    enum-told
+    blocks-requires
+    returns
     returns-2)

@@ -1,63 +1,27 @@
--- Each arm is a line of the table.
+-- The table of tasks: collect, the links, finish.
+use mathlib.Core.Path.{_∙_}
+use native.Mathlib.Omega.{arith}
 use borrow.Author.Needs.{needs}
-use borrow.Author.Tests.{ne-eqb}
+use Rattle.tasks.proofs.Existence.{link-has, past-links}
 use Rattle.tasks.specs.Tasks.{hasTask}
 use Rattle.tasks.proofs.has_task.Statement.{statement}
 use Rattle.tasks.proofs.has_task.Tie as tie
 
-add-result : tie.Need-add-result
-add-result c = search needs
-
-add-result-2 : tie.Need-add-result-2
-add-result-2 c = search needs
-
 returns : tie.Need-returns
 unfolding hasTask
-returns c = rw (c .match .keys1)
+returns c = rw (c .if1 .taken)
+
+sub-goes-on : tie.Need-sub-goes-on
+sub-goes-on c = search needs
+
+goes-on-requires : tie.Need-goes-on-requires
+goes-on-requires c κs = search needs
 
 returns-2 : tie.Need-returns-2
-unfolding hasTask
-returns-2 c = rw (c .match .keys2)
+returns-2 c = c .goes-on .ensures ∙ link-has _ _ _ (omega arith) (omega arith)
 
 returns-3 : tie.Need-returns-3
-unfolding hasTask
-returns-3 c = rw (c .match .keys3)
-
-returns-4 : tie.Need-returns-4
-unfolding hasTask
-returns-4 c = rw (c .match .keys4)
-
-returns-5 : tie.Need-returns-5
-unfolding hasTask
-returns-5 c = rw (c .match .keys5)
-
-returns-6 : tie.Need-returns-6
-unfolding hasTask
-returns-6 c = rw (c .match .keys6)
-
-returns-7 : tie.Need-returns-7
-unfolding hasTask
-returns-7 c =
-    let none = c .match .rest in
-    rw (
-      ne-eqb _ 0 (none .0 .0 .0 .0 .0 .1),
-      ne-eqb _ 1 (none .0 .0 .0 .0 .1),
-      ne-eqb _ 2 (none .0 .0 .0 .1),
-      ne-eqb _ 3 (none .0 .0 .1),
-      ne-eqb _ 4 (none .0 .1),
-      ne-eqb _ 5 (none .1),
-    )
+returns-3 c = past-links _ _ _ _ (omega arith)
 
 pub has-task-spec : {M : Type 1} → statement M
-has-task-spec =
-    tie.close
-    (tie.spec
-    add-result
-    add-result-2
-    returns
-    returns-2
-    returns-3
-    returns-4
-    returns-5
-    returns-6
-    returns-7)
+has-task-spec = tie.close (tie.spec returns sub-goes-on goes-on-requires returns-2 returns-3)

@@ -8,10 +8,11 @@ use Rattle.tasks.proofs.least_broken.Statement.{statement}
 use Rattle.tasks.proofs.least_broken.Tie as tie
 
 abbrev Inv-loop : tie.InvT-loop
-Inv-loop block-rows block-columns marks task block passes least₀ pass₀ least pass = (pass ≤ passes) × (passes ≤ 4) × (least ≡ leastAround block-rows block-columns marks block pass)
+Inv-loop grid marks task block passes least₀ pass₀ least pass =
+    (pass ≤ passes) × (passes ≤ 4) × (least ≡ leastAround grid marks block pass)
 
 abbrev μ-loop : tie.MeasureT-loop
-μ-loop block-rows block-columns marks task block passes least₀ pass₀ least pass = passes - pass
+μ-loop grid marks task block passes least₀ pass₀ least pass = passes - pass
 
 passes-needed-requires : tie.Need-passes-needed-requires Inv-loop μ-loop
 passes-needed-requires c κs = search needs
@@ -20,13 +21,14 @@ broken-at-requires : tie.Need-broken-at-requires Inv-loop μ-loop
 broken-at-requires c κs = search needs
 
 loop-holds : tie.Need-loop-holds Inv-loop μ-loop
-loop-holds c = (omega arith, omega (arith, c .before .passes-needed .ensures), c .broken-at .ensures ∙ sym (around-none _ _ _ _))
+loop-holds c =
+    (omega arith, omega (arith, c .before .passes-needed .ensures), c .broken-at .ensures ∙ sym (around-none _ _ _))
 
 broken-beside-requires : tie.Need-broken-beside-requires Inv-loop μ-loop
 broken-beside-requires c κs = (c .before .before .before .before .before .pre .0, omega arith)
 
-smaller-requires : tie.Need-smaller-requires Inv-loop μ-loop
-smaller-requires c κs = search needs
+lesser-requires : tie.Need-lesser-requires Inv-loop μ-loop
+lesser-requires c κs = search needs
 
 add-pass : tie.Need-add-pass Inv-loop μ-loop
 add-pass c = search needs
@@ -35,13 +37,19 @@ loop-less : tie.Need-loop-less Inv-loop μ-loop
 loop-less c = search needs
 
 loop-again : tie.Need-loop-again Inv-loop μ-loop
-loop-again c = (omega arith, omega arith, c .smaller .ensures ∙ around-on _ _ _ _ _ _ _ (c .before .before .before .loop .inv .2) (c .before .broken-beside .ensures))
+loop-again c = (
+  omega arith,
+  omega arith,
+  c .lesser .ensures ∙ around-on _ _ _ _ _ _ (c .before .before .before .loop .inv .2) (c .before .broken-beside .ensures),
+)
 
 returns : tie.Need-returns Inv-loop μ-loop
 returns c =
     let known = c .before .before .before .before .before in
-    let end : c .before .loop .pass ≡ min (known .args .task) 4 = omega (arith, c .before .before .before .passes-needed .ensures) in
-    rw end at (c .before .loop .inv .2) ∙ around-is _ _ _ _ (known .pre .0 .inside) _ (known .pre .1)
+    let end : c .before .loop .pass ≡ min (known .args .task) 4 =
+    omega (arith, c .before .before .before .passes-needed .ensures)
+    in
+    rw end at (c .before .loop .inv .2) ∙ around-is _ _ _ (known .pre .0 .inside) _ (known .pre .1)
 
 pub least-broken-spec : {M : Type 1} → statement M
 least-broken-spec =
@@ -53,7 +61,7 @@ least-broken-spec =
     broken-at-requires
     loop-holds
     broken-beside-requires
-    smaller-requires
+    lesser-requires
     add-pass
     loop-less
     loop-again

@@ -1,39 +1,50 @@
--- Without a neighbour nothing is asked; with one, its mark is asked.
+-- With a neighbour its mark is asked; without one nothing is.
 use native.Mathlib.Omega.{arith}
 use borrow.Author.Needs.{needs}
-use Rattle.plan.proofs.Tests.{failed, passed}
-use Rattle.tasks.proofs.Bounds.{beside-lent, block-lent}
+use Rattle.tasks.proofs.Lent.{beside-lent, block-lent}
+use Rattle.grid.proofs.Shapes.{found-block, found-none}
 use Rattle.tasks.proofs.Needs.{link-absent, link-there}
 use Rattle.tasks.proofs.link_marked.Statement.{statement}
 use Rattle.tasks.proofs.link_marked.Tie as tie
 
-has-neighbour-requires : tie.Need-has-neighbour-requires
-has-neighbour-requires c κs = (c .before .pre .0 .lent .grid, c .before .pre .0 .inside)
+neighbour-requires : tie.Need-neighbour-requires
+neighbour-requires c κs = search needs
 
-returns : tie.Need-returns
-returns c = link-absent _ _ _ _ _ (failed (c .before .has-neighbour .ensures) (c .if1 .taken))
+enum-known-beside : tie.Need-enum-known-beside
+enum-known-beside c = search needs
 
 add-is-marked : tie.Need-add-is-marked
 add-is-marked c = search needs
 
-neighbour-requires : tie.Need-neighbour-requires
-neighbour-requires c κs = let lent = c .before .before .before .pre .0 in (lent .lent .grid, lent .inside, passed (c .before .has-neighbour .ensures) (c .if1 .left))
-
 is-marked-requires : tie.Need-is-marked-requires
 is-marked-requires c κs =
-    let there = passed (c .before .before .has-neighbour .ensures) (c .before .if1 .left) in
-    (omega arith, rw (c .neighbour .ensures) (block-lent (beside-lent _ (c .before .before .before .before .pre .0) there)))
+    let found = c .before .before .before in (
+      omega arith,
+      block-lent
+          (beside-lent _ _ (found .before .before .pre .0)
+          (found-block _ _ _ (found .neighbour .ensures) (c .before .beside .given .1))),
+    )
+
+enum-told : tie.Need-enum-told
+enum-told c = search needs
+
+returns : tie.Need-returns
+returns c =
+    let found = c .before .before .before .before in
+    link-there _ _ _ _ _ _ (found-block _ _ _ (found .neighbour .ensures) (c .before .before .beside .given .1))
+    (c .is-marked .ensures)
 
 returns-2 : tie.Need-returns-2
-returns-2 c = link-there _ _ _ _ _ _ _ (passed (c .before .before .before .has-neighbour .ensures) (c .before .before .if1 .left)) (c .before .neighbour .ensures) (c .is-marked .ensures)
+returns-2 c = link-absent _ _ _ _ (found-none _ _ (c .before .before .neighbour .ensures) (c .enum-told .given .1))
 
 pub link-marked-spec : {M : Type 1} → statement M
 link-marked-spec =
     tie.close
     (tie.spec
-    has-neighbour-requires
-    returns
-    add-is-marked
     neighbour-requires
+    enum-known-beside
+    add-is-marked
     is-marked-requires
+    enum-told
+    returns
     returns-2)

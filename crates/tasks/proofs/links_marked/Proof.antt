@@ -4,18 +4,18 @@ use mathlib.Core.Path.{_≡_, sym}
 use Prim.Native.Nat.{_-_, _≤_}
 use native.Mathlib.Omega.{arith}
 use borrow.Author.Needs.{needs}
-use Rattle.plan.proofs.Tests.{all-fails, all-more, all-none, failed, passed}
-use Rattle.plan.specs.Rules.{allBelow}
+use Rattle.number.proofs.Tests.{all-fails, all-more, all-none, failed, passed}
+use Rattle.number.specs.Numbers.{allBelow}
 use Rattle.tasks.specs.Marks.{isMarked}
 use Rattle.tasks.specs.Neighbours.{linkDone}
 use Rattle.tasks.proofs.links_marked.Statement.{statement}
 use Rattle.tasks.proofs.links_marked.Tie as tie
 
 abbrev Inv-loop : tie.InvT-loop
-Inv-loop block-rows block-columns marks passes block pass₀ pass = (pass ≤ passes) × (allBelow (linkDone block-rows block-columns (isMarked marks) block) pass ≡ true)
+Inv-loop grid marks passes block pass₀ pass = (pass ≤ passes) × (allBelow (linkDone grid (isMarked marks) block) pass ≡ true)
 
 abbrev μ-loop : tie.MeasureT-loop
-μ-loop block-rows block-columns marks passes block pass₀ pass = passes - pass
+μ-loop grid marks passes block pass₀ pass = passes - pass
 
 loop-holds : tie.Need-loop-holds Inv-loop μ-loop
 loop-holds c = (omega arith, all-none _)
@@ -33,10 +33,15 @@ loop-less : tie.Need-loop-less Inv-loop μ-loop
 loop-less c = search needs
 
 loop-again : tie.Need-loop-again Inv-loop μ-loop
-loop-again c = (omega arith, all-more _ _ (c .before .before .before .loop .inv .1) (passed (c .before .link-marked .ensures) (c .if1 .left)))
+loop-again c = (
+  omega arith,
+  all-more _ _ (c .before .before .before .loop .inv .1) (passed (c .before .link-marked .ensures) (c .if1 .left)),
+)
 
 returns-2 : tie.Need-returns-2 Inv-loop μ-loop
-returns-2 c = let end : c .before .loop .pass ≡ c .before .before .before .args .passes = omega arith in sym (rw end at (c .before .loop .inv .1))
+returns-2 c =
+    let end : c .before .loop .pass ≡ c .before .before .before .args .passes = omega arith in
+    sym (rw end at (c .before .loop .inv .1))
 
 pub links-marked-spec : {M : Type 1} → statement M
 links-marked-spec =

@@ -4,17 +4,19 @@ use mathlib.Core.Path.{_≡_, sym}
 use Prim.Native.Nat.{_-_, _≤_}
 use native.Mathlib.Omega.{arith}
 use borrow.Author.Needs.{needs}
-use Rattle.plan.proofs.Tests.{all-fails, all-more, all-none, failed, passed}
-use Rattle.plan.specs.Rules.{allBelow}
+use Rattle.number.proofs.Tests.{all-fails, all-more, all-none, failed, passed}
+use Rattle.number.specs.Numbers.{allBelow}
+use Rattle.grid.specs.Grid.{blockRow, blockColumn}
 use Rattle.tasks.specs.Marks.{spareClear}
 use Rattle.tasks.proofs.spares_clear.Statement.{statement}
 use Rattle.tasks.proofs.spares_clear.Tie as tie
 
 abbrev Inv-loop : tie.InvT-loop
-Inv-loop block-rows block-columns row column mark task₀ task = (task ≤ 6) × (allBelow (spareClear block-rows block-columns row column mark) task ≡ true)
+Inv-loop grid block mark task₀ task =
+    (task ≤ 6) × (allBelow (spareClear grid (blockRow grid block) (blockColumn grid block) mark) task ≡ true)
 
 abbrev μ-loop : tie.MeasureT-loop
-μ-loop block-rows block-columns row column mark task₀ task = 6 - task
+μ-loop grid block mark task₀ task = 6 - task
 
 loop-holds : tie.Need-loop-holds Inv-loop μ-loop
 loop-holds c = (omega arith, all-none _)
@@ -32,7 +34,10 @@ loop-less : tie.Need-loop-less Inv-loop μ-loop
 loop-less c = search needs
 
 loop-again : tie.Need-loop-again Inv-loop μ-loop
-loop-again c = (omega arith, all-more _ _ (c .before .before .before .loop .inv .1) (passed (c .before .spare-clear .ensures) (c .if1 .left)))
+loop-again c = (
+  omega arith,
+  all-more _ _ (c .before .before .before .loop .inv .1) (passed (c .before .spare-clear .ensures) (c .if1 .left)),
+)
 
 returns-2 : tie.Need-returns-2 Inv-loop μ-loop
 returns-2 c = let end : c .before .loop .task ≡ 6 = omega arith in sym (rw end at (c .before .loop .inv .1))

@@ -6,7 +6,7 @@ use mir.ValLaws.{toZ-ofZ}
 use borrow.Author.Needs.{needs}
 use borrow.Author.Tests.{le-leb, lt-leb}
 use Rattle.plan.specs.Rules.{inSigned28, passKept}
-use Rattle.plan.proofs.Tests.{failed, passed}
+use Rattle.number.proofs.Tests.{failed, passed}
 use Rattle.plan.proofs.Pass.check.Statement.{statement}
 use Rattle.plan.proofs.Pass.check.Tie as tie
 

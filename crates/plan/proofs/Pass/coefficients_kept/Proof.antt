@@ -7,8 +7,9 @@ use mir.Syntax.{w64}
 use mir.ValLaws.{toZ-ofZ}
 use borrow.Author.Needs.{needs, sfits-of}
 use Rattle.plan.specs.declared.Pass.{Pass}
-use Rattle.plan.specs.Rules.{orderLimit, allBelow, coefficientAt, coefficientKept, coefficientsKept}
-use Rattle.plan.proofs.Tests.{all-none, all-more, all-fails, failed, passed}
+use Rattle.plan.specs.Rules.{orderLimit, coefficientAt, coefficientKept, coefficientsKept}
+use Rattle.number.specs.Numbers.{allBelow}
+use Rattle.number.proofs.Tests.{all-none, all-more, all-fails, failed, passed}
 use Rattle.plan.proofs.Pass.coefficients_kept.Statement.{statement}
 use Rattle.plan.proofs.Pass.coefficients_kept.Tie as tie
 

@@ -1,8 +1,8 @@
--- `plan::Plan::kept_sizes` meets its contract: no product overflows, and the tasks do not go below 0. Assumes nothing.
+-- No product overflows, and the tasks do not go below 0.
 use native.Mathlib.Omega.{arith}
-use borrow.Author.Needs.{needs}
 use Rattle.plan.specs.Sizes.{sizesOf}
 use Rattle.plan.proofs.Needed.{Bounds, bounds}
+use borrow.Author.Needs.{needs}
 use Rattle.plan.proofs.Plan.kept_sizes.Statement.{statement}
 use Rattle.plan.proofs.Plan.kept_sizes.Tie as tie
 
@@ -15,23 +15,23 @@ block-columns-requires c κs = search needs
 order-sum-requires : tie.Need-order-sum-requires
 order-sum-requires c κs = search needs
 
-small : (c : tie.After-order-sum) → Bounds (c .before .before .before .args .self) (c .before .before .block-rows .result) (c .before .block-columns .result) (c .order-sum .result)
-small c = rw (c .before .before .block-rows .ensures, c .before .block-columns .ensures, c .order-sum .ensures) (bounds _ (c .before .before .before .pre))
+small : (c : tie.After-order-sum)
+    → Bounds (c .before .before .before .before .args .self) (c .before .before .block-rows .result) (c .before .block-columns .result) (c .order-sum .result)
+small c =
+    rw (c .before .before .block-rows .ensures, c .before .block-columns .ensures, c .order-sum .ensures)
+    (bounds _ (c .before .before .before .before .pre))
 
 mul-marks : tie.Need-mul-marks
 mul-marks c = omega (arith, small c)
 
-add-t6 : tie.Need-add-t6
-add-t6 c = omega (arith, small c)
-
-mul-t7 : tie.Need-mul-t7
-mul-t7 c = omega (arith, small (c .before))
+add-t7 : tie.Need-add-t7
+add-t7 c = omega (arith, small c)
 
 mul-t8 : tie.Need-mul-t8
 mul-t8 c = omega (arith, small (c .before))
 
 mul-t9 : tie.Need-mul-t9
-mul-t9 c = omega (arith, small (c .before .before))
+mul-t9 c = omega (arith, small (c .before))
 
 mul-t10 : tie.Need-mul-t10
 mul-t10 c = omega (arith, small (c .before .before))
@@ -39,14 +39,17 @@ mul-t10 c = omega (arith, small (c .before .before))
 mul-t11 : tie.Need-mul-t11
 mul-t11 c = omega (arith, small (c .before .before))
 
-sub-t12 : tie.Need-sub-t12
-sub-t12 c = omega (arith, small (c .before .before))
+mul-t12 : tie.Need-mul-t12
+mul-t12 c = omega (arith, small (c .before .before))
 
-mul-t13 : tie.Need-mul-t13
-mul-t13 c = omega (arith, small (c .before .before))
+sub-t13 : tie.Need-sub-t13
+sub-t13 c = omega (arith, small (c .before .before))
 
-sub-t14 : tie.Need-sub-t14
-sub-t14 c = omega (arith, small (c .before .before))
+mul-t14 : tie.Need-mul-t14
+mul-t14 c = omega (arith, small (c .before .before))
+
+sub-t15 : tie.Need-sub-t15
+sub-t15 c = omega (arith, small (c .before .before))
 
 returns : tie.Need-returns
 unfolding sizesOf
@@ -60,13 +63,13 @@ kept-sizes-spec =
     block-columns-requires
     order-sum-requires
     mul-marks
-    add-t6
-    mul-t7
+    add-t7
     mul-t8
     mul-t9
     mul-t10
     mul-t11
-    sub-t12
-    mul-t13
-    sub-t14
+    mul-t12
+    sub-t13
+    mul-t14
+    sub-t15
     returns)

@@ -4,13 +4,14 @@ use mathlib.Core.Bool.{true}
 use Prim.Native.Nat.{ℕ, _≤_, _-_}
 use native.Mathlib.Omega.{arith}
 use borrow.Author.Needs.{needs}
-use Rattle.plan.specs.Rules.{allBelow, passAt, passKept, passesKept}
-use Rattle.plan.proofs.Tests.{all-none, all-more, all-fails, failed, passed}
+use Rattle.number.specs.Numbers.{allBelow}
+use Rattle.plan.specs.Rules.{passAt, passKept, passesKept}
+use Rattle.number.proofs.Tests.{all-none, all-more, all-fails, failed, passed}
 use Rattle.plan.proofs.Plan.passes_kept.Statement.{statement}
 use Rattle.plan.proofs.Plan.passes_kept.Tie as tie
 
 abbrev Inv-loop : tie.InvT-loop
-Inv-loop self side i₀ i = (i ≤ 4) × (allBelow (λ (k : ℕ). passKept (self .side) (passAt self k)) i ≡ true)
+Inv-loop self side i₀ i = (i ≤ 4) × (allBelow (λ (k : ℕ). passKept (self .grid .side) (passAt self k)) i ≡ true)
 
 abbrev μ-loop : tie.MeasureT-loop
 μ-loop self side i₀ i = 4 - i

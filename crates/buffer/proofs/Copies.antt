@@ -1,0 +1,112 @@
+-- Rows, zeros and rectangles that are written: one turn of each loop, what stands there then, and what stands elsewhere.
+-- Assumes nothing.
+use mathlib.Core.Path.{_≡_, refl, sym, ap, ap₂, _∙_}
+use mathlib.Core.List.{List}
+use mathlib.Core.Logic.{_≢_}
+use Prim.Native.Nat.{ℕ, _+_, _*_, _/_, _%_, _^_, _<_, _≤_}
+use native.Mathlib.Nat.{div-add-mod'}
+use native.Mathlib.Omega.{arith}
+use lib.ListN.{length, set}
+use Rattle.word.proofs.Ring.{one-mul, reduced-small}
+use Rattle.buffer.specs.Lists.{wordAt}
+use Rattle.buffer.specs.Written.{written, cleared, rowWritten, rectangleWritten}
+use Rattle.buffer.proofs.Written.{written-none, written-length, written-same, written-parts, written-more, written-other, written-at}
+use Rattle.number.proofs.RowMajor.{row-of, column-of, place-below, row-below, column-below}
+use Rattle.buffer.specs.Copies.{wordsFrom, scaledFrom, WordsFit}
+
+-- ---- a row
+
+pub row-none : (start : ℕ) (words : ℕ → ℕ) (a : List ℕ) → a ≡ rowWritten start words 0 a
+unfolding rowWritten
+row-none start words a = sym (written-none _ words a)
+
+pub row-more : (start : ℕ) (words : ℕ → ℕ) (n : ℕ) (a b : List ℕ) (v : ℕ) → b ≡ rowWritten start words n a → v ≡ words n
+    → set b (start + n) v ≡ rowWritten start words (n + 1) a
+unfolding rowWritten
+row-more start words n a b v e f = written-more (λ i. start + i) words n a b v e f
+
+-- Words that lie one after another, times 1.
+pub row-unscaled : (start : ℕ) (from : List ℕ) (from-start n : ℕ) (a : List ℕ) → ((i : ℕ) → wordAt from i < 2 ^ 64)
+    → rowWritten start (wordsFrom from from-start) n a ≡ rowWritten start (scaledFrom 1 from from-start 1) n a
+unfolding rowWritten
+row-unscaled start from from-start n a small =
+    written-same _ _ _ _ n a (λ i h. refl)
+    (λ i h.
+    let e : from-start + i * 1 ≡ from-start + i = omega arith in
+    rw e (sym (one-mul _ ∙ reduced-small _ (small (from-start + i)))))
+
+-- Words one after another are words that lie 1 apart.
+pub words-fit : (n start count : ℕ) → start + count ≤ n → WordsFit n start 1 count
+words-fit n start count h = record { inside = λ i l. omega arith }
+
+-- ---- zeros
+
+pub cleared-none : (start step : ℕ) (a : List ℕ) → a ≡ cleared start step 0 a
+unfolding cleared
+cleared-none start step a = sym (written-none _ _ a)
+
+pub cleared-more : (start step n : ℕ) (a b : List ℕ) → b ≡ cleared start step n a
+    → set b (start + n * step) 0 ≡ cleared start step (n + 1) a
+unfolding cleared
+cleared-more start step n a b e = written-more (λ i. start + i * step) (λ i. 0) n a b 0 e refl
+
+-- ---- a rectangle
+
+module _ (place words : ℕ → ℕ → ℕ) (w : ℕ) where
+  pub rectangle-none : (a : List ℕ) → a ≡ rectangleWritten place words w 0 a
+  unfolding rectangleWritten
+  rectangle-none a =
+      let e : 0 * w ≡ 0 = omega arith in
+      rw e (sym (written-none _ _ a))
+
+  -- One row more.
+  pub rectangle-more : (n : ℕ) (a b d : List ℕ) → b ≡ rectangleWritten place words w n a
+      → d ≡ written (place n) (words n) w b → d ≡ rectangleWritten place words w (n + 1) a
+  unfolding rectangleWritten
+  rectangle-more n a b d e f =
+      let count : (n + 1) * w ≡ n * w + w = omega arith in
+      let p : ℕ → ℕ = λ q. place (q / w) (q % w) in
+      let v : ℕ → ℕ = λ q. words (q / w) (q % w) in
+      f
+      ∙ written-same (place n) (λ i. p (n * w + i)) (words n) (λ i. v (n * w + i)) w b
+      (λ i h. sym (ap₂ place (row-of w n i h) (column-of w n i h)))
+      (λ i h. sym (ap₂ words (row-of w n i h) (column-of w n i h)))
+      ∙ ap (written (λ i. p (n * w + i)) (λ i. v (n * w + i)) w) e
+      ∙ sym (written-parts p v (n * w) w a)
+      ∙ ap (λ z. written p v z a) (sym count)
+
+  pub rectangle-length : (h : ℕ) (a : List ℕ) → length (rectangleWritten place words w h a) ≡ length a
+  unfolding rectangleWritten
+  rectangle-length h a = written-length _ _ (h * w) a
+
+  -- A place outside the rectangle.
+  pub rectangle-other : (h : ℕ) (a : List ℕ) (q : ℕ) → ((y x : ℕ) → y < h → x < w → q ≢ place y x)
+      → wordAt (rectangleWritten place words w h a) q ≡ wordAt a q
+  unfolding rectangleWritten
+  rectangle-other h a q out =
+      written-other _ _ (h * w) a q (λ i c. out _ _ (row-below h w i c) (column-below h w i c))
+
+  -- A place of the rectangle, where all of them differ and lie in the list.
+  pub rectangle-at : (h : ℕ) (a : List ℕ)
+      → ((y x v u : ℕ) → y < h → x < w → v < h → u < w → place y x ≡ place v u → (y ≡ v) × (x ≡ u))
+      → ((y x : ℕ) → y < h → x < w → place y x < length a)
+      → (y x : ℕ) → y < h → x < w → wordAt (rectangleWritten place words w h a) (place y x) ≡ words y x
+  unfolding rectangleWritten
+  rectangle-at h a apart fits y x c d =
+      ap (wordAt (rectangleWritten place words w h a)) (sym (ap₂ place (row-of w y x d) (column-of w y x d)))
+      ∙ written-at _ _ (h * w) a
+      (λ i j f g e.
+      let k : j < h * w = omega arith in
+      let s = apart _ _ _ _ (row-below h w i g) (column-below h w i g) (row-below h w j k) (column-below h w j k) e in
+      let t : i ≡ j = sym (div-add-mod' i w) ∙ ap₂ (λ y x. y * w + x) (s .0) (s .1) ∙ div-add-mod' j w in
+      omega arith)
+      (λ i g. fits _ _ (row-below h w i g) (column-below h w i g))
+      (y * w + x) (place-below h w y x c d)
+      ∙ ap₂ words (row-of w y x d) (column-of w y x d)
+
+-- The same words at the same places, whatever the rows.
+pub rectangle-same : (place words : ℕ → ℕ → ℕ) (w h : ℕ) (r v : ℕ → ℕ) (a : List ℕ)
+    → ((q : ℕ) → q < h * w → place (q / w) (q % w) ≡ r q) → ((q : ℕ) → q < h * w → words (q / w) (q % w) ≡ v q)
+    → rectangleWritten place words w h a ≡ written r v (h * w) a
+unfolding rectangleWritten
+rectangle-same place words w h r v a e f = written-same _ r _ v (h * w) a e f

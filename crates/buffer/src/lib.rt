@@ -1,0 +1,71 @@
+// Words of lent buffers: copied, scaled, cleared, and read from heights. An inner crate: what its functions require, their
+// callers in this repository show.
+ghost use mathlib.Core.Path.{_≡_};
+ghost use Prim.Native.Nat.{_+_, _≤_};
+ghost use lib.ListN.{length};
+ghost use Rattle.buffer.specs.Pixel.{pixel};
+ghost use Rattle.buffer.specs.Copies.{WordsFit, wordsFrom, scaledFrom, heightsFrom};
+ghost use Rattle.buffer.specs.Written.{rowWritten, cleared};
+
+// The word that a pixel enters the passes with.
+pub fn read_pixel(height: i32) -> u64
+    ensures { λ r. ⌜ r ≡ pixel height ⌝ }
+{
+    word::residue_of_height(height)
+}
+
+// The words of heights, one after another.
+pub fn read_heights(map: &[i32], map_start: usize, to: &mut [u64], to_start: usize, count: usize)
+    requires { ⌜ («map_start» + count ≤ length (now map)) × («to_start» + count ≤ length (now to)) ⌝ }
+    ensures { λ _. ⌜ now (to .exit) ≡ rowWritten «to_start» (heightsFrom (now (map .entry)) «map_start») count (now (to .entry)) ⌝ }
+{
+    let mut i = 0;
+    while i < count {
+        to[to_start + i] = read_pixel(map[map_start + i]);
+        i += 1;
+    }
+}
+
+// Words of one buffer to another.
+pub fn copy_words(from: &[u64], from_start: usize, to: &mut [u64], to_start: usize, count: usize)
+    requires { ⌜ («from_start» + count ≤ length (now from)) × («to_start» + count ≤ length (now to)) ⌝ }
+    ensures { λ _. ⌜ now (to .exit) ≡ rowWritten «to_start» (wordsFrom (now (from .entry)) «from_start») count (now (to .entry)) ⌝ }
+{
+    let mut i = 0;
+    while i < count {
+        to[to_start + i] = from[from_start + i];
+        i += 1;
+    }
+}
+
+// Words that lie `step` apart, each times a gain, one after another to another buffer.
+pub fn scale_words(
+    from: &[u64],
+    from_start: usize,
+    step: usize,
+    to: &mut [u64],
+    to_start: usize,
+    count: usize,
+    gain: u64,
+)
+    requires { ⌜ WordsFit (length (now from)) «from_start» step count × («to_start» + count ≤ length (now to)) ⌝ }
+    ensures { λ _. ⌜ now (to .exit) ≡ rowWritten «to_start» (scaledFrom gain (now (from .entry)) «from_start» step) count (now (to .entry)) ⌝ }
+{
+    let mut i = 0;
+    while i < count {
+        to[to_start + i] = word::mul(gain, from[from_start + i * step]);
+        i += 1;
+    }
+}
+
+// Zeros to words that lie `step` apart.
+pub fn clear_words(words: &mut [u64], start: usize, step: usize, count: usize)
+    requires { ⌜ WordsFit (length (now words)) start step count ⌝ }
+    ensures { λ _. ⌜ now (words .exit) ≡ cleared start step count (now (words .entry)) ⌝ }
+{
+    let mut i = 0;
+    while i < count {
+        words[start + i * step] = 0;
+        i += 1;
+    }
+}

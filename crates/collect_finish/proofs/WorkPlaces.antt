@@ -1,0 +1,171 @@
+-- Places of the work array: what fits it, that its lines are apart, and which places lie outside the block.
+-- Assumes nothing.
+use mathlib.Core.Path.{_≡_, refl, _∙_}
+use mathlib.Core.Logic.{_≢_}
+use Prim.Native.Nat.{ℕ, _+_, _*_, _≤_, _<_}
+use native.Mathlib.Nat.{mul-le-mul-right}
+use native.Mathlib.Omega.{arith}
+use Rattle.plan.specs.declared.Plan.{Plan}
+use Rattle.plan.specs.Rules.{orderLimit}
+use Rattle.plan.specs.Sizes.{neededPixels, orderOf}
+use Rattle.plan.proofs.Record.{rules, order-limited-at}
+use Rattle.grid.proofs.Extents.{extent-positive, extent-in-side, extent-inside}
+use Rattle.axis.specs.Axis.{Axis, columns, rows, Direction, forward, backward, axisOf, along, across, isBackward, ifForward, ifBackward}
+use Rattle.filter.specs.Windows.{WindowFits}
+use Rattle.grid.specs.Grid.{blockRow, blockColumn, firstRow, firstColumn, rowsOf, columnsOf}
+use Rattle.grid.proofs.Blocks.{block-row-below, block-column-below}
+use Rattle.number.proofs.RowMajor.{same-row-column, place-below}
+use Rattle.grid.specs.declared.Grid.{Grid}
+use Rattle.grid.specs.declared.BlockShape.{BlockShape}
+use Rattle.grid.specs.Shapes.{shapeOf}
+use Rattle.buffer.specs.Copies.{stridePlace, StrideFits}
+use Rattle.collect_finish.specs.Work.{workStride, workWords, workCorner, workWindow, pixelIn, mapCorner, workPlace, linesOf, extentOf, ShapeFits}
+use Rattle.strips.specs.StripRecord.{EdgeFits}
+use Rattle.collect_finish.specs.WorkFits.{BlockOf, ShapedBlock, StripMoves}
+
+-- ---- what fits
+
+-- The block and the words past its edge lie in the work array.
+pub window-fits : (a : Axis) (d : Direction) {shape : BlockShape} (order n : ℕ) → ShapeFits shape → order ≤ orderLimit
+    → n ≡ workWords → WindowFits n a d (workWindow (shape .rows) (shape .columns)) order
+window-fits a d {shape} order n fits h e =
+    let room = by a d in
+    record { tall = fits .tall; wide = fits .wide; start = room .0; in-row = room .1; in-buffer = room .2 }
+  where
+    by : (a : Axis) (d : Direction)
+        → (ifForward (isBackward d) order ≤ along a orderLimit orderLimit)
+        × (orderLimit + shape .columns + along a 0 (ifBackward (isBackward d) order) ≤ workStride)
+        × ((orderLimit + shape .rows + along a (ifBackward (isBackward d) order) 0) * workStride ≤ n)
+    by columns forward = omega (arith, fits)
+    by columns backward = omega (arith, fits)
+    by rows forward = omega (arith, fits)
+    by rows backward = omega (arith, fits)
+
+pub block-grid-fits : {shape : BlockShape} {n : ℕ} → ShapeFits shape → n ≡ workWords
+    → StrideFits n workCorner workStride (shape .rows) (shape .columns)
+block-grid-fits fits e = record { row = λ y c. omega arith }
+
+-- A block of a plan fits the array, and its rows lie in a map of h×w words.
+module _ {plan : Plan} {k : ℕ} (block : BlockOf plan k) where
+  abbrev grid : Grid
+  grid = plan .grid
+
+  pub shape-fits : ShapeFits (shapeOf (plan .grid) k)
+  unfolding shapeOf
+  shape-fits =
+      let side = rules plan (block .kept) .side-high in
+      record {
+        tall = extent-positive (grid .rows) (grid .side) (blockRow grid k) (block-row-below grid k (block .counted));
+        wide = extent-positive (grid .columns) (grid .side) (blockColumn grid k) (block-column-below grid k (block .counted));
+        rows-high = omega (arith, extent-in-side (grid .rows) (grid .side) (blockRow grid k));
+        columns-high = omega (arith, extent-in-side (grid .columns) (grid .side) (blockColumn grid k));
+      }
+
+  rows-fit : (n : ℕ) → neededPixels plan ≤ n
+      → StrideFits n (firstRow grid k * grid .columns + firstColumn grid k) (grid .columns) (rowsOf grid k) (columnsOf grid k)
+  rows-fit n long =
+      record {
+        row =
+            λ y h.
+            let down = extent-inside (grid .rows) (grid .side) (blockRow grid k) (block-row-below grid k (block .counted)) in
+            let right =
+            extent-inside (grid .columns) (grid .side) (blockColumn grid k) (block-column-below grid k (block .counted)) in
+            let rest : (firstRow grid k + y + 1) * grid .columns ≤ grid .rows * grid .columns =
+            mul-le-mul-right (grid .columns) (omega arith) in
+            omega arith;
+      }
+
+-- The same with the code's shape of the block.
+module _ {plan : Plan} {k : ℕ} {shape : BlockShape} (placed : ShapedBlock plan k shape) where
+  pub shape-in-work : ShapeFits shape
+  shape-in-work = rw (placed .shaped) (shape-fits (placed .block))
+
+  pub block-in-work : {n : ℕ} → n ≡ workWords → StrideFits n workCorner workStride (shape .rows) (shape .columns)
+  block-in-work e = block-grid-fits shape-in-work e
+
+  pub block-in-map : {n : ℕ} → neededPixels plan ≤ n
+      → StrideFits n (mapCorner plan shape) (plan .grid .columns) (shape .rows) (shape .columns)
+  unfolding shapeOf
+  block-in-map {n} long = rw (placed .shaped) (rows-fit (placed .block) n long)
+
+  pub corner-in-map : {n : ℕ} → neededPixels plan ≤ n → mapCorner plan shape ≤ n
+  corner-in-map long = omega (arith, block-in-map long .row 0 (shape-in-work .tall))
+
+-- ---- rectangles of lines
+
+-- The place of the first line's index i as the code chooses it,
+pub place-along : (a : Axis) (i : ℕ) → along a (i * workStride + orderLimit) (orderLimit * workStride + i) ≡ workPlace a 0 i
+place-along columns i = refl
+place-along rows i = refl
+
+-- and the places of a rectangle that starts there.
+pub line-place : (a : Axis) (i y x : ℕ)
+    → stridePlace (workPlace a 0 i) workStride y x ≡ workPlace a (across a y x) (i + along a y x)
+line-place columns i y x = omega arith
+line-place rows i y x = omega arith
+
+pub lines-fit : (a : Axis) (i places lines n : ℕ) → i + places ≤ workStride → lines ≤ 32 → n ≡ workWords
+    → StrideFits n (workPlace a 0 i) workStride (along a places lines) (across a places lines)
+lines-fit columns i places lines n h s e = record { row = λ y c. omega arith }
+lines-fit rows i places lines n h s e = record { row = λ y c. omega arith }
+
+-- ---- lines are apart
+
+pub work-apart : (a : Axis) (l i m j : ℕ) → orderLimit + l < workStride → i < workStride → orderLimit + m < workStride
+    → j < workStride → workPlace a l i ≡ workPlace a m j → (l ≡ m) × (i ≡ j)
+work-apart columns l i m j hl hi hm hj e =
+    let s = same-row-column workStride i (orderLimit + l) j (orderLimit + m) hl hm e in (omega arith, s .0)
+work-apart rows l i m j hl hi hm hj e =
+    let s = same-row-column workStride (orderLimit + l) i (orderLimit + m) j hi hj e in (omega arith, s .1)
+
+pub work-below : (a : Axis) (l i : ℕ) → orderLimit + l < workStride → i < workStride → workPlace a l i < workWords
+work-below columns l i hl hi = place-below workStride workStride i (orderLimit + l) hi hl
+work-below rows l i hl hi = place-below workStride workStride (orderLimit + l) i hl hi
+
+-- A pixel of the block is a place of a line.
+pub pixel-on-line : (a : Axis) (y x : ℕ)
+    → pixelIn y x ≡ workPlace a (across a y x) (orderLimit + along a y x)
+pixel-on-line columns y x = refl
+pixel-on-line rows y x = refl
+
+pub across-below : (a : Axis) (h w y x : ℕ) → y < h → x < w → across a y x < across a h w
+across-below columns h w y x p q = q
+across-below rows h w y x p q = p
+
+pub along-below : (a : Axis) (h w y x : ℕ) → y < h → x < w → along a y x < along a h w
+along-below columns h w y x p q = p
+along-below rows h w y x p q = q
+
+lines-high : (a : Axis) (h w : ℕ) → h ≤ 32 → w ≤ 32 → (across a h w ≤ 32) × (along a h w ≤ 32)
+lines-high columns h w p q = (q, p)
+lines-high rows h w p q = (p, q)
+
+module _ {shape : BlockShape} (fits : ShapeFits shape) (pass : ℕ) where
+  pub lines-small : linesOf shape pass ≤ 32
+  lines-small = lines-high (axisOf pass) (shape .rows) (shape .columns) (fits .rows-high) (fits .columns-high) .0
+
+  pub extent-small : extentOf shape pass ≤ 32
+  extent-small = lines-high (axisOf pass) (shape .rows) (shape .columns) (fits .rows-high) (fits .columns-high) .1
+
+  -- Index i of line l lies outside the block.
+  pub outside-block : (l i : ℕ) → orderLimit + l < workStride → i < workStride
+      → (l < linesOf shape pass → orderLimit ≤ i → i < orderLimit + extentOf shape pass → ⊥)
+      → (y x : ℕ) → y < shape .rows → x < shape .columns → workPlace (axisOf pass) l i ≢ pixelIn y x
+  outside-block l i hl hi out y x p q e =
+      let a = axisOf pass in
+      let line = across-below a (shape .rows) (shape .columns) y x p q in
+      let index = along-below a (shape .rows) (shape .columns) y x p q in
+      let s =
+      work-apart a l i (across a y x) (orderLimit + along a y x) hl hi (omega (arith, lines-small)) (omega (arith, extent-small))
+      (e ∙ pixel-on-line a y x) in
+      out (omega (arith, s .0)) (omega (arith, s .1)) (omega (arith, s .1))
+
+-- ---- strips that are moved
+
+module _ {plan : Plan} {k pass : ℕ} {shape : BlockShape} {n m : ℕ} (moves : StripMoves plan k pass shape n m) where
+  pub move-limited : orderOf plan pass ≤ orderLimit
+  move-limited = order-limited-at plan (moves .placed .block .kept) pass (moves .pass-below)
+
+  -- What the first index of an edge or of a margin asks.
+  pub edge-asked : {extent : ℕ} → extent ≡ extentOf shape pass → EdgeFits (orderOf plan pass) extent
+  edge-asked e = record { limited = move-limited; extent-small = rw e (extent-small (shape-in-work (moves .placed)) pass) }

@@ -1,0 +1,4 @@
+pub mod Extents
+pub mod Blocks
+pub mod Neighbours
+pub mod Shapes

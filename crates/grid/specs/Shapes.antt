@@ -1,0 +1,36 @@
+-- Inner: the values of the code's records, and what inner functions ask of their callers.
+use mathlib.Core.Path.{_≡_}
+use mathlib.Core.Bool.{true}
+use mathlib.Core.Option.{Option, none, some}
+use Prim.Native.Nat.{ℕ, _<_}
+use Rattle.grid.specs.declared.Grid.{Grid}
+use Rattle.grid.specs.declared.BlockShape.{BlockShape}
+use Rattle.grid.specs.declared.BlockLine.{BlockLine}
+use Rattle.grid.specs.declared.Neighbour.{Neighbour}
+use Rattle.grid.specs.declared.Neighbour.the-variants.{Block, Beyond}
+use Rattle.grid.specs.Grid.{gridKept, blockTotal, firstRow, firstColumn, rowsOf, columnsOf, lineIndex, lineCount, lineStep}
+
+-- The sizes are in range, and block k is in the map.
+pub record InGrid (grid : Grid) (k : ℕ) : Type 0 where
+  pub kept : gridKept grid ≡ true
+  pub inside : k < blockTotal grid
+
+-- Where block k lies, and its extent.
+unfoldable pub shapeOf : Grid → ℕ → BlockShape
+shapeOf grid k =
+    record {
+      «first_row» = firstRow grid k;
+      «first_column» = firstColumn grid k;
+      rows = rowsOf grid k;
+      columns = columnsOf grid k;
+    }
+
+-- The blocks in line with block k, along a pass.
+unfoldable pub lineOfBlocks : Grid → ℕ → ℕ → BlockLine
+lineOfBlocks grid k pass =
+    record { at = lineIndex grid k pass; count = lineCount grid pass; step = lineStep grid pass }
+
+-- The value of a neighbour.
+abbrev pub foundNeighbour : Option ℕ → Neighbour
+foundNeighbour none = Beyond
+foundNeighbour (some j) = Block j

@@ -1,0 +1,201 @@
+// The blocks of a map: how many, where each lies, and its neighbours along a pass. The one geometry of the library.
+// What a function requires, its callers in this repository show.
+ghost use mathlib.Core.Path.{_≡_};
+ghost use mathlib.Core.Bool.{true};
+ghost use Rattle.grid.specs.Grid.{blockCount, blockExtent, gridKept, blockRows, blockColumns, blockTotal, blockRow, blockColumn, blockHeight, blockWidth, blockArea, neighbour, goesOn};
+ghost use Rattle.grid.specs.Shapes.{InGrid, shapeOf, lineOfBlocks, foundNeighbour};
+
+// The most rows and columns of a map, and the longest side of a block: `sizeLimit` and `sideLimit` of specs/Grid.antt are the same
+// numbers.
+pub const SIZE_LIMIT: usize = 4096;
+
+pub const SIDE_LIMIT: usize = 32;
+
+// A map of rows and columns, cut into blocks of a side.
+pub struct Grid {
+    pub rows: usize,
+    pub columns: usize,
+    pub side: usize,
+}
+
+// Where a block lies in the map, and its extent.
+pub struct BlockShape {
+    pub first_row: usize,
+    pub first_column: usize,
+    pub rows: usize,
+    pub columns: usize,
+}
+
+// The block that a pass comes from, or none where the map ends.
+pub enum Neighbour {
+    Block(usize),
+    Beyond,
+}
+
+// The blocks in line with a block, along a pass: its number among them, how many there are, and how far apart their block
+// numbers lie.
+struct BlockLine {
+    at: usize,
+    count: usize,
+    step: usize,
+}
+
+impl Grid {
+    // Whether the sizes are in document 01's ranges.
+    pub fn check(self) -> bool
+        ensures { λ r. ⌜ r ≡ gridKept self ⌝ }
+    {
+        if !number::within(self.rows, SIZE_LIMIT) {
+            return false;
+        }
+        if !number::within(self.columns, SIZE_LIMIT) {
+            return false;
+        }
+        number::within(self.side, SIDE_LIMIT)
+    }
+
+    // The number of rows of blocks.
+    pub fn block_rows(self) -> usize
+        ensures { λ r. ⌜ r ≡ blockRows self ⌝ }
+    {
+        block_count(self.rows, self.side)
+    }
+
+    // The number of columns of blocks.
+    pub fn block_columns(self) -> usize
+        ensures { λ r. ⌜ r ≡ blockColumns self ⌝ }
+    {
+        block_count(self.columns, self.side)
+    }
+
+    // The number of blocks.
+    pub fn blocks(self) -> usize
+        requires { ⌜ gridKept self ≡ true ⌝ }
+        ensures { λ r. ⌜ r ≡ blockTotal self ⌝ }
+    {
+        self.block_rows() * self.block_columns()
+    }
+
+    // The row of blocks that block k stands in,
+    pub fn block_row(self, k: usize) -> usize
+        requires { ⌜ gridKept self ≡ true ⌝ }
+        ensures { λ r. ⌜ r ≡ blockRow self k ⌝ }
+    {
+        k / self.block_columns()
+    }
+
+    // and its column of blocks.
+    pub fn block_column(self, k: usize) -> usize
+        requires { ⌜ gridKept self ≡ true ⌝ }
+        ensures { λ r. ⌜ r ≡ blockColumn self k ⌝ }
+    {
+        k % self.block_columns()
+    }
+
+    // The rows of the blocks in a row of blocks: the last may have fewer than the side; there are none past it.
+    pub fn block_height(self, block_row: usize) -> usize
+        ensures { λ r. ⌜ r ≡ blockHeight self «block_row» ⌝ }
+    {
+        block_extent(self.rows, self.side, block_row)
+    }
+
+    // The columns of the blocks in a column of blocks.
+    pub fn block_width(self, block_column: usize) -> usize
+        ensures { λ r. ⌜ r ≡ blockWidth self «block_column» ⌝ }
+    {
+        block_extent(self.columns, self.side, block_column)
+    }
+
+    // Where block k lies, and its extent.
+    pub fn block_shape(self, k: usize) -> BlockShape
+        requires { ⌜ InGrid self k ⌝ }
+        ensures { λ r. ⌜ r ≡ shapeOf self k ⌝ }
+    {
+        let row = self.block_row(k);
+        let column = self.block_column(k);
+        BlockShape {
+            first_row: row * self.side,
+            first_column: column * self.side,
+            rows: self.block_height(row),
+            columns: self.block_width(column),
+        }
+    }
+
+    // The area of block k.
+    pub fn block_area(self, k: usize) -> usize
+        requires { ⌜ gridKept self ≡ true ⌝ }
+        ensures { λ r. ⌜ r ≡ blockArea self k ⌝ }
+    {
+        self.block_height(self.block_row(k)) * self.block_width(self.block_column(k))
+    }
+
+    fn block_line(self, k: usize, pass: usize) -> BlockLine
+        requires { ⌜ gridKept self ≡ true ⌝ }
+        ensures { λ r. ⌜ r ≡ lineOfBlocks self k pass ⌝ }
+    {
+        let block_columns = self.block_columns();
+        BlockLine {
+            at: axis::along(pass, self.block_row(k), self.block_column(k)),
+            count: axis::along(pass, self.block_rows(), block_columns),
+            step: axis::along(pass, block_columns, 1),
+        }
+    }
+
+    // The block that a pass comes from: above, below, left or right.
+    pub fn neighbour(self, k: usize, pass: usize) -> Neighbour
+        requires { ⌜ InGrid self k ⌝ }
+        ensures { λ r. ⌜ r ≡ foundNeighbour (neighbour self k pass) ⌝ }
+    {
+        let line = self.block_line(k, pass);
+        if axis::is_backward(pass) {
+            if line.at + 1 < line.count {
+                Neighbour::Block(k + line.step)
+            } else {
+                Neighbour::Beyond
+            }
+        } else {
+            if 0 < line.at {
+                Neighbour::Block(k - line.step)
+            } else {
+                Neighbour::Beyond
+            }
+        }
+    }
+
+    // Whether a pass goes on from block k to another block, which then needs block k's strip of the pass.
+    pub fn goes_on(self, k: usize, pass: usize) -> bool
+        requires { ⌜ InGrid self k ⌝ }
+        ensures { λ r. ⌜ r ≡ goesOn self k pass ⌝ }
+    {
+        let line = self.block_line(k, pass);
+        if axis::is_backward(pass) {
+            0 < line.at
+        } else {
+            line.at + 1 < line.count
+        }
+    }
+}
+
+// How many blocks of a side cover a length; 0 where the side is 0.
+fn block_count(length: usize, side: usize) -> usize
+    ensures { λ r. ⌜ r ≡ blockCount length side ⌝ }
+{
+    if side == 0 {
+        return 0;
+    }
+    if length % side == 0 {
+        length / side
+    } else {
+        length / side + 1
+    }
+}
+
+// How much of a length a block has.
+fn block_extent(length: usize, side: usize, block: usize) -> usize
+    ensures { λ r. ⌜ r ≡ blockExtent length side block ⌝ }
+{
+    if block < block_count(length, side) {
+        return number::lesser(side, length - block * side);
+    }
+    0
+}

@@ -1,0 +1,101 @@
+-- Where the words of a link's own strip stand, and which of them lie in the block. Assumes nothing.
+use mathlib.Core.Bool.{true}
+use mathlib.Core.Path.{_≡_, ap, sym, _∙_}
+use Prim.Native.Nat.{ℕ, _+_, _-_, _<_, _≤_}
+use native.Mathlib.Omega.{arith}
+use native.Mathlib.Nat.{div-add-mod'}
+use borrow.Author.Tests.{ltb-true, leb-true}
+use Rattle.plan.proofs.Record.{rules, order-limited-at}
+use Rattle.plan.specs.Rules.{orderLimit}
+use Rattle.plan.specs.Sizes.{orderOf}
+use Rattle.plan.specs.declared.Plan.{Plan}
+use Rattle.axis.specs.Axis.{Axis, columns, rows, Direction, forward, backward, axisOf, along, across}
+use Rattle.task_words.proofs.Strips.{place-of-place, strip-place-below}
+use Rattle.grid.specs.Grid.{rowsOf, columnsOf}
+use Rattle.task_words.specs.Strips.{stripStart, placeInStrip, lineInStrip, placeInLine, stripPlace, placeInside, indexOfPlace}
+use Rattle.strips.proofs.StripRecords.{address-is}
+use Rattle.strips.specs.StripRecord.{edgeStart, stripWith, stripOf}
+use Rattle.strips.specs.declared.Strip.{Strip}
+use Rattle.link.specs.Courses.{LinkAt}
+use Rattle.link.specs.Crossing.{responseWords}
+use Rattle.link.specs.Writing.{StripLaid}
+
+-- ---- places
+
+-- A place in the block lies in the lines, at the index that it stands for.
+pub record InLines (d : Direction) (n order place : ℕ) : Type 0 where
+  pub low : orderLimit ≤ edgeStart d order n + place
+  pub high : edgeStart d order n + place < orderLimit + n
+  pub index-is : (edgeStart d order n + place) - orderLimit ≡ indexOfPlace d n order place
+
+pub in-lines : (d : Direction) (n order place : ℕ) → order ≤ orderLimit → place < order → placeInside d n order place ≡ true
+    → InLines d n order place
+in-lines forward n order place few h e =
+    let l = leb-true order (n + place) e in record { low = omega arith; high = omega arith; index-is = omega arith }
+in-lines backward n order place few h e =
+    let l = ltb-true place n e in record { low = omega arith; high = omega arith; index-is = omega arith }
+
+-- A strip's word stands at its line and place.
+same-place : (a : Axis) (side order q : ℕ)
+    → placeInStrip a side order (lineInStrip a side order q) (placeInLine a side order q) ≡ q
+same-place columns side order q = div-add-mod' q side
+same-place rows side order q = div-add-mod' q order
+
+-- ---- block k's strip
+
+module _ (plan : Plan) (k pass : ℕ) where
+  abbrev strip : Strip
+  strip = stripOf plan k pass
+
+  abbrev side : ℕ
+  side = plan .grid .side
+
+  abbrev order : ℕ
+  order = orderOf plan pass
+
+  -- The places of a line, and the lines.
+  abbrev pub places : ℕ
+  places = along (axisOf pass) (rowsOf (plan .grid) k) (columnsOf (plan .grid) k)
+
+  abbrev pub lines : ℕ
+  lines = across (axisOf pass) (rowsOf (plan .grid) k) (columnsOf (plan .grid) k)
+
+  -- The word of a number stands so far from the start of the strip.
+  pub number-is : (q : ℕ)
+      → stripPlace plan k pass (lineInStrip (axisOf pass) side order q) (placeInLine (axisOf pass) side order q)
+      ≡ stripStart plan k pass + q
+  unfolding stripPlace
+  number-is q = ap (stripStart plan k pass +_) (same-place (axisOf pass) side order q)
+
+  some-step : 0 < order → 0 < strip .«line_step»
+  unfolding stripOf stripWith
+  some-step some = by (axisOf pass)
+    where
+      by : (a : Axis) → 0 < along a 1 order
+      by columns = omega arith
+      by rows = some
+
+  pub strip-laid : {n r : ℕ} → LinkAt plan k pass n → 0 < order → r ≡ responseWords → StripLaid n strip order side r
+  unfolding stripPlace
+  strip-laid at some long =
+      let asked = at .strip-at in
+      let known = rules plan (asked .kept) in
+      record {
+        some-step = some-step some;
+        some-lines = known .side-low;
+        few-lines = known .side-high;
+        few-places = order-limited-at plan (asked .kept) pass (asked .pass-below);
+        responses-long = long;
+        inside = λ line place h b.
+            rw (address-is plan k pass line place)
+            (omega (
+              arith,
+              strip-place-below plan k pass line place (asked .counted) (asked .pass-below) h b,
+              at .strips-long,
+            ));
+        apart = λ line place l p h b c d e.
+            let q = sym (address-is plan k pass line place) ∙ e ∙ address-is plan k pass l p in
+            sym (place-of-place side order (axisOf pass) line place h b)
+            ∙ ap (placeInLine (axisOf pass) side order) (omega arith)
+            ∙ place-of-place side order (axisOf pass) l p c d;
+      }

@@ -1,0 +1,3 @@
+pub mod EdgeReads
+pub mod StripRows
+pub mod Filling

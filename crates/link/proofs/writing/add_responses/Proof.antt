@@ -1,0 +1,122 @@
+-- `add_responses` has added the responses of the lines so far.
+use mathlib.Core.Path.{_≡_, refl, _∙_}
+use Prim.Native.Nat.{_+_, _-_, _*_, _<_}
+use native.Mathlib.Omega.{arith}
+use borrow.Author.Needs.{needs}
+use lib.ListN.{length, length-set}
+use Rattle.link.specs.Writing.{responsesAdded}
+use Rattle.link.proofs.Turns.{Turned}
+use Rattle.link.proofs.writing.Places.{responses-none, responses-next}
+use Rattle.link.proofs.writing.add_responses.Statement.{statement}
+use Rattle.link.proofs.writing.add_responses.Tie as tie
+
+abbrev Inv-loop : tie.InvT-loop
+Inv-loop strips₀ at step lines responses place line₀ strips line =
+    Turned line lines strips₀ strips (responsesAdded at step responses place line strips₀)
+
+abbrev μ-loop : tie.MeasureT-loop
+μ-loop strips₀ at step lines responses place line₀ strips line = lines - line
+
+-- The stations, each from a later one.
+abbrev start : tie.At-loop Inv-loop μ-loop → tie.Start Inv-loop μ-loop
+start c = c .before .before .before
+
+abbrev turn : tie.After-slice-known2 Inv-loop μ-loop → tie.In-loop Inv-loop μ-loop
+turn c = c .before .before
+
+-- The word of this turn is in the strips.
+here : (c : tie.In-loop Inv-loop μ-loop)
+    → let a = start (c .before) .args in
+    a .at + c .before .loop .line * a .step < length (a .strips .now)
+here c = start (c .before) .pre .word-per-line .words-fit .inside (c .before .loop .line) (omega arith)
+
+loop-holds : tie.Need-loop-holds Inv-loop μ-loop
+loop-holds c = record { counted = omega arith; length-kept = refl; as-made = responses-none _ _ _ _ _ }
+
+mul-to : tie.Need-mul-to Inv-loop μ-loop
+mul-to c = let h = here c in search needs
+
+add-to : tie.Need-add-to Inv-loop μ-loop
+add-to c = let h = here c in search needs
+
+add-response : tie.Need-add-response Inv-loop μ-loop
+add-response c = search needs
+
+mul-response : tie.Need-mul-response Inv-loop μ-loop
+mul-response c = search needs
+
+add-response-2 : tie.Need-add-response-2 Inv-loop μ-loop
+add-response-2 c = search needs
+
+mul-response-2 : tie.Need-mul-response-2 Inv-loop μ-loop
+mul-response-2 c = search needs
+
+shared-slice-read-response : tie.Need-shared-slice-read-response Inv-loop μ-loop
+shared-slice-read-response c = search needs
+
+mul-add : tie.Need-mul-add Inv-loop μ-loop
+mul-add c = let h = here (c .before) in search needs
+
+slice-read-add : tie.Need-slice-read-add Inv-loop μ-loop
+slice-read-add c = let h = here (turn c) in search needs
+
+add-requires : tie.Need-add-requires Inv-loop μ-loop
+add-requires c κs = search needs
+
+mul-strips : tie.Need-mul-strips Inv-loop μ-loop
+mul-strips c = let h = here (turn (c .before)) in search needs
+
+slice-write-strips : tie.Need-slice-write-strips Inv-loop μ-loop
+slice-write-strips c = let h = here (turn (c .before)) in search needs
+
+add-line : tie.Need-add-line Inv-loop μ-loop
+add-line c = search needs
+
+loop-less : tie.Need-loop-less Inv-loop μ-loop
+loop-less c = search needs
+
+loop-again : tie.Need-loop-again Inv-loop μ-loop
+loop-again c =
+    let l = turn (c .before) .before in
+    let a = start l in
+    record {
+      counted = omega arith;
+      length-kept = length-set (l .loop .strips) _ _ ∙ l .loop .inv .length-kept;
+      as-made =
+          responses-next (a .args .at) (a .args .step) (a .args .responses .now) (a .args .place) (l .loop .line)
+          (a .args .strips .now) (a .pre .some-step) (l .loop .inv .as-made) (c .add .ensures);
+    }
+
+same-length : tie.Need-same-length Inv-loop μ-loop
+same-length c = search needs
+
+returns : tie.Need-returns Inv-loop μ-loop
+returns c =
+    let l = c .before in
+    let e : l .loop .line ≡ start l .args .lines = omega arith in
+    rw e at (l .loop .inv .as-made)
+
+pub add-responses-spec : {M : Type 1} → statement M
+add-responses-spec =
+    tie.close
+    (tie.spec
+    Inv-loop
+    μ-loop
+    loop-holds
+    mul-to
+    add-to
+    add-response
+    mul-response
+    add-response-2
+    mul-response-2
+    shared-slice-read-response
+    mul-add
+    slice-read-add
+    add-requires
+    mul-strips
+    slice-write-strips
+    add-line
+    loop-less
+    loop-again
+    same-length
+    returns)
