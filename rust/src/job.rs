@@ -1,5 +1,7 @@
 //! Jobs: start, tasks, report.
 
+#[cfg(doc)]
+use crate::Sizes;
 use crate::{Plan, Progress, Refusal};
 
 extern "C" {
@@ -20,15 +22,23 @@ extern "C" {
     fn mzg_report(plan: *const Plan, marks: *const u32, marks_len: usize, progress: *mut Progress) -> u64;
 }
 
-/// Starts a job: no task is marked, and the strips are 0.
+/// Starts a job: no task is marked, and the strips are 0. Needs [`Sizes::marks`] marks and [`Sizes::strips`] strip
+/// words.
+///
+/// # Errors
+/// 6, 7.
 pub fn start(plan: &Plan, marks: &mut [u32], strips: &mut [u64]) -> Result<(), Refusal> {
     // SAFETY: the record is readable and both slices are writable for their lengths; borrowed mutably, they overlap
     // nothing.
     Refusal::check(unsafe { mzg_start(plan, marks.as_mut_ptr(), marks.len(), strips.as_mut_ptr(), strips.len()) })
 }
 
-/// Performs one task on one block.
+/// Performs one task on one block. Needs the lengths of [`Sizes`]: `pixels` map and output words, `marks`, `strips`.
 ///
+/// # Errors
+/// 6, 7, 8, 9 (the marks of the block and of the neighbours in its needs are looked at), 10, 11.
+///
+/// # Order
 /// A small job can perform what the report names, as here. The report looks at all marks, so a large one goes through
 /// the tasks in an order of its own (`mulzhegat.h` names one that is never refused for a need).
 ///
@@ -73,7 +83,10 @@ pub fn perform(
     })
 }
 
-/// Reports how far a job is and names a ready task, or none.
+/// Reports how far a job is and names a ready task, or none. Needs [`Sizes::marks`] marks, and looks at all of them.
+///
+/// # Errors
+/// 6, 7, 9.
 pub fn report(plan: &Plan, marks: &[u32]) -> Result<Progress, Refusal> {
     let mut progress = Progress::default();
     report_into(plan, marks, &mut progress)?;

@@ -10,6 +10,10 @@ extern "C" {
 
 /// Reads a plan from its words.
 ///
+/// # Errors
+/// 1 to 5.
+///
+/// # Example
 /// ```
 /// use mulzhegat::{plan, Plan, Refusal};
 /// let words = [
@@ -32,12 +36,18 @@ pub fn read_into(words: &[u32], plan: &mut Plan) -> Result<(), Refusal> {
 }
 
 /// Writes the words of a plan at the start of `words`, which needs [`Sizes::words`] words.
+///
+/// # Errors
+/// 6, 7.
 pub fn write(plan: &Plan, words: &mut [u32]) -> Result<(), Refusal> {
     // SAFETY: the record is readable and the slice is writable for its length; borrowed mutably, it overlaps nothing.
     Refusal::check(unsafe { mzg_plan_write(plan, words.as_mut_ptr(), words.len()) })
 }
 
 /// Gives the lengths that a plan needs.
+///
+/// # Errors
+/// 6.
 pub fn sizes(plan: &Plan) -> Result<Sizes, Refusal> {
     let mut sizes = Sizes::default();
     sizes_into(plan, &mut sizes)?;

@@ -18,6 +18,10 @@ extern "C" {
 
 /// Runs the four passes over the whole map. Map and output need rows * columns words.
 ///
+/// # Errors
+/// 6, 7.
+///
+/// # Example
 /// ```
 /// use mulzhegat::{serial, Plan};
 /// let mut output = [0; 6];
@@ -50,7 +54,10 @@ impl Rectangle {
     }
 }
 
-/// Gives the sum over a rectangle of a finished summed-area table, modulo 2^64.
+/// Gives the sum over a rectangle of a finished summed-area table, modulo 2^64. The table needs rows * columns words.
+///
+/// # Errors
+/// 6, 7, 12.
 pub fn rectangle(plan: &Plan, rectangle: Rectangle, table: &[u64]) -> Result<u64, Refusal> {
     let mut sum = 0;
     rectangle_into(plan, rectangle, table, &mut sum)?;

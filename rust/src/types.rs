@@ -62,6 +62,9 @@ impl Plan {
     }
 
     /// The same plan with another pass at a place.
+    ///
+    /// # Panics
+    /// If there is no such pass, or there are more than [`MAX_ORDER`] coefficients.
     pub fn with(mut self, pass: usize, gain: i64, coefficients: &[i64]) -> Plan {
         self.passes[pass] = Pass::new(gain, coefficients);
         self

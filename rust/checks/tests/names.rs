@@ -22,13 +22,14 @@ fn camel_case(name: &str) -> String {
     name.split('_').map(|word| word[..1].to_string() + &word[1..].to_lowercase()).collect()
 }
 
-/// The lines `Refusal::NAME => NUMBER,` or `Refusal::NAME(_) => NUMBER,` of Rattle's `number`, but for the program's
-/// own refusal, which no call of C or Rust answers.
+/// The lines `Refusal::NAME => row(NUMBER, PLACE),` of Rattle's table, but for the program's own refusal, which no call of
+/// C or Rust answers.
 fn in_rattle() -> Vec<Named> {
     let source = read("crates/refusal/src/lib.rt");
-    let cases = between(&source, "pub fn number(self)", "\n    }\n").lines().filter_map(|line| {
-        let (name, number) = line.trim().strip_prefix("Refusal::")?.strip_suffix(',')?.split_once(" => ")?;
-        Some((number.parse().unwrap(), name.trim_end_matches("(_)").to_string()))
+    let cases = between(&source, "pub fn reason(self)", "\n    }\n").lines().filter_map(|line| {
+        let (case, row) = line.trim().strip_prefix("Refusal::")?.split_once(" => row(")?;
+        let number = row.split(',').next()?;
+        Some((number.parse().unwrap(), case.split('(').next()?.to_string()))
     });
     cases.filter(|(_, name)| name != "InputUnfit").collect()
 }
