@@ -1,18 +1,20 @@
--- Rows, zeros and rectangles that are written: one turn of each loop, what stands there then, and what stands elsewhere.
--- Assumes nothing.
+-- Rows, zeros and rectangles that are written: one turn of each loop, what stands there then, and what stands
+-- elsewhere. Assumes nothing.
 use mathlib.Core.Path.{_≡_, refl, sym, ap, ap₂, _∙_}
 use mathlib.Core.List.{List}
 use mathlib.Core.Logic.{_≢_}
-use Prim.Native.Nat.{ℕ, _+_, _*_, _/_, _%_, _^_, _<_, _≤_}
+use Prim.Native.Nat.{ℕ, _+_, _*_, _^_, _<_, _≤_}
 use native.Mathlib.Nat.{div-add-mod'}
 use native.Mathlib.Omega.{arith}
 use lib.ListN.{length, set}
+use Rattle.word.specs.Word.{_⊗_}
 use Rattle.word.proofs.Ring.{one-mul, reduced-small}
-use Rattle.buffer.specs.Lists.{wordAt}
+use Rattle.buffer.specs.Lists.{wordAt, byPlace}
 use Rattle.buffer.specs.Written.{written, cleared, rowWritten, rectangleWritten}
-use Rattle.buffer.proofs.Written.{written-none, written-length, written-same, written-parts, written-more, written-other, written-at}
+use Rattle.buffer.proofs.Written.{written-none, written-length, written-same, written-parts, written-more, written-other, written-at, written-unchanged}
 use Rattle.number.proofs.RowMajor.{row-of, column-of, place-below, row-below, column-below}
 use Rattle.buffer.specs.Copies.{wordsFrom, scaledFrom, WordsFit}
+use Rattle.number.specs.Numbers.{rowMajor}
 
 -- ---- a row
 
@@ -34,6 +36,17 @@ row-unscaled start from from-start n a small =
     (λ i h.
     let e : from-start + i * 1 ≡ from-start + i = omega arith in
     rw e (sym (one-mul _ ∙ reduced-small _ (small (from-start + i)))))
+
+-- A row that is scaled in place: each word is read before it is replaced.
+pub row-scaled-more : (gain start n : ℕ) (a b : List ℕ) (v : ℕ) → b ≡ rowWritten start (scaledFrom gain a start 1) n a
+    → v ≡ gain ⊗ wordAt b (start + n) → set b (start + n) v ≡ rowWritten start (scaledFrom gain a start 1) (n + 1) a
+unfolding rowWritten
+row-scaled-more gain start n a b v e f =
+    let words : ℕ → ℕ = scaledFrom gain a start 1 in
+    let same : start + n ≡ start + n * 1 = omega arith in
+    let kept : wordAt (written (λ i. start + i) words n a) (start + n) ≡ wordAt a (start + n) =
+    written-other _ _ n a (start + n) (λ i h p. absurd (omega arith)) in
+    row-more start words n a b v e (f ∙ ap (gain ⊗_) (ap (λ l. wordAt l (start + n)) e ∙ kept ∙ ap (wordAt a) same))
 
 -- Words one after another are words that lie 1 apart.
 pub words-fit : (n start count : ℕ) → start + count ≤ n → WordsFit n start 1 count
@@ -65,8 +78,8 @@ module _ (place words : ℕ → ℕ → ℕ) (w : ℕ) where
   unfolding rectangleWritten
   rectangle-more n a b d e f =
       let count : (n + 1) * w ≡ n * w + w = omega arith in
-      let p : ℕ → ℕ = λ q. place (q / w) (q % w) in
-      let v : ℕ → ℕ = λ q. words (q / w) (q % w) in
+      let p : ℕ → ℕ = byPlace w place in
+      let v : ℕ → ℕ = byPlace w words in
       f
       ∙ written-same (place n) (λ i. p (n * w + i)) (words n) (λ i. v (n * w + i)) w b
       (λ i h. sym (ap₂ place (row-of w n i h) (column-of w n i h)))
@@ -78,6 +91,13 @@ module _ (place words : ℕ → ℕ → ℕ) (w : ℕ) where
   pub rectangle-length : (h : ℕ) (a : List ℕ) → length (rectangleWritten place words w h a) ≡ length a
   unfolding rectangleWritten
   rectangle-length h a = written-length _ _ (h * w) a
+
+  -- Each place gets the word that stands there.
+  pub rectangle-unchanged : (h : ℕ) (a : List ℕ) → ((y x : ℕ) → y < h → x < w → words y x ≡ wordAt a (place y x))
+      → rectangleWritten place words w h a ≡ a
+  unfolding rectangleWritten
+  rectangle-unchanged h a e =
+      written-unchanged _ _ (h * w) a (λ q c. e _ _ (row-below h w q c) (column-below h w q c))
 
   -- A place outside the rectangle.
   pub rectangle-other : (h : ℕ) (a : List ℕ) (q : ℕ) → ((y x : ℕ) → y < h → x < w → q ≢ place y x)
@@ -98,15 +118,15 @@ module _ (place words : ℕ → ℕ → ℕ) (w : ℕ) where
       (λ i j f g e.
       let k : j < h * w = omega arith in
       let s = apart _ _ _ _ (row-below h w i g) (column-below h w i g) (row-below h w j k) (column-below h w j k) e in
-      let t : i ≡ j = sym (div-add-mod' i w) ∙ ap₂ (λ y x. y * w + x) (s .0) (s .1) ∙ div-add-mod' j w in
+      let t : i ≡ j = sym (div-add-mod' i w) ∙ ap₂ (rowMajor w) (s .0) (s .1) ∙ div-add-mod' j w in
       omega arith)
       (λ i g. fits _ _ (row-below h w i g) (column-below h w i g))
-      (y * w + x) (place-below h w y x c d)
+      (rowMajor w y x) (place-below h w y x c d)
       ∙ ap₂ words (row-of w y x d) (column-of w y x d)
 
 -- The same words at the same places, whatever the rows.
 pub rectangle-same : (place words : ℕ → ℕ → ℕ) (w h : ℕ) (r v : ℕ → ℕ) (a : List ℕ)
-    → ((q : ℕ) → q < h * w → place (q / w) (q % w) ≡ r q) → ((q : ℕ) → q < h * w → words (q / w) (q % w) ≡ v q)
+    → ((q : ℕ) → q < h * w → byPlace w place q ≡ r q) → ((q : ℕ) → q < h * w → byPlace w words q ≡ v q)
     → rectangleWritten place words w h a ≡ written r v (h * w) a
 unfolding rectangleWritten
 rectangle-same place words w h r v a e f = written-same _ r _ v (h * w) a e f

@@ -1,5 +1,5 @@
--- The list of a function's values: its length, its elements, that no other list has both, and how an array is filled with it;
--- and a list of zeros. Assumes nothing.
+-- The list of a function's values: its length, its elements, that no other list has both, and how an array is filled
+-- with it; and a list of zeros. Assumes nothing.
 use mathlib.Core.Path.{_≡_, refl, sym, ap, _∙_}
 use mathlib.Core.List.{List, [], _∷_, _++_}
 use mathlib.Core.Logic.{⊎-elim}

@@ -8,7 +8,7 @@ use native.Mathlib.Nat.{eq-or-lt-of-le, add-zero, add-suc}
 use native.Mathlib.Numerals.{add-one}
 use native.Mathlib.Omega.{arith}
 use lib.ListN.{length, set, length-set}
-use lib.Seq.{getD-set-same, getD-set-other}
+use lib.Seq.{getD-set-same, getD-set-other, set-getD}
 use Rattle.buffer.specs.Lists.{wordAt}
 use Rattle.buffer.specs.Written.{written}
 
@@ -61,6 +61,15 @@ written-same p r w v zero list e f = refl
 written-same p r w v (suc n) list e f =
     ap₂ (set (written p w n list)) (e n (omega arith)) (f n (omega arith))
     ∙ ap (λ z. set z (r n) (v n)) (written-same p r w v n list (λ i h. e i (omega arith)) (λ i h. f i (omega arith)))
+
+-- Each place gets the word that stands there.
+pub written-unchanged : (p w : ℕ → ℕ) (n : ℕ) (list : List ℕ) → ((i : ℕ) → i < n → w i ≡ wordAt list (p i))
+    → written p w n list ≡ list
+unfolding written
+written-unchanged p w zero list e = refl
+written-unchanged p w (suc n) list e =
+    ap₂ (λ l v. set l (p n) v) (written-unchanged p w n list (λ i h. e i (omega arith))) (e n (omega arith))
+    ∙ set-getD list (p n) 0
 
 -- Some words, and then others.
 pub written-parts : (p w : ℕ → ℕ) (n m : ℕ) (list : List ℕ)

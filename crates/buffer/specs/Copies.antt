@@ -1,10 +1,9 @@
 -- Inner: words that are copied, scaled and read, in a row or a rectangle.
 use mathlib.Core.List.{List}
 use Prim.Native.Nat.{ℕ, _+_, _*_, _<_, _≤_}
-use lib.IntN.{ℤ, pos}
-use lib.ListN.{getD}
+use lib.IntN.{ℤ}
 use Rattle.word.specs.Word.{_⊗_}
-use Rattle.buffer.specs.Lists.{wordAt}
+use Rattle.buffer.specs.Lists.{wordAt, numberAt}
 use Rattle.buffer.specs.Pixel.{pixel}
 use Rattle.buffer.specs.Written.{rectangleWritten}
 
@@ -20,7 +19,7 @@ scaledFrom gain list start step i = gain ⊗ wordAt list (start + i * step)
 
 -- The pixels of a list of heights from a place on.
 abbrev pub heightsFrom : List ℤ → ℕ → ℕ → ℕ
-heightsFrom heights start i = pixel (getD heights (start + i) (pos 0))
+heightsFrom heights start i = pixel (numberAt heights (start + i))
 
 -- So many words that lie `step` apart stand in a list of n words.
 pub record WordsFit (n start step count : ℕ) : Type 0 where
@@ -38,7 +37,7 @@ strideScaled gain list start stride y x = gain ⊗ wordAt list (stridePlace star
 
 -- The pixels of a rectangle of a list of heights.
 abbrev pub strideHeights : List ℤ → (start stride : ℕ) → ℕ → ℕ → ℕ
-strideHeights heights start stride y x = pixel (getD heights (stridePlace start stride y x) (pos 0))
+strideHeights heights start stride y x = pixel (numberAt heights (stridePlace start stride y x))
 
 -- A list after a rectangle of h rows has been written.
 abbrev pub strideWritten : (start stride w : ℕ) → (words : ℕ → ℕ → ℕ) → (h : ℕ) → List ℕ → List ℕ
@@ -46,4 +45,4 @@ strideWritten start stride w words h list = rectangleWritten (stridePlace start 
 
 -- The rows of a rectangle lie in a list of n words.
 pub record StrideFits (n start stride h w : ℕ) : Type 0 where
-  pub row : (y : ℕ) → y < h → start + y * stride + w ≤ n
+  pub row : (y : ℕ) → y < h → stridePlace start stride y w ≤ n

@@ -1,7 +1,8 @@
 -- A list in which some places have been replaced.
 use mathlib.Core.List.{List}
-use Prim.Native.Nat.{ℕ, zero, suc, _+_, _*_, _/_, _%_}
+use Prim.Native.Nat.{ℕ, zero, suc, _+_, _*_}
 use lib.ListN.{set}
+use Rattle.buffer.specs.Lists.{byPlace}
 
 -- A list after the words w 0, w 1, .. w (n-1) have gone to the places p 0, p 1, .. p (n-1), one after another.
 unfoldable pub written : (p w : ℕ → ℕ) → ℕ → List ℕ → List ℕ
@@ -14,8 +15,7 @@ rowWritten start words count list = written (λ i. start + i) words count list
 
 -- A list after the words of h rows of w places have been written, row after row, each word at its place.
 unfoldable pub rectangleWritten : (place words : ℕ → ℕ → ℕ) → (w h : ℕ) → List ℕ → List ℕ
-rectangleWritten place words w h list =
-    written (λ q. place (q / w) (q % w)) (λ q. words (q / w) (q % w)) (h * w) list
+rectangleWritten place words w h list = written (byPlace w place) (byPlace w words) (h * w) list
 
 -- A list after `count` words that lie `step` apart have been set to 0.
 unfoldable pub cleared : (start step count : ℕ) → List ℕ → List ℕ

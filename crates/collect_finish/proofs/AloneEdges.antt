@@ -6,7 +6,7 @@ use Prim.Native.Nat.{ℕ, suc, _+_, _≤_, _<_}
 use native.Mathlib.Numerals.{add-one}
 use native.Mathlib.Omega.{arith}
 use lib.Dec.{ltb}
-use borrow.Author.Tests.{leb-true, lt-ltb, le-leb}
+use borrow.Author.Tests.{lt-ltb}
 use Rattle.word.specs.Word.{_⊗_}
 use Rattle.word.proofs.Ring.{mul-zero}
 use Rattle.plan.specs.declared.Plan.{Plan}
@@ -16,14 +16,14 @@ use Rattle.buffer.specs.Lists.{wordAt}
 use Rattle.plan.proofs.Record.{rules, order-limited-at}
 use Rattle.number.proofs.Tests.{and-right}
 use Rattle.passes.specs.Gains.{gainsFrom}
-use Rattle.axis.specs.Axis.{Axis, columns, rows, Direction, forward, backward, axisOf, directionOf, along, across, lineOf}
+use Rattle.axis.specs.Axis.{Axis, columns, rows, Direction, axisOf, directionOf, along, across, lineOf}
 use Rattle.passes.specs.Passes.{passesOver}
 use Rattle.passes.proofs.Gains.{gains-out}
 use Rattle.filter.specs.PlanFilters.{filtersOf}
 use Rattle.grid.specs.Grid.{rowsOf, columnsOf, partOf, goesOn}
 use Rattle.grid.specs.Shapes.{shapeOf}
-use Rattle.strips.specs.StripRecord.{edgeStart}
-use Rattle.task_words.specs.Strips.{placeInside, indexOfPlace, insideBlock, edgeWord}
+use Rattle.strips.proofs.Edges.{edge-index, edge-inside}
+use Rattle.task_words.specs.Strips.{indexOfPlace, insideBlock, edgeWord}
 use Rattle.task_words.specs.Writes.{blockPasses, aloneWord}
 use Rattle.task_words.proofs.StripReads.{inside-line, inside-index, masked-same}
 use Rattle.collect_finish.specs.Work.{pixelIn, workPlace, ShapeFits, edgeFirst, workEdge}
@@ -31,16 +31,6 @@ use Rattle.collect_finish.specs.WorkFits.{BlockOf}
 use Rattle.collect_finish.proofs.WorkPlaces.{shape-fits, extent-small, outside-block}
 use Rattle.collect_finish.proofs.AloneBlock.{collectFilters, Alone}
 use Rattle.collect_finish.proofs.WorkEdges.{edge-room}
-
-edge-index : (d : Direction) (order n place : ℕ) → order ≤ orderLimit → place < order → placeInside d n order place ≡ true
-    → edgeStart d order n + place ≡ orderLimit + indexOfPlace d n order place
-edge-index forward order n place h b e = let p = leb-true order (n + place) e in omega arith
-edge-index backward order n place h b e = refl
-
-edge-inside : (d : Direction) (order n place : ℕ) → order ≤ orderLimit → orderLimit ≤ edgeStart d order n + place
-    → edgeStart d order n + place < orderLimit + n → placeInside d n order place ≡ true
-edge-inside forward order n place h p q = le-leb order (n + place) (omega arith)
-edge-inside backward order n place h p q = lt-ltb place n (omega arith)
 
 not-both : (a b : Bool) → (a && b) ≡ false → a ≡ true → b ≡ true → ⊥
 not-both a b e f g = false≢true (sym e ∙ rw f g)
@@ -92,7 +82,7 @@ module _ {plan : Plan} {k : ℕ} (block : BlockOf plan k) (pass : ℕ) (below : 
   unfolding insideBlock shapeOf
   edge-held line place b e =
       ap (λ z. gain ⊗ wordAt work (workPlace a line z))
-      (edge-index d r (along a h w) place limited b (and-right (ltb line (across a h w)) _ e))
+      (edge-index d r (along a h w) place limited (and-right (ltb line (across a h w)) _ e))
       ∙ on-line a line _ (inside-line plan k pass line place e) (inside-index plan k pass line place e b)
     where
       on-line : (a : Axis) (l i : ℕ) → l < across a h w → i < along a h w

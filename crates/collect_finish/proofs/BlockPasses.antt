@@ -2,7 +2,7 @@
 use mathlib.Core.Path.{_≡_, refl, ap, _∙_}
 use mathlib.Core.List.{List}
 use mathlib.Core.Logic.{_≢_}
-use Prim.Native.Nat.{ℕ, _+_, _*_, _<_}
+use Prim.Native.Nat.{ℕ, _+_, _<_}
 use native.Mathlib.Numerals.{add-one}
 use native.Mathlib.Omega.{arith}
 use lib.IntN.{ℤ, pos}
@@ -19,11 +19,11 @@ use Rattle.passes.proofs.Passes.{filterLines-reads}
 use Rattle.axis.specs.Axis.{axisOf, directionOf, across}
 use Rattle.filter.specs.Windows.{windowOf, wordsBesideWindow}
 use Rattle.filter.proofs.Windows.{Passed, windowPass-passed}
-use Rattle.grid.specs.Grid.{firstRow, firstColumn, rowsOf, columnsOf, partOf}
+use Rattle.grid.specs.Grid.{rowsOf, columnsOf, blockPixelPlace, partOf}
 use Rattle.grid.specs.declared.BlockShape.{BlockShape}
 use Rattle.grid.specs.Shapes.{shapeOf}
 use Rattle.filter.specs.PlanFilters.{mapOf}
-use Rattle.collect_finish.specs.Work.{workWords, workWindow, pixelIn, mapCorner, ClearOutside, BlockRead, blockPass}
+use Rattle.collect_finish.specs.Work.{workWords, workWindow, pixelIn, ClearOutside, BlockRead, blockPass}
 use Rattle.collect_finish.specs.WorkFits.{BlockOf, ShapedBlock}
 use Rattle.collect_finish.proofs.WorkPlaces.{shape-fits, window-fits}
 
@@ -38,15 +38,15 @@ pub record Holds (plan : Plan) (k : ℕ) (filters : ℕ → Filter) (H : ℕ →
 
 -- The work array holds the pixels of a block of a map.
 abbrev pub PixelsRead : Plan → BlockShape → List ℤ → List ℕ → Type 0
-PixelsRead plan shape heights work = BlockRead shape (strideHeights heights (mapCorner plan shape) (plan .grid .columns)) work
+PixelsRead plan shape heights work = BlockRead shape (strideHeights heights (shape .start) (plan .grid .columns)) work
 
 module _ {plan : Plan} {k : ℕ} {shape : BlockShape} (placed : ShapedBlock plan k shape) (heights : List ℤ) {work : List ℕ}
     (reads : PixelsRead plan shape heights work) where
   abbrev corner : ℕ
-  corner = firstRow (plan .grid) k * plan .grid .columns + firstColumn (plan .grid) k
+  corner = blockPixelPlace (plan .grid) k 0 0
 
   pixel-is : (y x : ℕ) → strideHeights heights corner (plan .grid .columns) y x ≡ partOf (plan .grid) k (mapOf plan heights) y x
-  unfolding heightMap
+  unfolding heightMap blockPixelPlace
   pixel-is y x = ap (λ z. pixel (getD heights z (pos 0))) (omega arith)
 
   block-read : BlockRead (shapeOf (plan .grid) k) (strideHeights heights corner (plan .grid .columns)) work

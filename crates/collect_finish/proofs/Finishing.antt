@@ -1,8 +1,7 @@
 -- What finish has done after so many passes: the start, one turn, and the end. Assumes nothing.
 use mathlib.Core.Path.{_≡_, refl, sym, ap, ap₂, _∙_}
 use mathlib.Core.List.{List}
-use Prim.Native.Nat.{ℕ, zero, suc, _+_, _-_, _*_, _/_, _%_, _≤_, _<_}
-use native.Mathlib.Numerals.{add-one}
+use Prim.Native.Nat.{ℕ, zero, suc, _+_, _-_, _/_, _%_, _≤_, _<_}
 use native.Mathlib.Omega.{arith}
 use lib.IntN.{ℤ}
 use lib.ListN.{length}
@@ -18,24 +17,25 @@ use Rattle.buffer.specs.Copies.{stridePlace, strideScaled, strideWritten}
 use Rattle.buffer.specs.Written.{rectangleWritten}
 use Rattle.buffer.proofs.Copies.{rectangle-same}
 use Rattle.passes.specs.Filter.{Filter}
-use Rattle.passes.specs.Gains.{gainsFrom, gainsFirst}
+use Rattle.passes.specs.Gains.{gainsFirst}
 use Rattle.passes.proofs.Passes.{passesOver-small}
 use Rattle.passes.proofs.Gains.{gains-first}
-use Rattle.axis.specs.Axis.{axisOf, directionOf, across}
+use Rattle.axis.specs.Axis.{axisOf, directionOf}
 use Rattle.filter.specs.declared.FilterWords.{FilterWords}
 use Rattle.filter.specs.PlanFilters.{filterOf, filtersOf, mapOf}
-use Rattle.filter.specs.FilterWords.{filterWith, gainsFirstWords}
+use Rattle.filter.specs.FilterWords.{filterWith, gainsFirstWords, gainsAfter}
 use Rattle.filter.specs.Windows.{wordsBesideWindow}
 use Rattle.filter.proofs.Filters.{gainsFirstWords-filter, gainsFirstWords-order}
-use Rattle.grid.specs.Grid.{firstRow, firstColumn, rowsOf, columnsOf, blockPixelPlace, partOf}
+use Rattle.grid.specs.Grid.{rowsOf, columnsOf, blockPixelPlace, partOf, linesAcross}
 use Rattle.grid.specs.declared.BlockShape.{BlockShape}
 use Rattle.grid.specs.Shapes.{shapeOf}
 use Rattle.task_words.specs.Strips.{fromEdge, pastEdges}
+use Rattle.task_words.specs.ScaledEdges.{scaledEdges}
 use Rattle.task_words.specs.Writes.{finishWord, blockWritten, finished}
 use Rattle.task_words.proofs.StripReads.{from-edge-below}
 use Rattle.strips.specs.StripRecord.{stripBefore}
 use Rattle.strips.proofs.StripRecords.{past-edges-read}
-use Rattle.collect_finish.specs.Work.{workStride, workCorner, mapCorner, workWindow, ShapeFits, MarginClear, MarginLoaded, blockPass}
+use Rattle.collect_finish.specs.Work.{workStride, workCorner, workWindow, ShapeFits, MarginClear, MarginLoaded, blockPass}
 use Rattle.collect_finish.specs.WorkFits.{ShapedBlock, PassFits, MarginFits}
 use Rattle.collect_finish.proofs.WorkPlaces.{shape-fits, shape-in-work}
 use Rattle.collect_finish.proofs.WorkCells.{cell-is}
@@ -46,10 +46,6 @@ use Rattle.collect_finish.proofs.BlockPasses.{PixelsRead, Holds, holds-
 abbrev pub finishFilters : Plan → ℕ → Filter
 finishFilters plan = gainsFirst (filtersOf plan) 4
 
--- What finish has past the edge that a pass comes from: the neighbour's strip times the gains of the passes after it.
-abbrev pub finishEdges : Plan → List ℕ → ℕ → ℕ → ℕ → ℕ → ℕ
-finishEdges plan strips k u l i = gainsFrom (filtersOf plan) (suc u) (3 - u) ⊗ pastEdges plan strips k u l i
-
 finish-order : (plan : Plan) (t : ℕ) → finishFilters plan t .order ≡ orderOf plan t
 unfolding filterOf
 finish-order plan zero = refl
@@ -58,7 +54,7 @@ finish-order plan (suc t) = refl
 -- After t passes over X: the work array holds the block, and the margins of the passes from t on are 0.
 pub record Finishing (plan : Plan) (k : ℕ) (X : ℕ → ℕ → ℕ) (strips : List ℕ) (t : ℕ) (work : List ℕ) : Type 0 where
   pub counted : t ≤ 4
-  pub holds : Holds plan k (finishFilters plan) (finishEdges plan strips k) (partOf (plan .grid) k X) t work
+  pub holds : Holds plan k (finishFilters plan) (scaledEdges plan strips k 3) (partOf (plan .grid) k X) t work
   pub clear : (u : ℕ) → t ≤ u → u < 4 → MarginClear plan (shapeOf (plan .grid) k) u work
 
 module _ {plan : Plan} {k : ℕ} {shape : BlockShape} (placed : ShapedBlock plan k shape) where
@@ -71,7 +67,7 @@ module _ {plan : Plan} {k : ℕ} {shape : BlockShape} (placed : ShapedBlock plan
   finish-start heights {strips} {work} reads =
       record {
         counted = omega arith;
-        holds = holds-start placed heights reads (finishFilters plan) (finishEdges plan strips k);
+        holds = holds-start placed heights reads (finishFilters plan) (scaledEdges plan strips k 3);
         clear =
             λ u low below.
             margin-clear plan (shapeOf (plan .grid) k) (shape-fits (placed .block)) u (limited u below) work
@@ -89,7 +85,7 @@ module _ {plan : Plan} {k : ℕ} {shape : BlockShape} (placed : ShapedBlock plan
     Z = partOf (plan .grid) k X
 
     abbrev edges : ℕ → ℕ → ℕ → ℕ
-    edges = finishEdges plan strips k
+    edges = scaledEdges plan strips k 3
 
     fits : ShapeFits whole
     fits = shape-fits (placed .block)
@@ -103,7 +99,7 @@ module _ {plan : Plan} {k : ℕ} {shape : BlockShape} (placed : ShapedBlock plan
         }
 
     -- The margin is loaded.
-    module _ {later : ℕ} (laters : later ≡ gainsFrom (filtersOf plan) (t + 1) (3 - t)) {loaded : List ℕ}
+    module _ {later : ℕ} (laters : later ≡ gainsAfter plan t 3) {loaded : List ℕ}
         (loads : MarginLoaded plan shape t later (stripBefore plan k t) strips work loaded) {words : FilterWords}
         (filtered : words ≡ gainsFirstWords plan t) where
       load : MarginLoaded plan whole t later (stripBefore plan k t) strips work loaded
@@ -122,15 +118,15 @@ module _ {plan : Plan} {k : ℕ} {shape : BlockShape} (placed : ShapedBlock plan
                 ∙ inv .holds .inside y x p q;
           }
 
-      near : (l i : ℕ) → l < across (axisOf t) (rowsOf (plan .grid) k) (columnsOf (plan .grid) k) → i < orderOf plan t
+      near : (l i : ℕ) → l < linesAcross (plan .grid) k t → i < orderOf plan t
           → wordsBesideWindow (axisOf t) (directionOf t) (workWindow (rowsOf (plan .grid) k) (columnsOf (plan .grid) k)) loaded
           l i
           ≡ edges t l i
-      unfolding shapeOf
+      unfolding shapeOf scaledEdges
       near l i b c =
           margin-beside plan whole fits t (limited t below) loaded l i c
           ∙ load .at l (fromEdge (directionOf t) (orderOf plan t) i) b (from-edge-below (directionOf t) (orderOf plan t) i c)
-          ∙ ap₂ _⊗_ (laters ∙ ap (λ u. gainsFrom (filtersOf plan) u (3 - t)) (add-one t)) (past-edges-read plan strips k t l i c)
+          ∙ ap₂ _⊗_ laters (past-edges-read plan strips k t l i c)
 
       -- What the pass asks.
       pub finish-pass : PassFits (words .order) shape (length loaded)
@@ -179,14 +175,14 @@ module _ (plan : Plan) (k : ℕ) (X : ℕ → ℕ → ℕ) (strips work output :
   abbrev w : ℕ
   w = columnsOf (plan .grid) k
 
-  written-finished : Holds plan k (finishFilters plan) (finishEdges plan strips k) (partOf (plan .grid) k X) 4 work
-      → strideWritten (firstRow (plan .grid) k * plan .grid .columns + firstColumn (plan .grid) k) (plan .grid .columns) w
+  written-finished : Holds plan k (finishFilters plan) (scaledEdges plan strips k 3) (partOf (plan .grid) k X) 4 work
+      → strideWritten (blockPixelPlace (plan .grid) k 0 0) (plan .grid .columns) w
       (strideScaled 1 work workCorner workStride) h output
       ≡ finished plan X strips k output
-  unfolding finished blockWritten rectangleWritten blockPixelPlace finishWord
+  unfolding finished blockWritten rectangleWritten blockPixelPlace finishWord scaledEdges gainsAfter
   written-finished holds =
       rectangle-same
-      (stridePlace (firstRow (plan .grid) k * plan .grid .columns + firstColumn (plan .grid) k) (plan .grid .columns))
+      (stridePlace (blockPixelPlace (plan .grid) k 0 0) (plan .grid .columns))
       (strideScaled 1 work workCorner workStride) w h
       (λ q. blockPixelPlace (plan .grid) k (q / w) (q % w)) (λ q. finishWord plan X strips k (q / w) (q % w)) output
       (λ q c. omega arith)
@@ -204,7 +200,7 @@ module _ (plan : Plan) (k : ℕ) (X : ℕ → ℕ → ℕ) (strips work output :
 pub finish-end : {plan : Plan} {k : ℕ} {shape : BlockShape} {X : ℕ → ℕ → ℕ} {strips : List ℕ} {t : ℕ} {work after : List ℕ}
     → ShapedBlock plan k shape → Finishing plan k X strips t work → 4 ≤ t → (output : List ℕ)
     → after
-    ≡ strideWritten (mapCorner plan shape) (plan .grid .columns) (shape .columns) (strideScaled 1 work workCorner workStride)
+    ≡ strideWritten (shape .start) (plan .grid .columns) (shape .columns) (strideScaled 1 work workCorner workStride)
     (shape .rows) output
     → after ≡ finished plan X strips k output
 unfolding shapeOf
@@ -213,6 +209,6 @@ finish-end {plan} {k} {shape} {X} {strips} {t} {work} placed inv all output copi
     copied
     ∙ ap
     (λ z.
-    strideWritten (mapCorner plan z) (plan .grid .columns) (z .columns) (strideScaled 1 work workCorner workStride) (z .rows) output)
+    strideWritten (z .start) (plan .grid .columns) (z .columns) (strideScaled 1 work workCorner workStride) (z .rows) output)
     (placed .shaped)
     ∙ written-finished plan k X strips work output (rw e at (inv .holds))

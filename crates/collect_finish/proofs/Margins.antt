@@ -1,10 +1,10 @@
 -- The margins of the work array: they lie apart from each other and from the block, and the rectangle of a strip that is
 -- copied into one makes it what stands past the block's edge. Assumes nothing.
 use mathlib.Core.Path.{_≡_, refl, sym, ap, ap₂, _∙_}
-use mathlib.Core.Bool.{Bool, true, false, _&&_, cond, false≢true}
+use mathlib.Core.Bool.{Bool, true, false, cond, false≢true}
 use mathlib.Core.List.{List}
 use mathlib.Core.Logic.{_≢_}
-use Prim.Native.Nat.{ℕ, zero, suc, _+_, _-_, _*_, _≤_, _<_}
+use Prim.Native.Nat.{ℕ, zero, suc, _+_, _-_, _≤_, _<_}
 use native.Mathlib.Omega.{arith}
 use lib.Dec.{ltb, leb}
 use lib.ListN.{length}
@@ -23,12 +23,13 @@ use Rattle.plan.specs.Sizes.{orderOf}
 use Rattle.task_words.specs.Strips.{fromEdge}
 use Rattle.grid.specs.declared.BlockShape.{BlockShape}
 use Rattle.strips.specs.declared.Strip.{Strip}
-use Rattle.strips.specs.StripRecord.{placeHeld, addressIn, stripRead}
+use Rattle.strips.specs.StripRecord.{placeHeld, wordHeld, addressIn, stripRead}
 use Rattle.buffer.specs.Copies.{stridePlace, strideScaled, strideWritten}
-use Rattle.collect_finish.specs.Work.{workStride, workWords, workWindow, pixelIn, workPlace, ShapeFits, ClearOutside, linesOf, extentOf, marginStart, marginFirst, marginPlace, MarginClear, MarginLoaded}
+use Rattle.collect_finish.specs.Work.{workStride, workWords, workWindow, pixelIn, workPlace, ShapeFits, ClearOutside, marginStart, marginFirst, marginPlace, MarginClear, MarginLoaded}
 use Rattle.buffer.proofs.Copies.{rectangle-length, rectangle-at, rectangle-other}
 use Rattle.collect_finish.proofs.WorkPlaces.{line-place, work-apart, work-below, lines-small, extent-small, across-below, along-below, outside-block}
 use Rattle.collect_finish.proofs.StripRectangles.{StripLies}
+use Rattle.grid.specs.Shapes.{shapeExtent, shapeLines}
 
 -- The words beside a window are those of the work array's margin.
 pub beside-place : (a : Axis) (d : Direction) (h w : ℕ) (work : List ℕ) (l i : ℕ)
@@ -110,7 +111,7 @@ apart rows columns d e o p h w l i m j q hh hw ho hp hl hi hm hj g =
 
 pub margins-apart : (plan : Plan) (shape : BlockShape) → ShapeFits shape → (t u : ℕ) → t < u → u < 4
     → orderOf plan t ≤ orderLimit → orderOf plan u ≤ orderLimit → (l i m j : ℕ)
-    → l < linesOf shape t → i < orderOf plan t → m < linesOf shape u → j < orderOf plan u
+    → l < shapeLines shape t → i < orderOf plan t → m < shapeLines shape u → j < orderOf plan u
     → marginPlace plan shape u m j ≢ marginPlace plan shape t l i
 margins-apart plan shape fits t u later counted low high l i m j hl hi hm hj g =
     apart (axisOf t) (axisOf u) (directionOf t) (directionOf u) (orderOf plan t) (orderOf plan u) (shape .rows)
@@ -142,17 +143,17 @@ module _ (plan : Plan) (shape : BlockShape) (fits : ShapeFits shape) (pass : ℕ
   abbrev place : ℕ → ℕ → ℕ
   place l i = marginPlace plan shape pass l i
 
-  line-in : (l : ℕ) → l < linesOf shape pass → orderLimit + l < workStride
+  line-in : (l : ℕ) → l < shapeLines shape pass → orderLimit + l < workStride
   line-in l b = omega (arith, lines-small fits pass)
 
   index-in : (i : ℕ) → i < order → marginFirst plan shape pass + i < workStride
-  index-in i b = margin-index d order (extentOf shape pass) i limited (extent-small fits pass) b
+  index-in i b = margin-index d order (shapeExtent shape pass) i limited (extent-small fits pass) b
 
-  pub margin-not-block : (l i : ℕ) → l < linesOf shape pass → i < order → (y x : ℕ) → y < shape .rows → x < shape .columns
+  pub margin-not-block : (l i : ℕ) → l < shapeLines shape pass → i < order → (y x : ℕ) → y < shape .rows → x < shape .columns
       → place l i ≢ pixelIn y x
   margin-not-block l i b c =
       outside-block fits pass l (marginFirst plan shape pass + i) (line-in l b) (index-in i c)
-      (λ _ low high. margin-outside d order (extentOf shape pass) i limited c low high)
+      (λ _ low high. margin-outside d order (shapeExtent shape pass) i limited c low high)
 
   -- Zeros around the block are zeros in the margin.
   pub margin-clear : (work : List ℕ) → ClearOutside shape work → MarginClear plan shape pass work
@@ -163,11 +164,11 @@ module _ (plan : Plan) (shape : BlockShape) (fits : ShapeFits shape) (pass : ℕ
       → wordsBesideWindow a d (workWindow (shape .rows) (shape .columns)) work l i ≡ wordAt work (place l (fromEdge d order i))
   margin-beside work l i c =
       beside-place a d (shape .rows) (shape .columns) work l i
-      ∙ ap (λ z. wordAt work (workPlace a l z)) (beyond-place d order (extentOf shape pass) i limited c)
+      ∙ ap (λ z. wordAt work (workPlace a l z)) (beyond-place d order (shapeExtent shape pass) i limited c)
 
   -- ---- the strip's rectangle copied
 
-  module _ (gain n : ℕ) (strip : Strip) (strips before after : List ℕ) (lies : StripLies a n order (linesOf shape pass) strip)
+  module _ (gain n : ℕ) (strip : Strip) (strips before after : List ℕ) (lies : StripLies a n order (shapeLines shape pass) strip)
       (sized : length before ≡ workWords) where
     abbrev places : ℕ
     places = strip .past - strip .first
@@ -183,7 +184,7 @@ module _ (plan : Plan) (shape : BlockShape) (fits : ShapeFits shape) (pass : ℕ
 
     abbrev words : ℕ → ℕ → ℕ
     words =
-        strideScaled gain strips (strip .start + strip .first * strip .«place_step»)
+        strideScaled gain strips (addressIn strip 0 (strip .first))
         (along a (strip .«place_step») (strip .«line_step»))
 
     -- A place of the rectangle is one of the margin.
@@ -197,7 +198,7 @@ module _ (plan : Plan) (shape : BlockShape) (fits : ShapeFits shape) (pass : ℕ
     cell-place : (y x : ℕ) → y < h → x < w → strip .first + along a y x < strip .past
     cell-place y x p q = omega (arith, turned-below a places (strip .lines) y x p q .1, lies .ordered)
 
-    cell-line-in : (y x : ℕ) → y < h → x < w → across a y x < linesOf shape pass
+    cell-line-in : (y x : ℕ) → y < h → x < w → across a y x < shapeLines shape pass
     cell-line-in y x p q = omega (arith, cell-line y x p q, lies .few-lines)
 
     cell-place-in : (y x : ℕ) → y < h → x < w → strip .first + along a y x < order
@@ -222,11 +223,8 @@ module _ (plan : Plan) (shape : BlockShape) (fits : ShapeFits shape) (pass : ℕ
         by rows f g = (f, g)
 
     module _ (copied : after ≡ strideWritten to workStride w words h before) (clear : MarginClear plan shape pass before) where
-      abbrev inside : ℕ → ℕ → Bool
-      inside l i = ltb l (strip .lines) && placeHeld strip i
-
       -- A word of the strip,
-      word-copied : (l i : ℕ) → inside l i ≡ true → wordAt after (place l i) ≡ gain ⊗ wordAt strips (addressIn strip l i)
+      word-copied : (l i : ℕ) → wordHeld strip l i ≡ true → wordAt after (place l i) ≡ gain ⊗ wordAt strips (addressIn strip l i)
       word-copied l i e =
           let line = ltb-true l (strip .lines) (and-left _ (placeHeld strip i) e) in
           let rest = and-right (ltb l (strip .lines)) (placeHeld strip i) e in
@@ -246,7 +244,7 @@ module _ (plan : Plan) (shape : BlockShape) (fits : ShapeFits shape) (pass : ℕ
           ∙ ap (λ z. gain ⊗ wordAt strips z) (lies .addressed y x (cell-line y x p q) ∙ ap₂ (addressIn strip) (at .0) (at .1))
 
       -- and a place that has none.
-      nothing-copied : (l i : ℕ) → l < linesOf shape pass → i < order → inside l i ≡ false → wordAt after (place l i) ≡ 0
+      nothing-copied : (l i : ℕ) → l < shapeLines shape pass → i < order → wordHeld strip l i ≡ false → wordAt after (place l i) ≡ 0
       nothing-copied l i b c e =
           ap (λ z. wordAt z (place l i)) copied
           ∙ rectangle-other (stridePlace to workStride) words w h before _
@@ -271,7 +269,7 @@ module _ (plan : Plan) (shape : BlockShape) (fits : ShapeFits shape) (pass : ℕ
       margin-loaded =
           record {
             length-kept = ap length copied ∙ rectangle-length (stridePlace to workStride) words w h before;
-            at = λ l i b c. by l i b c (inside l i) refl;
+            at = λ l i b c. by l i b c (wordHeld strip l i) refl;
             elsewhere =
                 λ z out.
                 ap (λ y. wordAt y z) copied
@@ -279,7 +277,7 @@ module _ (plan : Plan) (shape : BlockShape) (fits : ShapeFits shape) (pass : ℕ
                 (λ y x p q e. out _ _ (cell-line-in y x p q) (cell-place-in y x p q) (e ∙ cell-is y x));
           }
         where
-          by : (l i : ℕ) → l < linesOf shape pass → i < order → (t : Bool) → inside l i ≡ t
+          by : (l i : ℕ) → l < shapeLines shape pass → i < order → (t : Bool) → wordHeld strip l i ≡ t
               → wordAt after (place l i) ≡ gain ⊗ cond t (wordAt strips (addressIn strip l i)) 0
           by l i b c true e = word-copied l i e
           by l i b c false e = nothing-copied l i b c e ∙ sym (mul-zero gain)

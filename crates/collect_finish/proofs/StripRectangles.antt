@@ -9,7 +9,7 @@ use Rattle.plan.specs.declared.Plan.{Plan}
 use Rattle.plan.specs.Sizes.{neededMarks, neededStrips, orderOf}
 use Rattle.plan.proofs.Record.{rules}
 use Rattle.axis.specs.Axis.{Axis, columns, rows, Direction, forward, backward, axisOf, directionOf, along, across}
-use Rattle.grid.specs.Grid.{rowsOf, columnsOf, neighbour}
+use Rattle.grid.specs.Grid.{neighbour, extentAlong, linesAcross}
 use Rattle.task_words.specs.Strips.{stripStart}
 use Rattle.grid.proofs.Neighbours.{neighbour-below, neighbour-lines}
 use Rattle.grid.proofs.Blocks.{lines-in-side}
@@ -17,9 +17,8 @@ use Rattle.task_words.proofs.Strips.{strip-in-list}
 use Rattle.strips.proofs.StripRecords.{past-in-order}
 use Rattle.strips.specs.declared.Strip.{Strip}
 use Rattle.strips.specs.StripRecord.{firstInside, pastInside, stripWith, stripOf, emptyStrip, stripIn, stripBefore, addressIn}
-use Rattle.grid.specs.Shapes.{shapeOf}
+use Rattle.grid.specs.Shapes.{shapeOf, shapeLines}
 use Rattle.buffer.specs.Copies.{StrideFits}
-use Rattle.collect_finish.specs.Work.{linesOf}
 use Rattle.collect_finish.specs.WorkFits.{BlockOf}
 
 -- A strip in a list of n words that a margin of `order` places of `lines` lines takes.
@@ -28,28 +27,39 @@ pub record StripLies (a : Axis) (n order lines : ℕ) (strip : Strip) : Type 0 w
   pub few-places : strip .past ≤ order
   pub ordered : strip .first ≤ strip .past
   pub addressed : (y x : ℕ) → across a y x < strip .lines
-      → strip .start + strip .first * strip .«place_step» + y * along a (strip .«place_step») (strip .«line_step») + x
+      → addressIn strip 0 (strip .first) + y * along a (strip .«place_step») (strip .«line_step») + x
       ≡ addressIn strip (across a y x) (strip .first + along a y x)
-  pub start-in : strip .start + strip .first * strip .«place_step» ≤ n
-  pub grid-in : StrideFits n (strip .start + strip .first * strip .«place_step»)
+  pub start-in : addressIn strip 0 (strip .first) ≤ n
+  pub grid-in : StrideFits n (addressIn strip 0 (strip .first))
       (along a (strip .«place_step») (strip .«line_step»)) (along a (strip .past - strip .first) (strip .lines))
       (across a (strip .past - strip .first) (strip .lines))
 
 -- Places from `first` to before `past` of a strip whose words start at `start`.
 module _ (n order side start lines first past : ℕ) (fits : start + side * order ≤ n) (low : 1 ≤ side) (few : lines ≤ side)
     (ordered : first ≤ past) (limited : past ≤ order) where
+  abbrev strip : Axis → Strip
+  strip a =
+      record {
+        start = start;
+        «line_step» = along a 1 order;
+        «place_step» = along a side 1;
+        lines = lines;
+        first = first;
+        past = past;
+      }
+
   address : (a : Axis) (y x : ℕ)
-      → start + first * along a side 1 + y * along a (along a side 1) (along a 1 order) + x
-      ≡ start + across a y x * along a 1 order + (first + along a y x) * along a side 1
+      → addressIn (strip a) 0 first + y * along a (along a side 1) (along a 1 order) + x
+      ≡ addressIn (strip a) (across a y x) (first + along a y x)
   address columns y x = omega arith
   address rows y x = omega arith
 
-  first-in : (a : Axis) → start + first * along a side 1 ≤ n
+  first-in : (a : Axis) → addressIn (strip a) 0 first ≤ n
   first-in columns = let e : first * side ≤ order * side = mul-le-mul-right side (omega arith) in omega arith
   first-in rows = let e : 1 * order ≤ side * order = mul-le-mul-right order low in omega arith
 
   places-in : (a : Axis)
-      → StrideFits n (start + first * along a side 1) (along a (along a side 1) (along a 1 order)) (along a (past - first) lines)
+      → StrideFits n (addressIn (strip a) 0 first) (along a (along a side 1) (along a 1 order)) (along a (past - first) lines)
       (across a (past - first) lines)
   places-in columns =
       record {
@@ -58,16 +68,7 @@ module _ (n order side start lines first past : ℕ) (fits : start + side * orde
   places-in rows =
       record { row = λ y h. let e : (y + 1) * order ≤ side * order = mul-le-mul-right order (omega arith) in omega arith }
 
-  lies : (a : Axis)
-      → StripLies a n order lines
-      (record {
-        start = start;
-        «line_step» = along a 1 order;
-        «place_step» = along a side 1;
-        lines = lines;
-        first = first;
-        past = past;
-      })
+  lies : (a : Axis) → StripLies a n order lines (strip a)
   lies a =
       record {
         few-lines = omega arith;
@@ -99,20 +100,20 @@ first-before-past backward order n = omega arith
 
 -- The strip before a block lies in a list of at least the needed length.
 pub before-lies : {plan : Plan} {k : ℕ} → BlockOf plan k → (pass : ℕ) {n : ℕ} → pass < 4 → neededStrips plan ≤ n
-    → StripLies (axisOf pass) n (orderOf plan pass) (linesOf (shapeOf (plan .grid) k) pass) (stripBefore plan k pass)
+    → StripLies (axisOf pass) n (orderOf plan pass) (shapeLines (shapeOf (plan .grid) k) pass) (stripBefore plan k pass)
 unfolding stripBefore stripOf stripWith shapeOf
 before-lies {plan} {k} block pass {n} below long =
     by (neighbour (plan .grid) k pass)
     (λ j e. (neighbour-below (plan .grid) k pass j (block .counted) e, neighbour-lines (plan .grid) k pass j (block .counted) e))
   where
     lines : ℕ → ℕ
-    lines j = across (axisOf pass) (rowsOf (plan .grid) j) (columnsOf (plan .grid) j)
+    lines j = linesAcross (plan .grid) j pass
 
     by : (o : Option ℕ) → ((j : ℕ) → o ≡ some j → (j < neededMarks plan) × (lines j ≡ lines k))
         → StripLies (axisOf pass) n (orderOf plan pass) (lines k) (stripIn plan pass o)
     by none f = nothing-lies (axisOf pass) n (orderOf plan pass) _
     by (some j) f =
-        let extent = along (axisOf pass) (rowsOf (plan .grid) j) (columnsOf (plan .grid) j) in
+        let extent = extentAlong (plan .grid) j pass in
         let d = directionOf pass in
         let order = orderOf plan pass in
         rw (← f j refl .1)

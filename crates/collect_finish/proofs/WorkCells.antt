@@ -50,7 +50,7 @@ module _ (shape : BlockShape) where
 
   -- A word put into a cell of that row.
   pub touched : {n start row : ℕ} {before work : List ℕ} (place column word : ℕ) → RowFits n start shape row before
-      → column ≤ w - 1 → place ≡ (orderLimit + row) * workStride + orderLimit + column
+      → column ≤ w - 1 → place ≡ stridePlace workCorner workStride row column
       → ClearOutside shape work → ClearOutside shape (set work place word)
   touched {row = row} place column word fits e f clear =
       cell-set _ place row column word (omega arith) (fits .row-below) (omega (arith, fits .held .wide)) clear

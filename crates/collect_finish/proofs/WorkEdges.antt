@@ -21,9 +21,10 @@ use Rattle.buffer.specs.Written.{cleared, rowWritten}
 use Rattle.buffer.specs.Copies.{stridePlace, strideScaled, strideWritten, StrideFits}
 use Rattle.buffer.proofs.Written.{written-same}
 use Rattle.buffer.proofs.Copies.{rectangle-same}
-use Rattle.collect_finish.specs.Work.{workStride, workPlace, extentOf, edgeFirst, workEdge}
+use Rattle.collect_finish.specs.Work.{workStride, workPlace, edgeFirst, workEdge}
 use Rattle.collect_finish.specs.WorkFits.{StripMoves}
 use Rattle.collect_finish.proofs.WorkPlaces.{shape-in-work, line-place, lines-fit, extent-small, move-limited}
+use Rattle.grid.specs.Shapes.{shapeExtent}
 
 -- ---- a strip as a rectangle
 
@@ -62,7 +63,7 @@ module _ {plan : Plan} {k pass : ℕ} {shape : BlockShape} {n m : ℕ} (moves : 
 
   pub edge-in-work : edge + r ≤ workStride
   edge-in-work =
-      edge-room (directionOf pass) r (extentOf shape pass) (move-limited moves)
+      edge-room (directionOf pass) r (shapeExtent shape pass) (move-limited moves)
       (extent-small (shape-in-work (moves .placed)) pass)
 
   edge-cell : (gain : ℕ) (work : List ℕ) → goesOn (plan .grid) k pass ≡ true → (y x : ℕ)

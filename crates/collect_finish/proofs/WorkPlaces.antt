@@ -8,19 +8,20 @@ use native.Mathlib.Omega.{arith}
 use Rattle.plan.specs.declared.Plan.{Plan}
 use Rattle.plan.specs.Rules.{orderLimit}
 use Rattle.plan.specs.Sizes.{neededPixels, orderOf}
-use Rattle.plan.proofs.Record.{rules, order-limited-at}
-use Rattle.grid.proofs.Extents.{extent-positive, extent-in-side, extent-inside}
+use Rattle.plan.proofs.Record.{order-limited-at}
+use Rattle.grid.proofs.Extents.{extent-inside}
 use Rattle.axis.specs.Axis.{Axis, columns, rows, Direction, forward, backward, axisOf, along, across, isBackward, ifForward, ifBackward}
 use Rattle.filter.specs.Windows.{WindowFits}
-use Rattle.grid.specs.Grid.{blockRow, blockColumn, firstRow, firstColumn, rowsOf, columnsOf}
+use Rattle.grid.specs.Grid.{blockRow, blockColumn, firstRow, rowsOf, columnsOf, blockPixelPlace}
 use Rattle.grid.proofs.Blocks.{block-row-below, block-column-below}
 use Rattle.number.proofs.RowMajor.{same-row-column, place-below}
 use Rattle.grid.specs.declared.Grid.{Grid}
 use Rattle.grid.specs.declared.BlockShape.{BlockShape}
-use Rattle.grid.specs.Shapes.{shapeOf}
+use Rattle.grid.specs.Shapes.{shapeOf, shapeExtent, shapeLines}
 use Rattle.buffer.specs.Copies.{stridePlace, StrideFits}
-use Rattle.collect_finish.specs.Work.{workStride, workWords, workCorner, workWindow, pixelIn, mapCorner, workPlace, linesOf, extentOf, ShapeFits}
+use Rattle.collect_finish.specs.Work.{workStride, workWords, workCorner, workWindow, pixelIn, workPlace, ShapeFits}
 use Rattle.strips.specs.StripRecord.{EdgeFits}
+use Rattle.strips.proofs.BlockBounds.{bounded, of-axis}
 use Rattle.collect_finish.specs.WorkFits.{BlockOf, ShapedBlock, StripMoves}
 
 -- ---- what fits
@@ -53,16 +54,12 @@ module _ {plan : Plan} {k : ℕ} (block : BlockOf plan k) where
   pub shape-fits : ShapeFits (shapeOf (plan .grid) k)
   unfolding shapeOf
   shape-fits =
-      let side = rules plan (block .kept) .side-high in
-      record {
-        tall = extent-positive (grid .rows) (grid .side) (blockRow grid k) (block-row-below grid k (block .counted));
-        wide = extent-positive (grid .columns) (grid .side) (blockColumn grid k) (block-column-below grid k (block .counted));
-        rows-high = omega (arith, extent-in-side (grid .rows) (grid .side) (blockRow grid k));
-        columns-high = omega (arith, extent-in-side (grid .columns) (grid .side) (blockColumn grid k));
-      }
+      let b = bounded plan k (block .kept) (block .counted) in
+      record { tall = b .tall; wide = b .wide; rows-high = b .rows-high; columns-high = b .columns-high }
 
   rows-fit : (n : ℕ) → neededPixels plan ≤ n
-      → StrideFits n (firstRow grid k * grid .columns + firstColumn grid k) (grid .columns) (rowsOf grid k) (columnsOf grid k)
+      → StrideFits n (blockPixelPlace grid k 0 0) (grid .columns) (rowsOf grid k) (columnsOf grid k)
+  unfolding blockPixelPlace
   rows-fit n long =
       record {
         row =
@@ -84,12 +81,9 @@ module _ {plan : Plan} {k : ℕ} {shape : BlockShape} (placed : ShapedBlock plan
   block-in-work e = block-grid-fits shape-in-work e
 
   pub block-in-map : {n : ℕ} → neededPixels plan ≤ n
-      → StrideFits n (mapCorner plan shape) (plan .grid .columns) (shape .rows) (shape .columns)
+      → StrideFits n (shape .start) (plan .grid .columns) (shape .rows) (shape .columns)
   unfolding shapeOf
   block-in-map {n} long = rw (placed .shaped) (rows-fit (placed .block) n long)
-
-  pub corner-in-map : {n : ℕ} → neededPixels plan ≤ n → mapCorner plan shape ≤ n
-  corner-in-map long = omega (arith, block-in-map long .row 0 (shape-in-work .tall))
 
 -- ---- rectangles of lines
 
@@ -136,20 +130,19 @@ pub along-below : (a : Axis) (h w y x : ℕ) → y < h → x < w → along a y x
 along-below columns h w y x p q = p
 along-below rows h w y x p q = q
 
-lines-high : (a : Axis) (h w : ℕ) → h ≤ 32 → w ≤ 32 → (across a h w ≤ 32) × (along a h w ≤ 32)
-lines-high columns h w p q = (q, p)
-lines-high rows h w p q = (p, q)
-
 module _ {shape : BlockShape} (fits : ShapeFits shape) (pass : ℕ) where
-  pub lines-small : linesOf shape pass ≤ 32
-  lines-small = lines-high (axisOf pass) (shape .rows) (shape .columns) (fits .rows-high) (fits .columns-high) .0
+  small : (shapeExtent shape pass ≤ 32) × (shapeLines shape pass ≤ 32)
+  small = of-axis (axisOf pass) (λ z. z ≤ 32) (shape .rows) (shape .columns) (fits .rows-high) (fits .columns-high)
 
-  pub extent-small : extentOf shape pass ≤ 32
-  extent-small = lines-high (axisOf pass) (shape .rows) (shape .columns) (fits .rows-high) (fits .columns-high) .1
+  pub lines-small : shapeLines shape pass ≤ 32
+  lines-small = small .1
+
+  pub extent-small : shapeExtent shape pass ≤ 32
+  extent-small = small .0
 
   -- Index i of line l lies outside the block.
   pub outside-block : (l i : ℕ) → orderLimit + l < workStride → i < workStride
-      → (l < linesOf shape pass → orderLimit ≤ i → i < orderLimit + extentOf shape pass → ⊥)
+      → (l < shapeLines shape pass → orderLimit ≤ i → i < orderLimit + shapeExtent shape pass → ⊥)
       → (y x : ℕ) → y < shape .rows → x < shape .columns → workPlace (axisOf pass) l i ≢ pixelIn y x
   outside-block l i hl hi out y x p q e =
       let a = axisOf pass in
@@ -167,5 +160,5 @@ module _ {plan : Plan} {k pass : ℕ} {shape : BlockShape} {n m : ℕ} (moves : 
   move-limited = order-limited-at plan (moves .placed .block .kept) pass (moves .pass-below)
 
   -- What the first index of an edge or of a margin asks.
-  pub edge-asked : {extent : ℕ} → extent ≡ extentOf shape pass → EdgeFits (orderOf plan pass) extent
+  pub edge-asked : {extent : ℕ} → extent ≡ shapeExtent shape pass → EdgeFits (orderOf plan pass) extent
   edge-asked e = record { limited = move-limited; extent-small = rw e (extent-small (shape-in-work (moves .placed)) pass) }

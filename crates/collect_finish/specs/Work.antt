@@ -1,4 +1,4 @@
--- Inner: the work array of collect and finish, rows of sideLimit + 2 × orderLimit words, the block at row and column orderLimit,
+-- Inner: the work array of collect and finish, rows of paddedLine words, the block at row and column orderLimit,
 -- and around it margins for the words past its edges.
 use mathlib.Core.Bool.{cond}
 use mathlib.Core.List.{List}
@@ -9,30 +9,27 @@ use lib.ListN.{length}
 use Rattle.word.specs.Word.{_⊗_}
 use Rattle.plan.specs.declared.Plan.{Plan}
 use Rattle.plan.specs.Rules.{orderLimit}
+use Rattle.plan.specs.PaddedLine.{paddedLine}
 use Rattle.buffer.specs.Lists.{wordAt}
 use Rattle.passes.specs.Filter.{Filter}
-use Rattle.axis.specs.Axis.{Axis, Direction, forward, backward, axisOf, directionOf, along, across, lineOf}
+use Rattle.axis.specs.Axis.{Axis, Direction, forward, backward, axisOf, directionOf, lineOf}
 use Rattle.filter.specs.declared.Window.{Window}
 use Rattle.number.specs.Numbers.{rowMajor}
 use Rattle.filter.specs.Windows.{windowPass}
 use Rattle.grid.specs.Grid.{goesOn, sideLimit}
 use Rattle.plan.specs.Sizes.{orderOf}
 use Rattle.grid.specs.declared.BlockShape.{BlockShape}
-use Rattle.grid.specs.Shapes.{shapeOf}
+use Rattle.grid.specs.Shapes.{shapeOf, shapeExtent, shapeLines}
 use Rattle.strips.specs.declared.Strip.{Strip}
 use Rattle.strips.specs.StripRecord.{stripRead, edgeStart}
 
 -- The words of a row.
 abbrev pub workStride : ℕ
-workStride = sideLimit + 2 * orderLimit
+workStride = paddedLine
 
 -- The words of the array.
 abbrev pub workWords : ℕ
 workWords = workStride * workStride
-
--- The first word of the block.
-abbrev pub workCorner : ℕ
-workCorner = orderLimit * workStride + orderLimit
 
 -- The window that a block of h rows and w columns takes.
 abbrev pub workWindow : (h w : ℕ) → Window
@@ -49,9 +46,9 @@ pub record ShapeFits (shape : BlockShape) : Type 0 where
 abbrev pub pixelIn : ℕ → ℕ → ℕ
 pixelIn y x = rowMajor workStride (orderLimit + y) (orderLimit + x)
 
--- The first word of a block in a map of the plan's columns.
-abbrev pub mapCorner : Plan → BlockShape → ℕ
-mapCorner plan shape = shape .«first_row» * plan .grid .columns + shape .«first_column»
+-- The first word of the block.
+abbrev pub workCorner : ℕ
+workCorner = pixelIn 0 0
 
 -- The array is 0 outside the block's cells.
 pub record ClearOutside (shape : BlockShape) (work : List ℕ) : Type 0 where
@@ -69,14 +66,6 @@ workPlace a l i = lineOf a (rowMajor workStride) (orderLimit + l) i
 
 -- ---- margins
 
--- The lines of a block along a pass,
-abbrev pub linesOf : BlockShape → ℕ → ℕ
-linesOf shape pass = across (axisOf pass) (shape .rows) (shape .columns)
-
--- and the places of each.
-abbrev pub extentOf : BlockShape → ℕ → ℕ
-extentOf shape pass = along (axisOf pass) (shape .rows) (shape .columns)
-
 -- The first index of the words past the edge that a pass comes from, of a block of n places along the pass.
 abbrev pub marginStart : Direction → (order n : ℕ) → ℕ
 marginStart forward order n = orderLimit - order
@@ -84,7 +73,7 @@ marginStart backward order n = orderLimit + n
 
 -- The first index of the margin of a pass.
 abbrev pub marginFirst : Plan → BlockShape → ℕ → ℕ
-marginFirst plan shape pass = marginStart (directionOf pass) (orderOf plan pass) (extentOf shape pass)
+marginFirst plan shape pass = marginStart (directionOf pass) (orderOf plan pass) (shapeExtent shape pass)
 
 -- The place of line l and place i of the margin of a pass.
 abbrev pub marginPlace : Plan → BlockShape → ℕ → ℕ → ℕ → ℕ
@@ -92,17 +81,17 @@ marginPlace plan shape pass l i = workPlace (axisOf pass) l (marginFirst plan sh
 
 -- The margin of a pass is 0.
 pub record MarginClear (plan : Plan) (shape : BlockShape) (pass : ℕ) (work : List ℕ) : Type 0 where
-  pub at : (l i : ℕ) → l < linesOf shape pass → i < orderOf plan pass
+  pub at : (l i : ℕ) → l < shapeLines shape pass → i < orderOf plan pass
       → wordAt work (marginPlace plan shape pass l i) ≡ 0
 
 -- The array after a strip, times a gain, has gone into the margin of a pass.
 pub record MarginLoaded (plan : Plan) (shape : BlockShape) (pass gain : ℕ) (strip : Strip) (strips before after : List ℕ)
     : Type 0 where
   pub length-kept : length after ≡ length before
-  pub at : (l i : ℕ) → l < linesOf shape pass → i < orderOf plan pass
+  pub at : (l i : ℕ) → l < shapeLines shape pass → i < orderOf plan pass
       → wordAt after (marginPlace plan shape pass l i) ≡ gain ⊗ stripRead strip strips l i
   pub elsewhere : (z : ℕ)
-      → ((l i : ℕ) → l < linesOf shape pass → i < orderOf plan pass
+      → ((l i : ℕ) → l < shapeLines shape pass → i < orderOf plan pass
       → z ≢ marginPlace plan shape pass l i)
       → wordAt after z ≡ wordAt before z
 
@@ -116,7 +105,7 @@ blockPass shape pass f work = windowPass pass (workWindow (shape .rows) (shape .
 
 -- The first index of the strip of a pass.
 abbrev pub edgeFirst : Plan → BlockShape → ℕ → ℕ
-edgeFirst plan shape pass = edgeStart (directionOf pass) (orderOf plan pass) (extentOf shape pass)
+edgeFirst plan shape pass = edgeStart (directionOf pass) (orderOf plan pass) (shapeExtent shape pass)
 
 -- Block k's strip of a pass as the array has it, times a gain, 0 where no neighbour needs it.
 unfoldable pub workEdge : Plan → (k pass gain : ℕ) → List ℕ → ℕ → ℕ → ℕ

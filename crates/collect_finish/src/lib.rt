@@ -18,10 +18,12 @@ ghost use Rattle.buffer.specs.Written.{rowWritten};
 ghost use Rattle.collect_finish.specs.Work.{workStride, workCorner, ClearOutside, BlockRead, workPlace, marginStart, MarginLoaded, blockPass, workEdge};
 ghost use Rattle.collect_finish.specs.WorkFits.{CollectFits, FinishFits, LoadFits, RowFits, PassFits, StripMoves, MarginFits};
 
-// The margin on each side of the block, and the rows of the work array.
+// The margin on each side of the block, the words of a row of the work array, and the first word of the block in it.
 const MARGIN: usize = plan::ORDER_LIMIT;
 
-const STRIDE: usize = grid::SIDE_LIMIT + 2 * plan::ORDER_LIMIT;
+const STRIDE: usize = plan::PADDED_LINE;
+
+const CORNER: usize = MARGIN * STRIDE + MARGIN;
 
 // The words and the heights of a cache line of 64 bytes.
 const LINE_WORDS: usize = 8;
@@ -36,9 +38,8 @@ pub fn collect(plan: Plan, k: usize, map: &[i32], strips: &mut [u64])
 {
     let grid = plan.grid;
     let shape = grid.block_shape(k);
-    let corner = shape.first_row * grid.columns + shape.first_column;
     let mut work = [0; STRIDE * STRIDE];
-    load_block(map, corner, grid.columns, shape, &mut work);
+    load_block(map, shape.start, grid.columns, shape, &mut work);
     let mut pass = 0;
     while pass < 4 {
         let described = plan.passes[pass];
@@ -58,13 +59,12 @@ pub fn finish(plan: Plan, k: usize, map: &[i32], strips: &[u64], output: &mut [u
 {
     let grid = plan.grid;
     let shape = grid.block_shape(k);
-    let corner = shape.first_row * grid.columns + shape.first_column;
     let mut work = [0; STRIDE * STRIDE];
-    touch_output(output, corner, grid.columns, shape, &mut work);
-    load_block(map, corner, grid.columns, shape, &mut work);
+    touch_output(output, shape.start, grid.columns, shape, &mut work);
+    load_block(map, shape.start, grid.columns, shape, &mut work);
     let mut pass = 0;
     while pass < 4 {
-        let gain = filter::gains_from(plan, pass + 1, 3 - pass);
+        let gain = filter::gains_after(plan, pass, 3);
         load_margin(plan, k, pass, gain, shape, strips, &mut work);
         let words = filter::gains_first(plan, pass);
         run_block_pass(shape, pass, words, &mut work);
@@ -72,10 +72,10 @@ pub fn finish(plan: Plan, k: usize, map: &[i32], strips: &[u64], output: &mut [u
     }
     copy_rectangle(
         &work,
-        MARGIN * STRIDE + MARGIN,
+        CORNER,
         STRIDE,
         output,
-        corner,
+        shape.start,
         grid.columns,
         shape.rows,
         shape.columns,
@@ -90,7 +90,7 @@ fn touch_output_row(output: &[u64], start: usize, shape: BlockShape, row: usize,
     requires { ⌜ RowFits (length (now output)) start shape row (now work) ⌝ }
     ensures { λ _. ⌜ ClearOutside shape (now (work .exit)) ⌝ }
 {
-    let work_start = (MARGIN + row) * STRIDE + MARGIN;
+    let work_start = CORNER + row * STRIDE;
     let last = shape.columns - 1;
     let mut i = 0;
     while i < shape.columns + LINE_WORDS {
@@ -116,7 +116,7 @@ fn touch_map_row(map: &[i32], start: usize, shape: BlockShape, row: usize, work:
     requires { ⌜ RowFits (length (now map)) start shape row (now work) ⌝ }
     ensures { λ _. ⌜ ClearOutside shape (now (work .exit)) ⌝ }
 {
-    let work_start = (MARGIN + row) * STRIDE + MARGIN;
+    let work_start = CORNER + row * STRIDE;
     let last = shape.columns - 1;
     let mut i = 0;
     while i < shape.columns + LINE_HEIGHTS {
@@ -202,7 +202,7 @@ fn read_block(
             map,
             map_start + row * map_stride,
             work,
-            MARGIN * STRIDE + MARGIN + row * STRIDE,
+            CORNER + row * STRIDE,
             width,
         );
         row += 1;
@@ -270,12 +270,10 @@ fn load_margin(
     let strip = strips::strip_before(plan, k, pass);
     let first = strip.first;
     let places = strip.past - first;
-    let start = strip.start + first * strip.place_step;
-    let extent = axis::along(pass, shape.rows, shape.columns);
-    let index = margin_start(pass, described.order, extent) + first;
+    let index = margin_start(pass, described.order, shape.extent(pass)) + first;
     copy_rectangle(
         strips,
-        start,
+        strip.first_at(first),
         axis::along(pass, strip.place_step, strip.line_step),
         work,
         work_place(pass, index),
@@ -308,8 +306,7 @@ fn write_strip(
         buffer::clear_words(strips, start, 1, side * order);
         return;
     }
-    let extent = axis::along(pass, shape.rows, shape.columns);
-    let index = strips::edge_start(pass, order, extent);
+    let index = strips::edge_start(pass, order, shape.extent(pass));
     let width = axis::across(pass, order, side);
     copy_rectangle(
         work,

@@ -7,26 +7,23 @@ use native.Mathlib.Omega.{arith}
 use lib.IntN.{ℤ, pos}
 use lib.ListN.{getD, length, length-map, List·getD-map}
 use lib.Seq.{ext-getD}
-use Rattle.word.specs.Word.{modulus, residue}
+use Rattle.word.specs.Word.{residue}
+use Rattle.word.proofs.Residues.{residue-zero}
 use Rattle.plan.specs.declared.Pass.{Pass}
 use Rattle.plan.specs.declared.Plan.{Plan}
 use Rattle.plan.specs.Rules.{passAt}
-use Rattle.buffer.specs.Lists.{wordAt}
-use Rattle.passes.specs.Gains.{gainsFrom, gainsFirst}
+use Rattle.buffer.specs.Lists.{wordAt, numberAt}
+use Rattle.passes.specs.Gains.{filterWithGain, gainsFrom, gainsFirst}
 use Rattle.filter.specs.PlanFilters.{filterOf, filtersOf}
 use Rattle.filter.specs.FilterWords.{filterWith, filterWords, withGain, gainsFirstWords}
 use Rattle.filter.proofs.Buffers.{HoldsBelow}
 
-residue-zero : residue (pos 0) ≡ 0
-unfolding residue modulus
-residue-zero = refl
-
-residues-at : (l : List ℤ) (k : ℕ) → wordAt (map residue l) k ≡ residue (getD l k (pos 0))
+residues-at : (l : List ℤ) (k : ℕ) → wordAt (map residue l) k ≡ residue (numberAt l k)
 residues-at l k = ap (getD (map residue l) k) (sym residue-zero) ∙ List·getD-map residue l k (pos 0)
 
 -- A list that holds the residues of another is the list of its residues.
 pub residues-are : (n : ℕ) (l : List ℤ) (m : List ℕ) → length l ≡ n → length m ≡ n
-    → HoldsBelow n (λ k. residue (getD l k (pos 0))) m → m ≡ map residue l
+    → HoldsBelow n (λ k. residue (numberAt l k)) m → m ≡ map residue l
 residues-are n l m e f holds =
     ext-getD 0 m (map residue l) (f ∙ sym (length-map l residue ∙ e))
     (λ k h. holds k (omega arith) ∙ sym (residues-at l k))
@@ -40,7 +37,7 @@ filterWords-filter pass =
 -- A filter's words with another gain are the filter with that gain.
 withGain-filter : (gain : ℕ) (pass : Pass)
     → filterWith (withGain gain (filterWords pass))
-    ≡ record { gain = gain; order = filterOf pass .order; coefficient = filterOf pass .coefficient }
+    ≡ filterWithGain gain (filterOf pass)
 unfolding filterWords filterOf
 withGain-filter gain pass =
     ap (λ d. record { gain = gain; order = pass .order; coefficient = d }) (fun-ext (residues-at (pass .coefficients)))
@@ -67,5 +64,4 @@ gainsFirstWords-filter plan (suc pass) = withGain-filter _ _
 
 pub gainsFirstWords-order : (plan : Plan) (pass : ℕ) → gainsFirstWords plan pass .order ≡ passAt plan pass .order
 unfolding gainsFirstWords filterWords
-gainsFirstWords-order plan zero = refl
-gainsFirstWords-order plan (suc pass) = refl
+gainsFirstWords-order plan pass = refl

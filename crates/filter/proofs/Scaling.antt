@@ -3,43 +3,34 @@
 use mathlib.Core.Path.{_≡_, refl, sym, ap, ap₂, _∙_}
 use mathlib.Core.List.{List}
 use mathlib.Core.Logic.{_≢_}
-use Prim.Native.Nat.{ℕ, zero, suc, _+_, _-_, _*_, _/_, _%_, _^_, _<_, _≤_}
+use Prim.Native.Nat.{ℕ, suc, _+_, _-_, _*_, _/_, _%_, _^_, _<_, _≤_}
 use native.Mathlib.Nat.{add-mul, mul-le-mul-left, mul-le-mul-right, div-add-mod', mod-lt}
-use native.Mathlib.Numerals.{add-one}
 use native.Mathlib.Decide.{decLt}
 use native.Mathlib.Omega.{arith}
-use lib.ListN.{set, length}
+use lib.ListN.{length}
 use lib.Seq.{ext-getD}
 use Rattle.word.specs.Word.{_⊗_}
+use Rattle.word.proofs.Ring.{one-mul, reduced-small}
 use Rattle.buffer.specs.Lists.{wordAt}
-use Rattle.passes.specs.Line.{output, wordsBefore}
-use Rattle.passes.specs.Filter.{Filter, lessFeedback, filterStep}
+use Rattle.buffer.specs.Written.{rowWritten}
+use Rattle.buffer.specs.Copies.{scaledFrom}
+use Rattle.buffer.proofs.Written.{written-same}
+use Rattle.buffer.proofs.Copies.{rectangle-more, rectangle-length, rectangle-unchanged, rectangle-other, rectangle-at}
+use Rattle.passes.specs.Line.{wordsBefore}
+use Rattle.passes.specs.Filter.{Filter}
 use Rattle.axis.specs.Axis.{Axis, columns, rows, Direction, forward, backward, axisOf, directionOf, along, across, lineOf, isBackward, ifBackward}
-use Rattle.passes.specs.Passes.{filterLine, filterLines}
 use Rattle.passes.proofs.Line.{wordsBefore-inside, wordsBefore-past}
 use Rattle.passes.proofs.Passes.{filterLines-reads}
 use Rattle.passes.specs.Gains.{unitGain}
 use Rattle.passes.proofs.Gains.{filterLines-gain}
-use Rattle.filter.specs.declared.Lines.{Lines}
 use Rattle.filter.specs.declared.Window.{Window}
-use Rattle.filter.specs.Kernel.{outputAt, outputsAt, outputsAtTime, leadPlace, filterInPlace}
 use Rattle.number.specs.Numbers.{rowMajor}
-use Rattle.filter.specs.Windows.{windowLines, windowPass, windowOf, scaleRow, scaleRows, beyond, wordsBesideWindow, WindowFits}
-use Rattle.number.proofs.RowMajor.{same-row-column}
+use Rattle.filter.specs.Windows.{windowPass, windowPlace, windowOf, scaledWord, windowScaled, beyond, wordsBesideWindow, WindowFits}
+use Rattle.number.proofs.RowMajor.{place-below, same-row-column}
 use Rattle.filter.proofs.Unchanged.{filter-unchanged}
-use Rattle.filter.proofs.Windows.{placeIn, Histories, windowPass-passed, fits-alone, no-history}
+use Rattle.filter.proofs.Windows.{Histories, windowPass-passed, fits-alone}
 
--- ---- one turn of each loop
-
-pub scale-word : (gain start n : ℕ) (a : List ℕ) {b : List ℕ} {v : ℕ} → b ≡ scaleRow gain start n a
-    → v ≡ gain ⊗ wordAt b (start + n) → set b (start + n) v ≡ scaleRow gain start (n + 1) a
-unfolding scaleRow
-scale-word gain start n a e g = rw add-one (cc)
-
-pub scale-row : (gain : ℕ) (W : Window) (n : ℕ) (a b : List ℕ) {e : List ℕ} → b ≡ scaleRows gain W n a
-    → e ≡ scaleRow gain (rowMajor (W .stride) (W .top + n) (W .left)) (W .width) b → e ≡ scaleRows gain W (n + 1) a
-unfolding scaleRows
-scale-row gain W n a b p e = rw add-one (cc)
+-- ---- the window's words times the gain
 
 -- The words of a row lie in the buffer.
 pub row-fits : {n : ℕ} (W : Window) → WindowFits n columns forward W 0 → (row : ℕ) → row < W .height
@@ -52,38 +43,31 @@ row-fits {n} W fits row h =
     mul-le-mul-left (W .top + row) (omega (arith, fits .wide, fits .in-row)) in
     (omega arith, end)
 
--- ---- scaling is the pass down of order 0
-
--- A filter of a gain alone: each output is the gain times the input.
-abbrev gainAlone : ℕ → Filter
-gainAlone gain = record { gain = gain; order = 0; coefficient = λ k. 0 }
-
-row-pass : (gain forth back start n : ℕ) (a : List ℕ)
-    → scaleRow gain start n a ≡ outputsAt (gainAlone gain) forth back 1 start n a
-unfolding scaleRow outputsAt outputAt filterStep lessFeedback
-row-pass gain forth back start zero a = refl
-row-pass gain forth back start (suc n) a =
-    let b : List ℕ = outputsAt (gainAlone gain) forth back 1 start n a in
-    ap (λ z. set z (start + n) (gain ⊗ wordAt z (start + n))) (row-pass gain forth back start n a)
-    ∙ ap (λ p. set b p (gain ⊗ wordAt b p)) {y = start + n * 1} (omega arith)
-
-rows-pass : (gain : ℕ) (W : Window) (n : ℕ) (a : List ℕ)
-    → scaleRows gain W n a ≡ filterInPlace (windowLines columns forward W 0) (gainAlone gain) 0 n a
-unfolding scaleRows filterInPlace
-rows-pass gain W zero a = refl
-rows-pass gain W (suc n) a =
-    let L : Lines = windowLines columns forward W 0 in
-    let b : List ℕ = filterInPlace L (gainAlone gain) 0 n a in
-    ap (scaleRow gain (rowMajor (W .stride) (W .top + n) (W .left)) (W .width)) (rows-pass gain W n a)
-    ∙ row-pass gain (W .stride) 0 (rowMajor (W .stride) (W .top + n) (W .left)) (W .width) b
-    ∙ ap (λ c. outputsAt (gainAlone gain) (W .stride) 0 1 c (W .width) b) {y = leadPlace L (0 + n)}
-    (omega (arith, add-mul (W .top) n (W .stride)))
-    ∙ ap (λ r. outputsAtTime L (record { gain = gain; order = r; coefficient = λ k. 0 }) (0 + n) b) (omega arith)
+-- One row more: no word of it stands in the rows before.
+pub scale-row : {m : ℕ} (gain : ℕ) (W : Window) → WindowFits m columns forward W 0 → (n : ℕ) (a b : List ℕ) {e : List ℕ}
+    → b ≡ windowScaled gain W n a
+    → let start = rowMajor (W .stride) (W .top + n) (W .left) in
+    e ≡ rowWritten start (scaledFrom gain b start 1) (W .width) b
+    → e ≡ windowScaled gain W (n + 1) a
+unfolding rowWritten
+scale-row gain W fits n a b p f =
+    let words : ℕ → ℕ → ℕ = scaledWord gain W a in
+    let above : (x : ℕ) → x < W .width → wordAt (windowScaled gain W n a) (windowPlace W n x) ≡ windowOf W a n x =
+    λ x h.
+    rectangle-other (windowPlace W) words (W .width) n a (windowPlace W n x)
+    (λ y z k g e.
+    absurd (omega (arith, same-row-column (W .stride) _ _ _ _ (omega (arith, fits .in-row)) (omega (arith, fits .in-row)) e .0))) in
+    rectangle-more (windowPlace W) words (W .width) n a b _ p
+    (f
+    ∙ written-same _ (windowPlace W n) _ (words n) (W .width) b
+    (λ x h. omega arith)
+    (λ x h.
+    ap (gain ⊗_) (ap (wordAt b) {y = windowPlace W n x} (omega arith) ∙ ap (λ l. wordAt l (windowPlace W n x)) p ∙ above x h)))
 
 -- Gain 1 changes nothing.
-pub scale-unchanged : (W : Window) (n : ℕ) (a : List ℕ) → ((i : ℕ) → wordAt a i < 2 ^ 64) → scaleRows 1 W n a ≡ a
+pub scale-unchanged : (W : Window) (n : ℕ) (a : List ℕ) → ((i : ℕ) → wordAt a i < 2 ^ 64) → windowScaled 1 W n a ≡ a
 scale-unchanged W n a small =
-    rows-pass 1 W n a ∙ filter-unchanged (λ k. 0) a small (windowLines columns forward W 0) 0 n
+    rectangle-unchanged (windowPlace W) (scaledWord 1 W a) (W .width) n a (λ y x h k. one-mul _ ∙ reduced-small _ (small _))
 
 pub fits-down : {n : ℕ} (a : Axis) (d : Direction) (W : Window) (q : ℕ) → WindowFits n a d W q
     → WindowFits n columns forward W 0
@@ -99,14 +83,27 @@ fits-down a d W q fits =
 record Scaled (gain : ℕ) (W : Window) (a b : List ℕ) : Type 0 where
   length-kept : length b ≡ length a
   at : (y x : ℕ) → y < W .height → x < W .width → windowOf W b y x ≡ gain ⊗ windowOf W a y x
-  elsewhere : (z : ℕ) → ((y x : ℕ) → y < W .height → x < W .width → z ≢ placeIn W y x) → wordAt b z ≡ wordAt a z
+  elsewhere : (z : ℕ) → ((y x : ℕ) → y < W .height → x < W .width → z ≢ windowPlace W y x) → wordAt b z ≡ wordAt a z
 
 scaled : (gain : ℕ) (W : Window) (a : List ℕ) → WindowFits (length a) columns forward W 0
-    → Scaled gain W a (scaleRows gain W (W .height) a)
-unfolding windowPass filterLines filterLine output filterStep lessFeedback
+    → Scaled gain W a (windowScaled gain W (W .height) a)
 scaled gain W a fits =
-    let p = windowPass-passed 0 W (gainAlone gain) 0 (λ l k. 0) a fits (no-history columns forward W (gainAlone gain) a) in
-    rw rows-pass record { length-kept = p .length-kept; at = λ y x h k. p .at y x h k; elsewhere = p .elsewhere }
+    let words : ℕ → ℕ → ℕ = scaledWord gain W a in
+    record {
+      length-kept = rectangle-length (windowPlace W) words (W .width) (W .height) a;
+      at =
+          rectangle-at (windowPlace W) words (W .width) (W .height) a
+          (λ y x v u b c d g e.
+          let s = same-row-column (W .stride) _ _ _ _ (omega (arith, fits .in-row)) (omega (arith, fits .in-row)) e in
+          (omega (arith, s .0), omega (arith, s .1)))
+          (λ y x b c.
+          omega (
+            arith,
+            fits .in-buffer,
+            place-below (W .top + W .height) (W .stride) (W .top + y) (W .left + x) (omega arith) (omega (arith, fits .in-row)),
+          ));
+      elsewhere = rectangle-other (windowPlace W) words (W .width) (W .height) a;
+    }
 
 -- ---- the words beside a window, and those in it
 
@@ -115,7 +112,7 @@ beside-outside : {n : ℕ} (a : Axis) (d : Direction) (W : Window) (q : ℕ) →
     → l < across a (W .height) (W .width) → k < q → (y x : ℕ) → y < W .height → x < W .width
     → lineOf a (rowMajor (W .stride)) (across a (W .top) (W .left) + l)
     (beyond d (along a (W .top) (W .left)) (along a (W .height) (W .width)) k)
-    ≢ placeIn W y x
+    ≢ windowPlace W y x
 beside-outside columns forward W q fits l k hl hk y x hy hx e =
     absurd (omega (arith, fits .start, same-row-column (W .stride) _ _ _ _ (omega (arith, fits .in-row)) (omega (arith, fits .in-row)) e .0))
 beside-outside columns backward W q fits l k hl hk y x hy hx e =
@@ -144,14 +141,14 @@ near-histories a d W f q before buffer same =
 
 -- A place is a pixel of a window or it is none.
 pixel-or-not : (W : Window) (z : ℕ) → 0 < W .stride → W .left + W .width ≤ W .stride → {P : Type 0}
-    → ((y x : ℕ) → y < W .height → x < W .width → z ≡ placeIn W y x → P)
-    → (((y x : ℕ) → y < W .height → x < W .width → z ≢ placeIn W y x) → P) → P
+    → ((y x : ℕ) → y < W .height → x < W .width → z ≡ windowPlace W y x → P)
+    → (((y x : ℕ) → y < W .height → x < W .width → z ≢ windowPlace W y x) → P) → P
 pixel-or-not W z some in-row {P} inside outside =
     let row : ℕ = z / W .stride in
     let column : ℕ = z % W .stride in
     let split : row * W .stride + column ≡ z = div-add-mod' z (W .stride) in
     let low : column < W .stride = mod-lt z some in
-    let parts : (y x : ℕ) → x < W .width → z ≡ placeIn W y x → (row ≡ W .top + y) × (column ≡ W .left + x) =
+    let parts : (y x : ℕ) → x < W .width → z ≡ windowPlace W y x → (row ≡ W .top + y) × (column ≡ W .left + x) =
     λ y x h e. same-row-column (W .stride) row column (W .top + y) (W .left + x) low (omega arith) (split ∙ e) in
     let none-row : ((y : ℕ) → y < W .height → row ≢ W .top + y) → P =
     λ no. outside (λ y x h k e. no y h (parts y x k e .0)) in
@@ -180,13 +177,13 @@ pixel-or-not W z some in-row {P} inside outside =
 
 pub windowPass-scaled : (pass : ℕ) (W : Window) (f : Filter) (q : ℕ) (before : List ℕ)
     → WindowFits (length before) (axisOf pass) (directionOf pass) W q
-    → windowPass pass W q (unitGain f) (scaleRows (f .gain) W (W .height) before) ≡ windowPass pass W q f before
+    → windowPass pass W q (unitGain f) (windowScaled (f .gain) W (W .height) before) ≡ windowPass pass W q f before
 windowPass-scaled pass W f q before fits =
     let a : Axis = axisOf pass in
     let d : Direction = directionOf pass in
     let n : ℕ = along a (W .height) (W .width) in
     let H : ℕ → ℕ → ℕ = nearWords a d W q before in
-    let b : List ℕ = scaleRows (f .gain) W (W .height) before in
+    let b : List ℕ = windowScaled (f .gain) W (W .height) before in
     let s : Scaled (f .gain) W before b = scaled (f .gain) W before (fits-down a d W q fits) in
     let l = windowPass-passed pass W (unitGain f) q H b (rw (s .length-kept) fits)
     (near-histories a d W (unitGain f) q before b
@@ -207,11 +204,11 @@ windowPass-scaled pass W f q before fits =
 -- The gain, and then the pass of gain 1; or, at order 0, nothing more.
 module _ (pass : ℕ) (W : Window) (f : Filter) (q : ℕ) (a : List ℕ)
     (fits : WindowFits (length a) (axisOf pass) (directionOf pass) W q) where
-  pub gain-then-pass : {b c : List ℕ} → b ≡ scaleRows (f .gain) W (W .height) a
+  pub gain-then-pass : {b c : List ℕ} → b ≡ windowScaled (f .gain) W (W .height) a
       → c ≡ windowPass pass W q (unitGain f) b → c ≡ windowPass pass W q f a
   gain-then-pass e g = g ∙ ap (windowPass pass W q (unitGain f)) e ∙ windowPass-scaled pass W f q a fits
 
-  pub gain-then-none : {b : List ℕ} → b ≡ scaleRows (f .gain) W (W .height) a → f .order ≡ 0
+  pub gain-then-none : {b : List ℕ} → b ≡ windowScaled (f .gain) W (W .height) a → f .order ≡ 0
       → ((i : ℕ) → wordAt b i < 2 ^ 64) → b ≡ windowPass pass W q f a
   unfolding windowPass
   gain-then-none {b} e none small = gain-then-pass e (rw none (sym (filter-unchanged (f .coefficient) b small _ q _)))

@@ -1,5 +1,5 @@
--- Windows: where the lines of a window lie, that they fit the buffer and are apart, and that a pass over a window is the
--- filter over its lines, for both axes and both directions. Assumes nothing.
+-- Windows: where the lines of a window lie, that they fit the buffer and are apart, and that a pass over a window is
+-- the filter over its lines, for both axes and both directions. Assumes nothing.
 use mathlib.Core.Path.{_≡_, refl, sym, ap, _∙_}
 use mathlib.Core.Bool.{Bool, true, false}
 use mathlib.Core.List.{List}
@@ -21,7 +21,7 @@ use Rattle.filter.specs.declared.Lines.{Lines}
 use Rattle.filter.specs.declared.Window.{Window}
 use Rattle.filter.specs.Kernel.{linePlace, LinesFit, Apart}
 use Rattle.number.specs.Numbers.{rowMajor}
-use Rattle.filter.specs.Windows.{windowLines, windowPass, windowOf, beyond, wordsBesideWindow, WindowFits}
+use Rattle.filter.specs.Windows.{windowLines, windowPass, windowPlace, windowOf, beyond, wordsBesideWindow, WindowFits}
 use Rattle.number.proofs.RowMajor.{place-below, same-row-column}
 use Rattle.filter.proofs.InPlace.{Filtered, filtered}
 
@@ -169,7 +169,7 @@ pub record Passed (a : Axis) (d : Direction) (W : Window) (f : Filter) (H : ℕ 
     pub at : (y x : ℕ) → y < W .height → x < W .width
         → windowOf W after y x ≡ filterLines a d f (along a (W .height) (W .width)) H (windowOf W before) y x
     pub elsewhere : (z : ℕ)
-        → ((y x : ℕ) → y < W .height → x < W .width → z ≢ rowMajor (W .stride) (W .top + y) (W .left + x))
+        → ((y x : ℕ) → y < W .height → x < W .width → z ≢ windowPlace W y x)
         → wordAt after z ≡ wordAt before z
 
 -- The histories are the words beside the window, q of each line, and 0 past these.
@@ -198,12 +198,8 @@ line-word : (a : Axis) (word : ℕ → ℕ) (place : ℕ → ℕ → ℕ) (l i :
 line-word columns word place l i = refl
 line-word rows word place l i = refl
 
--- The place of a pixel of a window.
-abbrev pub placeIn : Window → ℕ → ℕ → ℕ
-placeIn W y x = rowMajor (W .stride) (W .top + y) (W .left + x)
-
 line-pixel : (a : Axis) (W : Window) (l i : ℕ)
-    → lineOf a (rowMajor (W .stride)) (lineIn a W l) (along a (W .top) (W .left) + i) ≡ lineOf a (placeIn W) l i
+    → lineOf a (rowMajor (W .stride)) (lineIn a W l) (along a (W .top) (W .left) + i) ≡ lineOf a (windowPlace W) l i
 line-pixel columns W l i = refl
 line-pixel rows W l i = refl
 
@@ -216,7 +212,7 @@ module _ (a : Axis) (d : Direction) (W : Window) (f : Filter) (q : ℕ) (H : ℕ
   m = along a (W .height) (W .width)
 
   -- The place that the kernel comes to after j others.
-  place-is : (l j : ℕ) → j < m → linePlace L l (q + j) ≡ lineOf a (placeIn W) l (reflect d m j)
+  place-is : (l j : ℕ) → j < m → linePlace L l (q + j) ≡ lineOf a (windowPlace W) l (reflect d m j)
   place-is l j h =
       line-place a d W q fits l (q + j) (omega arith)
       ∙ ap (lineOf a (rowMajor (W .stride)) (lineIn a W l)) (index-inside d _ m q j (fits .start) h)
@@ -225,7 +221,7 @@ module _ (a : Axis) (d : Direction) (W : Window) (f : Filter) (q : ℕ) (H : ℕ
   word-is : (buffer : List ℕ) (l j : ℕ) → j < m
       → wordAt buffer (linePlace L l (q + j)) ≡ lineOf a (windowOf W buffer) l (reflect d m j)
   word-is buffer l j h =
-      ap (wordAt buffer) (place-is l j h) ∙ line-word a (wordAt buffer) (placeIn W) l (reflect d m j)
+      ap (wordAt buffer) (place-is l j h) ∙ line-word a (wordAt buffer) (windowPlace W) l (reflect d m j)
 
   history-is : (l k : ℕ) → l < across a (W .height) (W .width) → k < f .order
       → wordsBefore (λ k. 0) (λ t. wordAt before (linePlace L l t)) q k ≡ H l k
@@ -262,7 +258,7 @@ module _ (a : Axis) (d : Direction) (W : Window) (f : Filter) (q : ℕ) (H : ℕ
         elsewhere = λ z e.
             u .elsewhere z
             (λ l i h c p.
-            by-pixel a (W .height) (W .width) (placeIn W) z e l (reflect d m i) h (reflect-lt d m i c)
+            by-pixel a (W .height) (W .width) (windowPlace W) z e l (reflect d m i) h (reflect-lt d m i c)
             (p ∙ place-is l i c));
       }
 

@@ -1,13 +1,13 @@
 -- Inner: the words of a filter in code, and the gains of several passes taken in one.
 use mathlib.Core.List.{List, map}
-use Prim.Native.Nat.{ℕ, zero, suc}
+use Prim.Native.Nat.{ℕ, suc, _-_}
 use Rattle.word.specs.Word.{residue}
 use Rattle.plan.specs.declared.Pass.{Pass}
 use Rattle.plan.specs.declared.Plan.{Plan}
 use Rattle.plan.specs.Rules.{passAt}
 use Rattle.buffer.specs.Lists.{wordAt}
 use Rattle.passes.specs.Filter.{Filter}
-use Rattle.passes.specs.Gains.{gainsFrom}
+use Rattle.passes.specs.Gains.{gainsFrom, gainsFirst}
 use Rattle.filter.specs.PlanFilters.{filtersOf}
 use Rattle.filter.specs.declared.FilterWords.{FilterWords}
 
@@ -28,7 +28,10 @@ filterWords pass =
 abbrev pub withGain : ℕ → FilterWords → FilterWords
 withGain gain words = record { gain = gain; order = words .order; coefficients = words .coefficients }
 
+-- The product of the gains of the passes after a pass, up to the last.
+unfoldable pub gainsAfter : Plan → (pass last : ℕ) → ℕ
+gainsAfter plan pass last = gainsFrom (filtersOf plan) (suc pass) (last - pass)
+
 -- The words of a plan's filters with the gains of all four passes in the first, and gain 1 in the others.
 unfoldable pub gainsFirstWords : Plan → ℕ → FilterWords
-gainsFirstWords plan zero = withGain (gainsFrom (filtersOf plan) 0 4) (filterWords (passAt plan 0))
-gainsFirstWords plan (suc pass) = withGain 1 (filterWords (passAt plan (suc pass)))
+gainsFirstWords plan pass = withGain (gainsFirst (filtersOf plan) 4 pass .gain) (filterWords (passAt plan pass))

@@ -40,8 +40,8 @@ pub record TapsFit (n c forth back r : ℕ) : Type 0 where
 
 -- ---- one place of many lines
 
--- The buffer after the outputs at place c of a first line and at the same place of m lines in all, each `apart` above the
--- line before.
+-- The buffer after the outputs at place c of a first line and at the same place of m lines in all, each `apart` above
+-- the line before.
 unfoldable pub outputsAt : Filter → ℕ → ℕ → ℕ → ℕ → ℕ → List ℕ → List ℕ
 outputsAt f forth back apart c zero buffer = buffer
 outputsAt f forth back apart c (suc m) buffer =

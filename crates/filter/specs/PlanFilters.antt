@@ -2,18 +2,16 @@
 use mathlib.Core.List.{List}
 use Prim.Native.Nat.{ℕ}
 use lib.IntN.{ℤ}
-use Rattle.word.specs.Word.{residue}
 use Rattle.plan.specs.declared.Pass.{Pass}
 use Rattle.plan.specs.declared.Plan.{Plan}
-use Rattle.plan.specs.Rules.{coefficientAt, passAt}
+use Rattle.plan.specs.Rules.{passAt}
 use Rattle.buffer.specs.Pixel.{heightMap}
-use Rattle.passes.specs.Filter.{Filter}
+use Rattle.passes.specs.Filter.{Filter, filterOfNumbers}
 use Rattle.passes.specs.Passes.{serialPasses}
 
--- The filter of a pass: gain and coefficients enter as residues modulo 2^64.
+-- The filter of a pass.
 unfoldable pub filterOf : Pass → Filter
-filterOf pass =
-    record { gain = residue (pass .gain); order = pass .order; coefficient = λ k. residue (coefficientAt pass k) }
+filterOf pass = filterOfNumbers (pass .gain) (pass .order) (pass .coefficients)
 
 -- The four filters of a plan: 0 down, 1 up, 2 right, 3 left.
 abbrev pub filtersOf : Plan → ℕ → Filter

@@ -1,10 +1,10 @@
 -- Inner: a pass over a window: a rectangle of a buffer of rows, its lines the columns or the rows.
 use mathlib.Core.List.{List}
-use Prim.Native.Nat.{ℕ, zero, suc, _+_, _-_, _*_, _<_, _≤_}
-use lib.ListN.{set}
+use Prim.Native.Nat.{ℕ, suc, _+_, _-_, _*_, _<_, _≤_}
 use Rattle.number.specs.Numbers.{rowMajor}
 use Rattle.word.specs.Word.{_⊗_}
 use Rattle.buffer.specs.Lists.{wordAt}
+use Rattle.buffer.specs.Written.{rectangleWritten}
 use Rattle.passes.specs.Filter.{Filter}
 use Rattle.axis.specs.Axis.{Axis, Direction, forward, backward, axisOf, directionOf, along, across, lineOf, isBackward, ifForward, ifBackward}
 use Rattle.filter.specs.declared.Lines.{Lines}
@@ -31,21 +31,21 @@ unfoldable pub windowPass : ℕ → Window → ℕ → Filter → List ℕ → L
 windowPass pass W q f =
     filterInPlace (windowLines (axisOf pass) (directionOf pass) W q) f q (along (axisOf pass) (W .height) (W .width))
 
--- The buffer after n words from `start` on have been multiplied by a gain,
-unfoldable pub scaleRow : ℕ → ℕ → ℕ → List ℕ → List ℕ
-scaleRow gain start zero buffer = buffer
-scaleRow gain start (suc n) buffer =
-    set (scaleRow gain start n buffer) (start + n) (gain ⊗ wordAt (scaleRow gain start n buffer) (start + n))
+-- The place of row y and column x of a window,
+abbrev pub windowPlace : Window → ℕ → ℕ → ℕ
+windowPlace W y x = rowMajor (W .stride) (W .top + y) (W .left + x)
 
--- and after the words of the first n rows of a window have been.
-unfoldable pub scaleRows : ℕ → Window → ℕ → List ℕ → List ℕ
-scaleRows gain W zero buffer = buffer
-scaleRows gain W (suc n) buffer =
-    scaleRow gain (rowMajor (W .stride) (W .top + n) (W .left)) (W .width) (scaleRows gain W n buffer)
-
--- The pixels of a window of a buffer, by row and column.
+-- and the word of a buffer there.
 abbrev pub windowOf : Window → List ℕ → ℕ → ℕ → ℕ
-windowOf W buffer y x = wordAt buffer (rowMajor (W .stride) (W .top + y) (W .left + x))
+windowOf W buffer y x = wordAt buffer (windowPlace W y x)
+
+-- That word times a gain,
+abbrev pub scaledWord : ℕ → Window → List ℕ → ℕ → ℕ → ℕ
+scaledWord gain W buffer y x = gain ⊗ windowOf W buffer y x
+
+-- and the buffer after the words of the first n rows of a window have been multiplied by it.
+abbrev pub windowScaled : ℕ → Window → (n : ℕ) → List ℕ → List ℕ
+windowScaled gain W n buffer = rectangleWritten (windowPlace W) (scaledWord gain W buffer) (W .width) n buffer
 
 -- The index of the place that lies k + 1 places beyond n places from `start` on, on the side where a pass comes from.
 abbrev pub beyond : Direction → ℕ → ℕ → ℕ → ℕ

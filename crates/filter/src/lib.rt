@@ -8,10 +8,12 @@ ghost use lib.ListN.{length};
 ghost use Rattle.plan.specs.Rules.{orderLimit};
 ghost use Rattle.axis.specs.Axis.{columns, forward, axisOf, directionOf, along, across};
 ghost use Rattle.passes.specs.Gains.{gainsFrom};
-ghost use Rattle.filter.specs.FilterWords.{filterBy, filterWith, filterWords, withGain, gainsFirstWords};
+ghost use Rattle.buffer.specs.Written.{rowWritten};
+ghost use Rattle.buffer.specs.Copies.{scaledFrom};
+ghost use Rattle.filter.specs.FilterWords.{filterBy, filterWith, filterWords, withGain, gainsAfter, gainsFirstWords};
 ghost use Rattle.filter.specs.PlanFilters.{filtersOf};
 ghost use Rattle.filter.specs.Kernel.{feedbackFrom, outputAt, nextOutputAt, TapsFit, outputsAt, PlacesFit, outputsAtTwo, TwoPlacesFit, leadPlace, outputsAtTime, filterInPlace, LinesFit, Apart};
-ghost use Rattle.filter.specs.Windows.{windowLines, windowPass, scaleRow, scaleRows, WindowFits};
+ghost use Rattle.filter.specs.Windows.{windowLines, windowPass, windowScaled, WindowFits};
 
 // A filter: the gain and the coefficients of a pass as residues modulo 2^64.
 pub struct FilterWords {
@@ -29,8 +31,8 @@ pub struct Window {
     pub width: usize,
 }
 
-// Lines in a buffer: the first begins at `first`, each other lies `apart` above the one before, and each place of a line
-// lies `forth` above the one before, or `back` below it.
+// Lines in a buffer: the first begins at `first`, each other lies `apart` above the one before, and each place of a
+// line lies `forth` above the one before, or `back` below it.
 struct Lines {
     first: usize,
     forth: usize,
@@ -78,6 +80,14 @@ pub fn gains_from(plan: plan::Plan, first: usize, count: usize) -> u64
         done += 1;
     }
     product
+}
+
+// The product of the gains of the passes after a pass, up to the last.
+pub fn gains_after(plan: plan::Plan, pass: usize, last: usize) -> u64
+    requires { ⌜ (pass ≤ last) × (last < 4) ⌝ }
+    ensures { λ r. ⌜ r ≡ gainsAfter plan pass last ⌝ }
+{
+    gains_from(plan, pass + 1, last - pass)
 }
 
 // The filter of a pass of a plan with the gains of all passes in the first, so that the others have gain 1.
@@ -272,7 +282,8 @@ fn two_at_once(order: usize, time: usize, left: usize) -> bool
     if order <= time { left >= 2 } else { false }
 }
 
-// The outputs of many lines at `places` places, of a filter of gain 1, after `history` places whose words are their history.
+// The outputs of many lines at `places` places, of a filter of gain 1, after `history` places whose words are their
+// history.
 fn filter_lines(
     buffer: &mut [u64],
     lines: Lines,
@@ -322,7 +333,7 @@ fn window_lines(window: Window, pass: usize, history: usize) -> Lines
 // The words from `start` on, each times `gain`.
 fn scale_row(buffer: &mut [u64], start: usize, width: usize, gain: u64)
     requires { ⌜ start + width ≤ length (now buffer) ⌝ }
-    ensures { λ _. ⌜ now (buffer .exit) ≡ scaleRow gain start width (now (buffer .entry)) ⌝ }
+    ensures { λ _. ⌜ now (buffer .exit) ≡ rowWritten start (scaledFrom gain (now (buffer .entry)) start 1) width (now (buffer .entry)) ⌝ }
 {
     let mut column = 0;
     while column < width {
@@ -336,7 +347,7 @@ fn scale_row(buffer: &mut [u64], start: usize, width: usize, gain: u64)
 // The words of a window, each times `gain`.
 fn scale_window(buffer: &mut [u64], window: Window, gain: u64)
     requires { ⌜ WindowFits (length (now buffer)) columns forward window 0 ⌝ }
-    ensures { λ _. ⌜ now (buffer .exit) ≡ scaleRows gain window (window .height) (now (buffer .entry)) ⌝ }
+    ensures { λ _. ⌜ now (buffer .exit) ≡ windowScaled gain window (window .height) (now (buffer .entry)) ⌝ }
 {
     if gain == 1 {
         return;

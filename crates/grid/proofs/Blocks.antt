@@ -94,6 +94,7 @@ pub record Located (grid : Grid) (k : ℕ) : Type 0 where
   pub side-high : grid .side ≤ 32
   pub first-row-high : firstRow grid k ≤ 4096 * 32
   pub first-column-high : firstColumn grid k ≤ 4096 * 32
+  pub row-start-high : firstRow grid k * grid .columns ≤ 4096 * 32 * 4096
 
 pub located : (grid : Grid) (k : ℕ) → gridKept grid ≡ true → k < blockTotal grid → Located grid k
 located grid k kept here =
@@ -102,6 +103,7 @@ located grid k kept here =
     let column : blockColumn grid k < blockColumns grid = block-column-below grid k here in
     let row-high : blockRow grid k ≤ 4096 = omega (arith, known .block-rows-high) in
     let column-high : blockColumn grid k ≤ 4096 = omega (arith, known .block-columns-high) in
+    let first-row : firstRow grid k ≤ 4096 * 32 = mul-le-mul row-high (known .side-high) in
     record {
       row-counted = row;
       column-counted = column;
@@ -110,8 +112,9 @@ located grid k kept here =
       number-high = omega (arith, known .total-high);
       side-low = known .side-low;
       side-high = known .side-high;
-      first-row-high = mul-le-mul row-high (known .side-high);
+      first-row-high = first-row;
       first-column-high = mul-le-mul column-high (known .side-high);
+      row-start-high = mul-le-mul first-row (known .columns-high);
     }
 
 -- The lines of a block that a pass runs along are at most b.

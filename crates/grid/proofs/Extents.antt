@@ -5,7 +5,9 @@ use Prim.Native.Nat.{ℕ, zero, suc, _+_, _-_, _*_, _/_, _%_, _<_, _≤_}
 use native.Mathlib.Omega.{arith}
 use native.Mathlib.Nat.{add-mul, mul-le-mul-left, div-zero, div-add-mod', mod-lt, div-eq-of-lt-le, le-div-iff-mul-le, min-le-left, min-le-right, le-min, min-eq-left, min-eq-right}
 use Rattle.grid.specs.Grid.{blockCount, blockExtent}
-use Rattle.number.proofs.Tests.{lt-or-ge}
+use lib.Dec.{ltb}
+use borrow.Author.Tests.{ltb-true, lt-ltb}
+use Rattle.number.proofs.Tests.{lt-or-ge, same-test}
 
 pub count-side-zero : (n : ℕ) → blockCount n 0 ≡ 0
 unfolding blockCount
@@ -69,6 +71,12 @@ module _ (n b m : ℕ) (counted : m < blockCount n b) where
   pub extent-inside : m * b + blockExtent n b m ≤ n
   unfolding blockExtent
   extent-inside = omega (arith, counted-start, min-le-right b (n - m * b))
+
+-- Whether a block is counted, by where it starts.
+pub counted-test : (n b m : ℕ) → 1 ≤ b → ltb (m * b) n ≡ ltb m (blockCount n b)
+counted-test n b m side =
+    same-test _ _ (λ e. lt-ltb _ _ (start-counted n b side m (ltb-true _ _ e)))
+    (λ e. lt-ltb _ _ (counted-start n b m (ltb-true _ _ e)))
 
 pub count-bounded : (n b : ℕ) → blockCount n b ≤ n
 count-bounded n b =

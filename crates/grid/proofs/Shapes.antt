@@ -1,50 +1,84 @@
 -- The values of the code: where a block lies, the blocks in line with it, and its neighbours by the code's tests.
 -- Assumes nothing.
 use mathlib.Core.Path.{_≡_, refl, sym, ap, _∙_}
-use mathlib.Core.Bool.{true, false, cond}
+use mathlib.Core.Bool.{Bool, true, false, cond}
 use mathlib.Core.Option.{Option, none, some}
-use Prim.Native.Nat.{ℕ, _*_, _≤_, _<_}
+use Prim.Native.Nat.{ℕ, _+_, _*_, _≤_, _<_}
 use native.Mathlib.Nat.{div-add-mod', mul-le-mul-right}
 use native.Mathlib.Omega.{arith}
-use Rattle.axis.specs.Axis.{Axis, columns, rows, Direction, axisOf, directionOf, along}
+use lib.Dec.{ltb}
+use Rattle.axis.specs.Axis.{Axis, columns, rows, Direction, forward, backward, axisOf, directionOf, along}
 use Rattle.grid.specs.declared.Grid.{Grid}
 use Rattle.grid.specs.declared.BlockLine.{BlockLine}
 use Rattle.grid.specs.declared.Neighbour.{Neighbour}
 use Rattle.grid.specs.declared.Neighbour.the-variants.{Block, Beyond}
-use Rattle.grid.specs.Grid.{gridKept, blockRows, blockColumns, blockTotal, blockHeight, blockWidth, blockRow, blockColumn, hasBefore, hasAfter, stepBefore, neighbour, goesOn}
+use Rattle.grid.specs.Grid.{gridKept, blockRows, blockColumns, blockTotal, blockHeight, blockWidth, blockRow, blockColumn, rowsOf, columnsOf, blockPixelPlace, lineIndex, lineCount, lineStep, hasBefore, hasAfter, stepBefore, neighbour, goesOn}
 use Rattle.grid.specs.Shapes.{shapeOf, lineOfBlocks, foundNeighbour}
+use Rattle.grid.proofs.Extents.{counted-test}
 use Rattle.grid.proofs.Blocks.{located}
 
 pub shape-is : (grid : Grid) (k : ℕ) {m n h w : ℕ} → m ≡ blockRow grid k → n ≡ blockColumn grid k → h ≡ blockHeight grid m
     → w ≡ blockWidth grid n
-    → record { «first_row» = m * grid .side; «first_column» = n * grid .side; rows = h; columns = w } ≡ shapeOf grid k
-unfolding shapeOf
-shape-is grid k row column tall wide = rw (tall, wide, row, column)
+    → record { start = m * grid .side * grid .columns + n * grid .side; rows = h; columns = w } ≡ shapeOf grid k
+unfolding shapeOf blockPixelPlace
+shape-is grid k row column tall wide =
+    rw (tall, wide, row, column) (ap (λ z. record { start = z; rows = rowsOf grid k; columns = columnsOf grid k }) (omega arith))
 
-pub line-is : (grid : Grid) (k pass : ℕ) {m n r c i count step : ℕ} → n ≡ blockColumns grid → r ≡ blockRow grid k
-    → c ≡ blockColumn grid k → i ≡ along (axisOf pass) r c → m ≡ blockRows grid → count ≡ along (axisOf pass) m n
-    → step ≡ along (axisOf pass) n 1 → record { at = i; count = count; step = step } ≡ lineOfBlocks grid k pass
+-- ---- a block among those in line with it
+
+-- That another follows it, as the code tests it.
+followed-is : (grid : Grid) (pass i : ℕ) → 1 ≤ grid .side
+    → ltb (i * grid .side) (along (axisOf pass) (grid .rows) (grid .columns)) ≡ ltb i (lineCount grid pass)
+followed-is grid pass i side = by (axisOf pass)
+  where
+    by : (a : Axis)
+        → ltb (i * grid .side) (along a (grid .rows) (grid .columns)) ≡ ltb i (along a (blockRows grid) (blockColumns grid))
+    by columns = counted-test (grid .rows) (grid .side) i side
+    by rows = counted-test (grid .columns) (grid .side) i side
+
+pub line-is : (grid : Grid) (k pass : ℕ) → 1 ≤ grid .side → {n r c i length step : ℕ} → r ≡ blockRow grid k
+    → c ≡ blockColumn grid k → i ≡ along (axisOf pass) r c → length ≡ along (axisOf pass) (grid .rows) (grid .columns)
+    → n ≡ blockColumns grid → step ≡ along (axisOf pass) n 1
+    → record { at = i; followed = ltb ((i + 1) * grid .side) length; step = step } ≡ lineOfBlocks grid k pass
 unfolding lineOfBlocks
-line-is grid k pass wide row column index tall counted apart = rw (index, counted, apart, wide, tall, row, column)
+line-is grid k pass side row column index long wide apart =
+    rw (index, long, apart, wide, row, column)
+    (ap (λ z. record { at = lineIndex grid k pass; followed = z; step = lineStep grid pass })
+    (followed-is grid pass (lineIndex grid k pass + 1) side))
+
+-- Whether there is a block before, and one after, by what the code has of the line.
+abbrev beforeIn : Direction → BlockLine → Bool
+beforeIn forward line = ltb 0 (line .at)
+beforeIn backward line = line .followed
+
+abbrev afterIn : Direction → BlockLine → Bool
+afterIn forward line = line .followed
+afterIn backward line = ltb 0 (line .at)
 
 module _ (grid : Grid) (k pass : ℕ) (line : BlockLine) (is : line ≡ lineOfBlocks grid k pass) (d : Direction)
     (runs : directionOf pass ≡ d) where
-  before-is : neighbour grid k pass
-      ≡ cond (hasBefore d (line .count) (line .at)) (some (stepBefore d (line .step) k)) none
+  before-is : neighbour grid k pass ≡ cond (beforeIn d line) (some (stepBefore d (line .step) k)) none
   unfolding neighbour lineOfBlocks
-  before-is = rw (is, runs)
+  before-is = rw (is, runs) (ap (λ z. cond z (some (stepBefore d (lineStep grid pass) k)) none) (by d))
+    where
+      by : (e : Direction) → hasBefore e (lineCount grid pass) (lineIndex grid k pass) ≡ beforeIn e (lineOfBlocks grid k pass)
+      by forward = refl
+      by backward = refl
 
   -- A block before, none, and whether there is one after.
-  pub found-before : hasBefore d (line .count) (line .at) ≡ true
-      → Block (stepBefore d (line .step) k) ≡ foundNeighbour (neighbour grid k pass)
+  pub found-before : beforeIn d line ≡ true → Block (stepBefore d (line .step) k) ≡ foundNeighbour (neighbour grid k pass)
   found-before e = sym (ap foundNeighbour before-is ∙ ap (λ z. foundNeighbour (cond z (some (stepBefore d (line .step) k)) none)) e)
 
-  pub none-before : hasBefore d (line .count) (line .at) ≡ false → Beyond ≡ foundNeighbour (neighbour grid k pass)
+  pub none-before : beforeIn d line ≡ false → Beyond ≡ foundNeighbour (neighbour grid k pass)
   none-before e = sym (ap foundNeighbour before-is ∙ ap (λ z. foundNeighbour (cond z (some (stepBefore d (line .step) k)) none)) e)
 
-  pub goes-on : hasAfter d (line .count) (line .at) ≡ goesOn grid k pass
+  pub goes-on : afterIn d line ≡ goesOn grid k pass
   unfolding goesOn lineOfBlocks
-  goes-on = rw (is, runs)
+  goes-on = rw (is, runs) (by d)
+    where
+      by : (e : Direction) → afterIn e (lineOfBlocks grid k pass) ≡ hasAfter e (lineCount grid pass) (lineIndex grid k pass)
+      by forward = refl
+      by backward = refl
 
 -- What the case of a neighbour says.
 pub found-block : (o : Option ℕ) (found : Neighbour) (j : ℕ) → found ≡ foundNeighbour o → found ≡ Block j → o ≡ some j
@@ -57,8 +91,7 @@ found-none (some i) found e f = cc
 
 -- What the arithmetic on a line of blocks wants.
 pub record LineFits (k : ℕ) (line : BlockLine) : Type 0 where
-  pub counted : line .at < line .count
-  pub count-high : line .count ≤ 4096
+  pub at-high : line .at < 4096
   pub step-high : line .step ≤ 4096
   pub step-below : 0 < line .at → line .step ≤ k
   pub number-high : k < 16777216
@@ -72,14 +105,13 @@ line-fits grid k pass kept here = by (axisOf pass)
         → LineFits k
         record {
           at = along a (blockRow grid k) (blockColumn grid k);
-          count = along a (blockRows grid) (blockColumns grid);
+          followed = ltb (along a (blockRow grid k) (blockColumn grid k) + 1) (along a (blockRows grid) (blockColumns grid));
           step = along a (blockColumns grid) 1;
         }
     by columns =
         let known = located grid k kept here in
         record {
-          counted = known .row-counted;
-          count-high = known .rows-high;
+          at-high = omega (arith, known .row-counted, known .rows-high);
           step-high = known .columns-high;
           step-below =
               λ h.
@@ -91,8 +123,7 @@ line-fits grid k pass kept here = by (axisOf pass)
     by rows =
         let known = located grid k kept here in
         record {
-          counted = known .column-counted;
-          count-high = known .columns-high;
+          at-high = omega (arith, known .column-counted, known .columns-high);
           step-high = omega arith;
           step-below = λ h. let whole = div-add-mod' k (blockColumns grid) in omega arith;
           number-high = known .number-high;

@@ -5,7 +5,7 @@ use mathlib.Core.Option.{Option, none, some}
 use Prim.Native.Nat.{ℕ, _+_, _-_, _*_, _/_, _%_, min}
 use lib.Dec.{ltb}
 use Rattle.number.specs.Numbers.{within, rowMajor}
-use Rattle.axis.specs.Axis.{Direction, forward, backward, axisOf, directionOf, along}
+use Rattle.axis.specs.Axis.{Direction, forward, backward, axisOf, directionOf, along, across}
 use Rattle.grid.specs.declared.Grid.{Grid}
 
 -- The most rows and the most columns of a map,
@@ -83,6 +83,14 @@ columnsOf grid k = blockWidth grid (blockColumn grid k)
 -- The area of block k: its rows times its columns, as many words as finish writes.
 unfoldable pub blockArea : Grid → ℕ → ℕ
 blockArea grid k = rowsOf grid k * columnsOf grid k
+
+-- The places of block k along a pass: its rows (down, up) or its columns (right, left).
+abbrev pub extentAlong : Grid → (k pass : ℕ) → ℕ
+extentAlong grid k pass = along (axisOf pass) (rowsOf grid k) (columnsOf grid k)
+
+-- The lines of block k that a pass runs along: its columns (down, up) or its rows (right, left).
+abbrev pub linesAcross : Grid → (k pass : ℕ) → ℕ
+linesAcross grid k pass = across (axisOf pass) (rowsOf grid k) (columnsOf grid k)
 
 -- Where pixel (y, x) of block k stands in a row-major list of h×w words.
 unfoldable pub blockPixelPlace : Grid → ℕ → ℕ → ℕ → ℕ

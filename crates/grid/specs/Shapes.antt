@@ -2,13 +2,15 @@
 use mathlib.Core.Path.{_≡_}
 use mathlib.Core.Bool.{true}
 use mathlib.Core.Option.{Option, none, some}
-use Prim.Native.Nat.{ℕ, _<_}
+use Prim.Native.Nat.{ℕ, _+_, _<_}
+use lib.Dec.{ltb}
+use Rattle.axis.specs.Axis.{axisOf, along, across}
 use Rattle.grid.specs.declared.Grid.{Grid}
 use Rattle.grid.specs.declared.BlockShape.{BlockShape}
 use Rattle.grid.specs.declared.BlockLine.{BlockLine}
 use Rattle.grid.specs.declared.Neighbour.{Neighbour}
 use Rattle.grid.specs.declared.Neighbour.the-variants.{Block, Beyond}
-use Rattle.grid.specs.Grid.{gridKept, blockTotal, firstRow, firstColumn, rowsOf, columnsOf, lineIndex, lineCount, lineStep}
+use Rattle.grid.specs.Grid.{gridKept, blockTotal, rowsOf, columnsOf, blockPixelPlace, lineIndex, lineCount, lineStep}
 
 -- The sizes are in range, and block k is in the map.
 pub record InGrid (grid : Grid) (k : ℕ) : Type 0 where
@@ -19,16 +21,27 @@ pub record InGrid (grid : Grid) (k : ℕ) : Type 0 where
 unfoldable pub shapeOf : Grid → ℕ → BlockShape
 shapeOf grid k =
     record {
-      «first_row» = firstRow grid k;
-      «first_column» = firstColumn grid k;
+      start = blockPixelPlace grid k 0 0;
       rows = rowsOf grid k;
       columns = columnsOf grid k;
     }
 
--- The blocks in line with block k, along a pass.
+-- The places of a block of a shape along a pass,
+abbrev pub shapeExtent : BlockShape → (pass : ℕ) → ℕ
+shapeExtent shape pass = along (axisOf pass) (shape .rows) (shape .columns)
+
+-- and the lines of it that the pass runs along.
+abbrev pub shapeLines : BlockShape → (pass : ℕ) → ℕ
+shapeLines shape pass = across (axisOf pass) (shape .rows) (shape .columns)
+
+-- Block k among the blocks in line with it, along a pass.
 unfoldable pub lineOfBlocks : Grid → ℕ → ℕ → BlockLine
 lineOfBlocks grid k pass =
-    record { at = lineIndex grid k pass; count = lineCount grid pass; step = lineStep grid pass }
+    record {
+      at = lineIndex grid k pass;
+      followed = ltb (lineIndex grid k pass + 1) (lineCount grid pass);
+      step = lineStep grid pass;
+    }
 
 -- The value of a neighbour.
 abbrev pub foundNeighbour : Option ℕ → Neighbour

@@ -1,9 +1,10 @@
 // The blocks of a map: how many, where each lies, and its neighbours along a pass. The one geometry of the library.
 // What a function requires, its callers in this repository show.
 ghost use mathlib.Core.Path.{_≡_};
+ghost use Prim.Native.Nat.{_<_};
 ghost use mathlib.Core.Bool.{true};
 ghost use Rattle.grid.specs.Grid.{blockCount, blockExtent, gridKept, blockRows, blockColumns, blockTotal, blockRow, blockColumn, blockHeight, blockWidth, blockArea, neighbour, goesOn};
-ghost use Rattle.grid.specs.Shapes.{InGrid, shapeOf, lineOfBlocks, foundNeighbour};
+ghost use Rattle.grid.specs.Shapes.{InGrid, shapeOf, shapeExtent, shapeLines, lineOfBlocks, foundNeighbour};
 
 // The most rows and columns of a map, and the longest side of a block: `sizeLimit` and `sideLimit` of specs/Grid.antt are the same
 // numbers.
@@ -18,10 +19,9 @@ pub struct Grid {
     pub side: usize,
 }
 
-// Where a block lies in the map, and its extent.
+// Where a block's first pixel stands in a row-major map, and the block's extent.
 pub struct BlockShape {
-    pub first_row: usize,
-    pub first_column: usize,
+    pub start: usize,
     pub rows: usize,
     pub columns: usize,
 }
@@ -32,11 +32,11 @@ pub enum Neighbour {
     Beyond,
 }
 
-// The blocks in line with a block, along a pass: its number among them, how many there are, and how far apart their block
-// numbers lie.
+// A block among the blocks in line with it, along a pass: its number, whether another follows it in map order, and how far
+// apart their block numbers lie.
 struct BlockLine {
     at: usize,
-    count: usize,
+    followed: bool,
     step: usize,
 }
 
@@ -84,12 +84,13 @@ impl Grid {
         k / self.block_columns()
     }
 
-    // and its column of blocks.
+    // and its column of blocks: the rest of the same division.
     pub fn block_column(self, k: usize) -> usize
         requires { ⌜ gridKept self ≡ true ⌝ }
         ensures { λ r. ⌜ r ≡ blockColumn self k ⌝ }
     {
-        k % self.block_columns()
+        let block_columns = self.block_columns();
+        k - k / block_columns * block_columns
     }
 
     // The rows of the blocks in a row of blocks: the last may have fewer than the side; there are none past it.
@@ -114,30 +115,32 @@ impl Grid {
         let row = self.block_row(k);
         let column = self.block_column(k);
         BlockShape {
-            first_row: row * self.side,
-            first_column: column * self.side,
-            rows: self.block_height(row),
-            columns: self.block_width(column),
+            start: row * self.side * self.columns + column * self.side,
+            rows: counted_extent(self.rows, self.side, row),
+            columns: counted_extent(self.columns, self.side, column),
         }
     }
 
     // The area of block k.
     pub fn block_area(self, k: usize) -> usize
-        requires { ⌜ gridKept self ≡ true ⌝ }
+        requires { ⌜ InGrid self k ⌝ }
         ensures { λ r. ⌜ r ≡ blockArea self k ⌝ }
     {
-        self.block_height(self.block_row(k)) * self.block_width(self.block_column(k))
+        let shape = self.block_shape(k);
+        shape.rows * shape.columns
     }
 
+    // A block follows where the map goes on: that takes no division, as the number of blocks would.
     fn block_line(self, k: usize, pass: usize) -> BlockLine
-        requires { ⌜ gridKept self ≡ true ⌝ }
+        requires { ⌜ InGrid self k ⌝ }
         ensures { λ r. ⌜ r ≡ lineOfBlocks self k pass ⌝ }
     {
-        let block_columns = self.block_columns();
+        let at = axis::along(pass, self.block_row(k), self.block_column(k));
+        let length = axis::along(pass, self.rows, self.columns);
         BlockLine {
-            at: axis::along(pass, self.block_row(k), self.block_column(k)),
-            count: axis::along(pass, self.block_rows(), block_columns),
-            step: axis::along(pass, block_columns, 1),
+            at: at,
+            followed: (at + 1) * self.side < length,
+            step: axis::along(pass, self.block_columns(), 1),
         }
     }
 
@@ -148,7 +151,7 @@ impl Grid {
     {
         let line = self.block_line(k, pass);
         if axis::is_backward(pass) {
-            if line.at + 1 < line.count {
+            if line.followed {
                 Neighbour::Block(k + line.step)
             } else {
                 Neighbour::Beyond
@@ -171,8 +174,24 @@ impl Grid {
         if axis::is_backward(pass) {
             0 < line.at
         } else {
-            line.at + 1 < line.count
+            line.followed
         }
+    }
+}
+
+impl BlockShape {
+    // The block's places along a pass,
+    pub fn extent(self, pass: usize) -> usize
+        ensures { λ r. ⌜ r ≡ shapeExtent self pass ⌝ }
+    {
+        axis::along(pass, self.rows, self.columns)
+    }
+
+    // and its lines that the pass runs along.
+    pub fn lines(self, pass: usize) -> usize
+        ensures { λ r. ⌜ r ≡ shapeLines self pass ⌝ }
+    {
+        axis::across(pass, self.rows, self.columns)
     }
 }
 
@@ -190,12 +209,20 @@ fn block_count(length: usize, side: usize) -> usize
     }
 }
 
-// How much of a length a block has.
+// How much of a length a block has; 0 past the blocks that cover it.
 fn block_extent(length: usize, side: usize, block: usize) -> usize
     ensures { λ r. ⌜ r ≡ blockExtent length side block ⌝ }
 {
     if block < block_count(length, side) {
-        return number::lesser(side, length - block * side);
+        return counted_extent(length, side, block);
     }
     0
+}
+
+// The same for a block that is among them.
+pub fn counted_extent(length: usize, side: usize, block: usize) -> usize
+    requires { ⌜ block < blockCount length side ⌝ }
+    ensures { λ r. ⌜ r ≡ blockExtent length side block ⌝ }
+{
+    number::lesser(side, length - block * side)
 }

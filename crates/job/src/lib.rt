@@ -11,9 +11,6 @@ ghost use Rattle.job_spec.specs.Calls.{lists, startAnswer, unmarked, marksAfter
 ghost use Rattle.job.specs.Fits.{Fits};
 ghost use Rattle.job.specs.RunCalls.{Ran};
 
-// The mark of a block with no task done: kind 7 in the top four bits.
-const UNMARKED: u32 = 0x7000_0000;
-
 // Starts a job: no task is marked, and all needed strip words are 0.
 pub fn start(plan: Plan, marks: &mut [u32], strips: &mut [u64]) -> Outcome
     ensures answer { λ r. ⌜ answerOf r ≡ startAnswer plan (now (marks .entry)) (now (strips .entry)) ⌝ }
@@ -35,14 +32,14 @@ pub fn start(plan: Plan, marks: &mut [u32], strips: &mut [u64]) -> Outcome
     }
 }
 
-// The first `count` marks have kind 7 and no bit.
+// The first `count` marks have their kind and no bit.
 fn unmark(marks: &mut [u32], count: usize)
     requires { ⌜ count ≤ length (now marks) ⌝ }
     ensures { λ _. ⌜ now (marks .exit) ≡ unmarked count (now (marks .entry)) ⌝ }
 {
     let mut block = 0;
     while block < count {
-        marks[block] = UNMARKED;
+        marks[block] = tasks::UNMARKED;
         block += 1;
     }
 }

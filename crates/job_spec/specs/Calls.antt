@@ -5,7 +5,7 @@ use mathlib.Core.List.{List, [], _∷_, _++_}
 use Prim.Native.Nat.{ℕ, zero, suc, _+_, min}
 use lib.IntN.{ℤ}
 use lib.Dec.{ltb, eqb}
-use lib.ListN.{length, getD}
+use lib.ListN.{length}
 use Rattle.refusal.specs.Refusals.{Answer}
 use Rattle.refusal.specs.Table.{Row, _at_when_, firstDue, ifAccepted}
 use Rattle.plan.specs.declared.Plan.{Plan}
@@ -14,6 +14,7 @@ use Rattle.plan.specs.Sizes.{neededMarks, neededStrips, sizesOf, lengthRows}
 use Rattle.tasks.specs.Tasks.{BlockTask, nothingDone}
 use Rattle.tasks.specs.Marks.{markOf, withBit}
 use Rattle.tasks.specs.Verdict.{verdictRows}
+use Rattle.buffer.specs.Lists.{wordAt}
 use Rattle.buffer.specs.Written.{written, cleared}
 use Rattle.filter.specs.PlanFilters.{mapOf}
 use Rattle.task_words.specs.Writes.{collected, linked, finished}
@@ -123,7 +124,7 @@ acceptedCount (answer ∷ answers) = ifAccepted answer 1 0 + acceptedCount answe
 unfoldable pub callsFrom : List ℕ → List ℕ → ℕ → ℕ → List BlockTask
 callsFrom tasks blocks i zero = []
 callsFrom tasks blocks i (suc n) =
-    record { task = getD tasks i 0; block = getD blocks i 0 } ∷ callsFrom tasks blocks (suc i) n
+    record { task = wordAt tasks i; block = wordAt blocks i } ∷ callsFrom tasks blocks (suc i) n
 
 -- The calls of two lists, as many as the shorter has.
 abbrev pub callsOf : List ℕ → List ℕ → List BlockTask

@@ -2,78 +2,75 @@
 use mathlib.Core.List.{List}
 use mathlib.Core.Path.{_≡_, refl, ap, _∙_}
 use mathlib.Core.Bool.{true}
-use Prim.Native.Nat.{ℕ, zero, suc, _+_, _%_, _<_, _≤_}
+use Prim.Native.Nat.{ℕ, zero, suc, _+_, _<_, _≤_}
 use native.Mathlib.Omega.{arith}
 use Rattle.word.specs.Word.{_⊗_}
-use Rattle.grid.proofs.Extents.{extent-positive}
-use Rattle.plan.proofs.Record.{rules, order-limited-at}
+use Rattle.plan.proofs.Record.{order-limited-at}
 use Rattle.plan.specs.Rules.{orderLimit, passAt, keepsRules}
 use Rattle.plan.specs.Sizes.{neededMarks, orderOf}
 use Rattle.plan.specs.declared.Plan.{Plan}
 use Rattle.passes.specs.Filter.{Filter}
 use Rattle.passes.specs.Gains.{unitGain}
-use Rattle.axis.specs.Axis.{Axis, columns, rows, Direction, forward, backward, axisOf, directionOf, along, across}
+use Rattle.axis.specs.Axis.{Direction, forward, backward, axisOf, directionOf}
 use Rattle.filter.proofs.Filters.{filterWords-filter}
 use Rattle.filter.specs.PlanFilters.{filterOf, filtersOf}
 use Rattle.filter.specs.declared.FilterWords.{FilterWords}
-use Rattle.grid.proofs.Blocks.{block-row-below, block-column-below, lines-in-side}
-use Rattle.grid.specs.Grid.{blockRow, blockColumn, rowsOf, columnsOf}
+use Rattle.grid.specs.declared.Grid.{Grid}
+use Rattle.grid.specs.Grid.{extentAlong, linesAcross}
 use Rattle.task_words.specs.Strips.{fromEdge}
+use Rattle.strips.proofs.BlockBounds.{bounded, of-axis}
 use Rattle.strips.proofs.StripRecords.{before-fits, past-edges-read}
 use Rattle.strips.specs.StripRecord.{edgeStart, stripBefore, stripRead, StripFits}
-use Rattle.grid.specs.Shapes.{shapeOf}
+use Rattle.grid.specs.Shapes.{shapeOf, shapeExtent, shapeLines}
 use Rattle.grid.specs.declared.BlockShape.{BlockShape}
 use Rattle.strips.specs.declared.Strip.{Strip}
-use Rattle.squares.proofs.LinePasses.{axis-passes}
+use Rattle.squares.proofs.LinePasses.{passes-in-axis}
 use Rattle.squares.specs.LinePasses.{axisStart, axisPasses}
 use Rattle.squares.specs.LineBuffers.{filterAt, OrdersFit}
-use Rattle.link.specs.Courses.{unitGainFilters, gainsAfter, scaledEdges, courseAlong, courseOf, CourseFits, LinkFits}
+use Rattle.link.specs.Courses.{unitGainFilters, courseAlong, courseOf, CourseFits, LinkFits}
 use Rattle.link.specs.declared.Course.{Course}
+use Rattle.filter.specs.FilterWords.{gainsAfter}
+use Rattle.task_words.specs.ScaledEdges.{scaledEdges}
 
-axis-start : (pass : ℕ) → along (axisOf pass) 0 2 ≡ axisStart pass
-axis-start zero = refl
-axis-start (suc zero) = refl
-axis-start (suc (suc pass)) = refl
-
-pub course-along-is : (pass first n lines order : ℕ) {from : ℕ} → from ≡ edgeStart (directionOf pass) order n
+pub course-along-is : (pass n lines order : ℕ) {first passes from : ℕ} → first ≡ axisStart pass → passes ≡ axisPasses pass
+    → from ≡ edgeStart (directionOf pass) order n
     → record {
       pass = pass;
       first = first;
-      passes = 1 + pass % 2;
+      passes = passes;
       places = n;
       lines = lines;
       from = from;
       order = order;
     }
-    ≡ courseAlong pass first n lines order
-course-along-is pass first n lines order e = rw (e, axis-passes pass)
+    ≡ courseAlong pass n lines order
+course-along-is pass n lines order a b c = rw (a, b, c)
 
 -- ---- the course of block k's link
 
-pub course-is : (plan : Plan) (k pass : ℕ) {shape : BlockShape} {first n lines : ℕ} {course : Course}
-    → shape ≡ shapeOf (plan .grid) k → first ≡ along (axisOf pass) 0 2 → n ≡ along (axisOf pass) (shape .rows) (shape .columns)
-    → lines ≡ across (axisOf pass) (shape .rows) (shape .columns)
-    → course ≡ courseAlong pass first n lines (orderOf plan pass) → course ≡ courseOf plan k pass
+pub course-is : (plan : Plan) (k pass : ℕ) {shape : BlockShape} {n lines : ℕ} {course : Course}
+    → shape ≡ shapeOf (plan .grid) k → n ≡ shapeExtent shape pass → lines ≡ shapeLines shape pass
+    → course ≡ courseAlong pass n lines (orderOf plan pass) → course ≡ courseOf plan k pass
 unfolding courseOf shapeOf
-course-is plan k pass shaped a b c e = e ∙ rw (a, b, c, shaped, axis-start pass)
+course-is plan k pass shaped a b e = e ∙ rw (a, b, shaped)
 
-of-axis : (a : Axis) (P : ℕ → Type 0) (h w : ℕ) → P h → P w → P (along a h w) × P (across a h w)
-of-axis columns P h w p q = (p, q)
-of-axis rows P h w p q = (q, p)
+-- A block's places along a pass and its lines: some, and few.
+record BlockLines (grid : Grid) (k pass : ℕ) : Type 0 where
+  pub some : (0 < extentAlong grid k pass) × (0 < linesAcross grid k pass)
+  pub few : (extentAlong grid k pass ≤ 32) × (linesAcross grid k pass ≤ 32)
 
-module _ (plan : Plan) (kept : keepsRules plan ≡ true) where
-  pub few-rows : (k : ℕ) → rowsOf (plan .grid) k ≤ 32
-  few-rows k =
-      omega (arith, rules plan kept .side-high, lines-in-side (plan .grid) k rows)
+block-lines : (plan : Plan) (k pass : ℕ) → keepsRules plan ≡ true → k < neededMarks plan → BlockLines (plan .grid) k pass
+block-lines plan k pass kept here =
+    let b = bounded plan k kept here in
+    record {
+      some = of-axis (axisOf pass) (λ z. 0 < z) _ _ (b .tall) (b .wide);
+      few = of-axis (axisOf pass) (λ z. z ≤ 32) _ _ (b .rows-high) (b .columns-high);
+    }
 
-  pub few-columns : (k : ℕ) → columnsOf (plan .grid) k ≤ 32
-  few-columns k =
-      omega (arith, rules plan kept .side-high, lines-in-side (plan .grid) k columns)
-
-  pub few-places : (k pass : ℕ) (shape : BlockShape) → shape ≡ shapeOf (plan .grid) k
-      → along (axisOf pass) (shape .rows) (shape .columns) ≤ 32
-  unfolding shapeOf
-  few-places k pass shape e = rw e (of-axis (axisOf pass) (λ z. z ≤ 32) _ _ (few-rows k) (few-columns k) .0)
+pub few-places : (plan : Plan) (k pass : ℕ) → keepsRules plan ≡ true → k < neededMarks plan → (shape : BlockShape)
+    → shape ≡ shapeOf (plan .grid) k → shapeExtent shape pass ≤ 32
+unfolding shapeOf
+few-places plan k pass kept here shape e = rw e (block-lines plan k pass kept here .few .0)
 
 -- Passes of one axis, counted.
 record Counted (pass : ℕ) : Type 0 where
@@ -81,9 +78,6 @@ record Counted (pass : ℕ) : Type 0 where
   pub some-passes : 0 < axisPasses pass
   pub few-passes : axisPasses pass ≤ 2
   pub passes-counted : axisStart pass + axisPasses pass ≤ 4
-
-passes-in-axis : (pass : ℕ) → (0 < axisPasses pass) × (axisPasses pass ≤ 2)
-passes-in-axis pass = omega (arith, axis-passes pass)
 
 counted : (pass : ℕ) → Counted pass
 counted pass =
@@ -117,19 +111,13 @@ pub course-fits : (plan : Plan) (k pass : ℕ) → keepsRules plan ≡ true → 
     → 0 < orderOf plan pass → CourseFits (courseOf plan k pass)
 unfolding courseOf
 course-fits plan k pass kept here h some =
-    let grid = plan .grid in
-    let low =
-    of-axis (axisOf pass) (λ z. 0 < z) (rowsOf grid k) (columnsOf grid k)
-    (extent-positive (grid .rows) (grid .side) (blockRow grid k) (block-row-below grid k here))
-    (extent-positive (grid .columns) (grid .side) (blockColumn grid k) (block-column-below grid k here)) in
-    let high =
-    of-axis (axisOf pass) (λ z. z ≤ 32) (rowsOf grid k) (columnsOf grid k) (few-rows plan kept k) (few-columns plan kept k) in
+    let b = block-lines plan k pass kept here in
     let c = counted pass in
     record {
-      some-places = low .0;
-      few-places = high .0;
-      some-lines = low .1;
-      few-lines = high .1;
+      some-places = b .some .0;
+      few-places = b .few .0;
+      some-lines = b .some .1;
+      few-lines = b .few .1;
       some-order = some;
       order-limited = order-limited-at plan kept pass h;
       inside = ends-in-line (directionOf pass) (orderOf plan pass) _;

@@ -37,13 +37,17 @@ use Rattle.strips.specs.declared.Strip.{Strip}
 use Rattle.squares.proofs.Response.{response-is}
 use Rattle.squares.specs.LinePasses.{response}
 use Rattle.squares.specs.LineBuffers.{filterAt}
-use Rattle.link.specs.Courses.{unitGainFilters, gainsAfter, scaledEdges, courseOf, LinkAt, LinkFits}
+use Rattle.link.specs.Courses.{unitGainFilters, courseOf, LinkAt, LinkFits}
 use Rattle.link.specs.Crossing.{responseWords, responsePlace, Held}
 use Rattle.link.specs.Carrying.{responseOf}
 use Rattle.link.specs.Writing.{linkedWord, StripLaid, PlacesWritten}
 use Rattle.link.specs.declared.Course.{Course}
 use Rattle.link.proofs.Courses.{filter-is, course-fits}
-use Rattle.link.proofs.OwnStrip.{in-lines, places, lines, number-is, strip-laid}
+use Rattle.link.proofs.OwnStrip.{places, lines, number-is, strip-laid}
+use Rattle.filter.specs.FilterWords.{gainsAfter}
+use Rattle.task_words.specs.ScaledEdges.{scaledEdges}
+use Rattle.strips.proofs.Edges.{edge-index}
+use Rattle.task_words.proofs.StripReads.{index-below}
 
 -- ---- the passes with their gains
 
@@ -88,8 +92,9 @@ module _ (plan : Plan) (k pass : ℕ) {n : ℕ} (at : LinkAt plan k pass n) (str
   unfolding courseOf scaledEdges gainsAfter
   response-word line place h b e =
       let asked = at .strip-at in
-      let here = in-lines (directionOf pass) (places plan k pass) (orderOf plan pass) place
-      (order-limited-at plan (asked .kept) pass (asked .pass-below)) b e in
+      let stands = edge-index (directionOf pass) (orderOf plan pass) (places plan k pass) place
+      (order-limited-at plan (asked .kept) pass (asked .pass-below)) e in
+      let inside = index-below (directionOf pass) (places plan k pass) (orderOf plan pass) place b e in
       ap
       (λ Z.
       lineOf (axisOf pass) Z line (indexOfPlace (directionOf pass) (places plan k pass) (orderOf plan pass) place))
@@ -100,8 +105,8 @@ module _ (plan : Plan) (k pass : ℕ) {n : ℕ} (at : LinkAt plan k pass n) (str
       ∙ response-is (filterAt filters) (rowsOf (plan .grid) k) (columnsOf (plan .grid) k) (scaledEdges plan strips k pass) pass
       (asked .pass-below) line _
       ∙ ap (response (filterAt filters) (lines plan k pass) (places plan k pass) (scaledEdges plan strips k pass) pass line)
-      (sym (here .index-is))
-      ∙ sym (held .at line place h (record { below = b; low = here .low; high = here .high }))
+      (omega arith)
+      ∙ sym (held .at line place h (record { below = b; low = omega arith; high = omega arith }))
 
   linked-word : (line place : ℕ) → place < orderOf plan pass
       → linkedWord (stripOf plan k pass) responses (wordAt strips (stripPlace plan k pass line place)) line place

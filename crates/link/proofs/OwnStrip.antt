@@ -1,39 +1,21 @@
 -- Where the words of a link's own strip stand, and which of them lie in the block. Assumes nothing.
-use mathlib.Core.Bool.{true}
 use mathlib.Core.Path.{_≡_, ap, sym, _∙_}
-use Prim.Native.Nat.{ℕ, _+_, _-_, _<_, _≤_}
+use Prim.Native.Nat.{ℕ, _+_, _-_, _<_}
 use native.Mathlib.Omega.{arith}
 use native.Mathlib.Nat.{div-add-mod'}
-use borrow.Author.Tests.{ltb-true, leb-true}
 use Rattle.plan.proofs.Record.{rules, order-limited-at}
-use Rattle.plan.specs.Rules.{orderLimit}
 use Rattle.plan.specs.Sizes.{orderOf}
 use Rattle.plan.specs.declared.Plan.{Plan}
-use Rattle.axis.specs.Axis.{Axis, columns, rows, Direction, forward, backward, axisOf, along, across}
+use Rattle.axis.specs.Axis.{Axis, columns, rows, axisOf, along}
 use Rattle.task_words.proofs.Strips.{place-of-place, strip-place-below}
-use Rattle.grid.specs.Grid.{rowsOf, columnsOf}
-use Rattle.task_words.specs.Strips.{stripStart, placeInStrip, lineInStrip, placeInLine, stripPlace, placeInside, indexOfPlace}
+use Rattle.grid.specs.Grid.{extentAlong, linesAcross}
+use Rattle.task_words.specs.Strips.{stripStart, placeInStrip, lineInStrip, placeInLine, stripPlace}
 use Rattle.strips.proofs.StripRecords.{address-is}
-use Rattle.strips.specs.StripRecord.{edgeStart, stripWith, stripOf}
+use Rattle.strips.specs.StripRecord.{stripWith, stripOf}
 use Rattle.strips.specs.declared.Strip.{Strip}
 use Rattle.link.specs.Courses.{LinkAt}
 use Rattle.link.specs.Crossing.{responseWords}
 use Rattle.link.specs.Writing.{StripLaid}
-
--- ---- places
-
--- A place in the block lies in the lines, at the index that it stands for.
-pub record InLines (d : Direction) (n order place : ℕ) : Type 0 where
-  pub low : orderLimit ≤ edgeStart d order n + place
-  pub high : edgeStart d order n + place < orderLimit + n
-  pub index-is : (edgeStart d order n + place) - orderLimit ≡ indexOfPlace d n order place
-
-pub in-lines : (d : Direction) (n order place : ℕ) → order ≤ orderLimit → place < order → placeInside d n order place ≡ true
-    → InLines d n order place
-in-lines forward n order place few h e =
-    let l = leb-true order (n + place) e in record { low = omega arith; high = omega arith; index-is = omega arith }
-in-lines backward n order place few h e =
-    let l = ltb-true place n e in record { low = omega arith; high = omega arith; index-is = omega arith }
 
 -- A strip's word stands at its line and place.
 same-place : (a : Axis) (side order q : ℕ)
@@ -55,10 +37,10 @@ module _ (plan : Plan) (k pass : ℕ) where
 
   -- The places of a line, and the lines.
   abbrev pub places : ℕ
-  places = along (axisOf pass) (rowsOf (plan .grid) k) (columnsOf (plan .grid) k)
+  places = extentAlong (plan .grid) k pass
 
   abbrev pub lines : ℕ
-  lines = across (axisOf pass) (rowsOf (plan .grid) k) (columnsOf (plan .grid) k)
+  lines = linesAcross (plan .grid) k pass
 
   -- The word of a number stands so far from the start of the strip.
   pub number-is : (q : ℕ)

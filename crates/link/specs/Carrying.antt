@@ -1,8 +1,8 @@
 -- Inner: the histories of the lines, added to the responses of a link.
 use mathlib.Core.Path.{_≡_}
-use mathlib.Core.List.{List, []}
+use mathlib.Core.List.{List}
 use Prim.Native.Nat.{ℕ, _+_, _-_, _*_, _<_, _≤_}
-use lib.ListN.{length, getD}
+use lib.ListN.{length}
 use Rattle.word.specs.Word.{_⊕_, _⊗_}
 use Rattle.grid.specs.Grid.{sideLimit}
 use Rattle.plan.specs.Rules.{orderLimit}
@@ -18,11 +18,12 @@ use Rattle.task_words.specs.Strips.{fromEdge}
 use Rattle.strips.specs.StripRecord.{stripRead, StripFits}
 use Rattle.strips.specs.declared.Strip.{Strip}
 use Rattle.squares.specs.LinePasses.{passSquare, response}
-use Rattle.squares.specs.LineBuffers.{filterAt}
-use Rattle.link.specs.Courses.{Inside, indexAt, CourseFits, LinkFits, scaledEdges}
+use Rattle.squares.specs.LineBuffers.{filterAt, squareAt}
+use Rattle.link.specs.Courses.{Inside, indexAt, CourseFits, LinkFits}
 use Rattle.link.specs.Lines.{LinesReady}
 use Rattle.link.specs.Crossing.{responseWords, responsePlace}
 use Rattle.link.specs.declared.Course.{Course}
+use Rattle.task_words.specs.ScaledEdges.{scaledEdges}
 
 -- ---- multiples of words that lie apart
 
@@ -41,7 +42,7 @@ multipleAdded place strips at step weight n buffer =
 
 -- What the places of a strip weigh at a distance.
 abbrev pub weightsAt : List (List ℕ) → (distance place : ℕ) → ℕ
-weightsAt square distance place = wordAt (getD square place []) distance
+weightsAt square distance place = squareAt square place distance
 
 -- What multiples of such words at the first places of the responses want, weighted for a distance.
 pub record MultiplesFit (places distance responses strips at step lines : ℕ) : Type 0 where
@@ -49,19 +50,17 @@ pub record MultiplesFit (places distance responses strips at step lines : ℕ) :
   pub near : distance < orderLimit
   pub word-per-line : WordPerLine responses strips at step lines
 
--- Multiples of a word for each line have been added to the first places of the responses, and no other has changed.
-pub record MultiplesAdded (lines places : ℕ) (words weights : ℕ → ℕ) (before after : List ℕ) : Type 0 where
-  pub length-kept : length after ≡ length before
-  pub at : (line place : ℕ) → line < lines → place < places
-      → wordAt after (responsePlace line place) ≡ wordAt before (responsePlace line place) ⊕ words line ⊗ weights place
-  pub rest : (line place : ℕ) → place < orderLimit → (line < lines → place < places → ⊥)
-      → wordAt after (responsePlace line place) ≡ wordAt before (responsePlace line place)
-
--- The same, saying nothing of other responses.
+-- Multiples of a word for each line have been added to the first places of the responses.
 pub record DistanceAdded (lines places : ℕ) (words weights : ℕ → ℕ) (before after : List ℕ) : Type 0 where
   pub length-kept : length after ≡ length before
   pub at : (line place : ℕ) → line < lines → place < places
       → wordAt after (responsePlace line place) ≡ wordAt before (responsePlace line place) ⊕ words line ⊗ weights place
+
+-- The same, and no other response has changed.
+pub record MultiplesAdded (lines places : ℕ) (words weights : ℕ → ℕ) (before after : List ℕ) : Type 0 where
+  pub added : DistanceAdded lines places words weights before after
+  pub rest : (line place : ℕ) → place < orderLimit → (line < lines → place < places → ⊥)
+      → wordAt after (responsePlace line place) ≡ wordAt before (responsePlace line place)
 
 -- ---- histories
 
@@ -81,7 +80,7 @@ pub record HistoriesAdded (lines places n : ℕ) (H : ℕ → ℕ → ℕ) (squa
   pub length-kept : length after ≡ length before
   pub at : (line place : ℕ) → line < lines → place < places
       → wordAt after (responsePlace line place)
-      ≡ wordAt before (responsePlace line place) ⊕ weightedSum n (H line) (wordAt (getD square place []))
+      ≡ wordAt before (responsePlace line place) ⊕ weightedSum n (H line) (squareAt square place)
 
 -- ---- the passes of the link's axis
 

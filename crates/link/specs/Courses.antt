@@ -3,17 +3,13 @@ use mathlib.Core.Path.{_≡_}
 use mathlib.Core.List.{List, [], _∷_}
 use mathlib.Core.Bool.{true}
 use Prim.Native.Nat.{ℕ, suc, _+_, _-_, _<_, _≤_}
-use Rattle.word.specs.Word.{_⊗_}
 use Rattle.plan.specs.Rules.{orderLimit, passAt, keepsRules}
 use Rattle.plan.specs.Sizes.{neededMarks, neededStrips, orderOf}
 use Rattle.plan.specs.declared.Plan.{Plan}
-use Rattle.passes.specs.Gains.{gainsFrom}
-use Rattle.axis.specs.Axis.{axisOf, directionOf, along, across}
-use Rattle.filter.specs.PlanFilters.{filtersOf}
+use Rattle.axis.specs.Axis.{directionOf}
 use Rattle.filter.specs.FilterWords.{filterWords, withGain}
 use Rattle.filter.specs.declared.FilterWords.{FilterWords}
-use Rattle.grid.specs.Grid.{rowsOf, columnsOf, sideLimit}
-use Rattle.task_words.specs.Strips.{pastEdges}
+use Rattle.grid.specs.Grid.{sideLimit, extentAlong, linesAcross}
 use Rattle.strips.specs.StripRecord.{StripAt, edgeStart}
 use Rattle.squares.specs.LinePasses.{axisStart, axisPasses}
 use Rattle.link.specs.declared.Course.{Course}
@@ -27,20 +23,12 @@ unitGainFilters plan =
     ∷ withGain 1 (filterWords (passAt plan 3))
     ∷ []
 
--- The product of the gains of the passes after a pass, up to the last.
-unfoldable pub gainsAfter : Plan → (pass last : ℕ) → ℕ
-gainsAfter plan pass last = gainsFrom (filtersOf plan) (suc pass) (last - pass)
-
--- The words past the edges of block k, each times the gains of the passes after its own, up to the last.
-unfoldable pub scaledEdges : Plan → List ℕ → (k last pass line distance : ℕ) → ℕ
-scaledEdges plan strips k last pass line distance = gainsAfter plan pass last ⊗ pastEdges plan strips k pass line distance
-
 -- The course of a link of a pass along lines of n places.
-abbrev pub courseAlong : (pass first n lines order : ℕ) → Course
-courseAlong pass first n lines order =
+abbrev pub courseAlong : (pass n lines order : ℕ) → Course
+courseAlong pass n lines order =
     record {
       pass = pass;
-      first = first;
+      first = axisStart pass;
       passes = axisPasses pass;
       places = n;
       lines = lines;
@@ -51,8 +39,7 @@ courseAlong pass first n lines order =
 -- The course of the link of a pass of block k.
 unfoldable pub courseOf : Plan → ℕ → ℕ → Course
 courseOf plan k pass =
-    courseAlong pass (axisStart pass) (along (axisOf pass) (rowsOf (plan .grid) k) (columnsOf (plan .grid) k))
-    (across (axisOf pass) (rowsOf (plan .grid) k) (columnsOf (plan .grid) k)) (orderOf plan pass)
+    courseAlong pass (extentAlong (plan .grid) k pass) (linesAcross (plan .grid) k pass) (orderOf plan pass)
 
 -- A place of a strip lies in the lines.
 pub record Inside (course : Course) (place : ℕ) : Type 0 where

@@ -3,6 +3,7 @@ use mathlib.Core.Path.{_≡_}
 use mathlib.Core.List.{List}
 use Prim.Native.Nat.{ℕ, _+_, _*_, _<_, _≤_}
 use lib.ListN.{length}
+use Rattle.number.specs.Numbers.{rowMajor}
 use Rattle.plan.specs.Rules.{orderLimit}
 use Rattle.buffer.specs.Lists.{wordAt}
 use Rattle.buffer.specs.Written.{rectangleWritten}
@@ -23,7 +24,7 @@ responseWords = rowWords * orderLimit
 
 -- Where the response at a line and a place stands.
 abbrev pub responsePlace : ℕ → ℕ → ℕ
-responsePlace line place = (orderLimit + line) * orderLimit + place
+responsePlace line place = rowMajor orderLimit (orderLimit + line) place
 
 -- The responses are these words, by line and by index in the line.
 pub record Held (course : Course) (words : ℕ → ℕ → ℕ) (buffer : List ℕ) : Type 0 where
@@ -37,8 +38,8 @@ pub record Held (course : Course) (words : ℕ → ℕ → ℕ) (buffer : List �
 -- pass comes from.
 unfoldable pub endsCopied : Direction → Course → (row : ℕ) → List ℕ → ℕ → List ℕ → List ℕ
 endsCopied d course row lines n buffer =
-    rectangleWritten (λ k p. beyond d orderLimit (course .lines) k * orderLimit + p)
-    (λ k p. wordAt lines ((row + k) * rowWords + course .from + p)) (course .order) n buffer
+    rectangleWritten (λ k p. rowMajor orderLimit (beyond d orderLimit (course .lines) k) p)
+    (λ k p. wordAt lines (rowMajor rowWords (row + k) (course .from + p))) (course .order) n buffer
 
 -- What the ends of `order` rows from a row on want; the buffers have so many words.
 pub record EndsFit (course : Course) (row order lines responses : ℕ) : Type 0 where
@@ -63,7 +64,7 @@ pub record Crossed (filters : ℕ → Filter) (course : Course) (pass : ℕ) (li
   pub at : (line place : ℕ) → line < course .lines → Inside course place
       → wordAt after (responsePlace line place)
       ≡ filterLine (directionOf pass) (filters pass) (course .lines)
-      (λ k. wordAt lines ((rowsBefore filters pass + k) * rowWords + course .from + place))
+      (λ k. wordAt lines (rowMajor rowWords (rowsBefore filters pass + k) (course .from + place)))
       (λ y. wordAt before (responsePlace y place)) line
 
 -- The words after all of them, with H past the block's edges.

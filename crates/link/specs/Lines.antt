@@ -2,7 +2,7 @@
 use mathlib.Core.Path.{_≡_}
 use mathlib.Core.Bool.{cond}
 use mathlib.Core.List.{List}
-use Prim.Native.Nat.{ℕ, zero, suc, _+_, _-_, _*_, _<_, _≤_, min}
+use Prim.Native.Nat.{ℕ, zero, suc, _+_, _-_, _<_, _≤_, min}
 use lib.ListN.{length}
 use lib.Dec.{ltb}
 use Rattle.word.specs.Word.{_⊗_}
@@ -35,7 +35,7 @@ linesInside strip place n = cond (placeHeld strip place) (min n (strip .lines)) 
 -- each times a gain.
 unfoldable pub stripLine : (gain : ℕ) → Strip → List ℕ → (place row places : ℕ) → List ℕ → List ℕ
 stripLine gain strip strips place row places buffer =
-    rowWritten (row * rowWords + orderLimit) (λ j. gain ⊗ stripRead strip strips j place) (linesInside strip place places)
+    rowWritten (rowMajor rowWords row orderLimit) (λ j. gain ⊗ stripRead strip strips j place) (linesInside strip place places)
     buffer
 
 -- The same of the first n distances from the edge that a pass leaves by, each to its row, from a row on.

@@ -1,17 +1,16 @@
 -- Inner: the strip of a link, written place by place.
 use mathlib.Core.Path.{_≡_}
-use mathlib.Core.Bool.{_&&_, cond}
+use mathlib.Core.Bool.{cond}
 use mathlib.Core.List.{List}
 use mathlib.Core.Logic.{_≢_}
 use Prim.Native.Nat.{ℕ, _+_, _*_, _<_, _≤_}
 use lib.ListN.{length}
-use lib.Dec.{ltb}
 use Rattle.word.specs.Word.{_⊕_}
 use Rattle.grid.specs.Grid.{sideLimit}
 use Rattle.plan.specs.Rules.{orderLimit}
 use Rattle.buffer.specs.Lists.{wordAt}
 use Rattle.buffer.specs.Written.{written}
-use Rattle.strips.specs.StripRecord.{placeHeld, addressIn}
+use Rattle.strips.specs.StripRecord.{wordHeld, addressIn}
 use Rattle.strips.specs.declared.Strip.{Strip}
 use Rattle.link.specs.Crossing.{responseWords, responsePlace}
 use Rattle.link.specs.Carrying.{WordPerLine}
@@ -32,7 +31,7 @@ responsesAdded at step responses place n strips =
 -- The word that is written at a line and a place, where the strip has the word `own`: 0 outside the block.
 unfoldable pub linkedWord : Strip → List ℕ → (own line place : ℕ) → ℕ
 linkedWord strip responses own line place =
-    cond (ltb line (strip .lines) && placeHeld strip place) (own ⊕ wordAt responses (responsePlace line place)) 0
+    cond (wordHeld strip line place) (own ⊕ wordAt responses (responsePlace line place)) 0
 
 -- One place of a strip has these words, by the word that was there, line and place, and no other word has changed.
 pub record PlaceWritten (strip : Strip) (side place : ℕ) (words : ℕ → ℕ → ℕ → ℕ) (before after : List ℕ) : Type 0 where

@@ -12,9 +12,9 @@ ghost use Rattle.buffer.specs.Lists.{wordAt};
 ghost use Rattle.axis.specs.Axis.{directionOf};
 ghost use Rattle.strips.specs.StripRecord.{stripRead};
 ghost use Rattle.squares.specs.LineBuffers.{filterAt};
-ghost use Rattle.link.specs.Courses.{scaledEdges};
 ghost use Rattle.link.specs.Crossing.{crossedWords, Held};
 ghost use Rattle.link.specs.Carrying.{WordPerLine, multipleAdded, weightsAt, MultiplesFit, MultiplesAdded, DistanceAdded, HistoriesFit, historyWord, HistoriesAdded, CarryFits, PassToCarry, Carried, responseOf};
+ghost use Rattle.task_words.specs.ScaledEdges.{scaledEdges};
 
 // Adds a multiple of words that lie `step` apart in the strips, one for each line, to a place of the responses.
 fn add_multiple(
@@ -32,7 +32,7 @@ fn add_multiple(
 {
     let mut line = 0;
     while line < lines {
-        let to = (plan::ORDER_LIMIT + line) * plan::ORDER_LIMIT + place;
+        let to = super::crossing::response_place(line, place);
         let product = word::mul(strips[at + line * step], weight);
         responses[to] = word::add(responses[to], product);
         line += 1;
@@ -86,7 +86,7 @@ fn add_distance(
             responses,
             course.order,
             strips,
-            strip.start + place * strip.place_step,
+            strip.first_at(place),
             strip.line_step,
             lines,
             square,
@@ -149,7 +149,7 @@ fn carry_pass(
     let row = squares::rows_before(filters, pass);
     let square = squares::square_from(lines, row, course.from);
     let past_edge = strips::strip_before(plan, k, pass);
-    let gain = super::gains_after(plan, pass, course.pass);
+    let gain = filter::gains_after(plan, pass, course.pass);
     add_histories(
         responses,
         strips,

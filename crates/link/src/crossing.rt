@@ -10,10 +10,20 @@ ghost use Rattle.buffer.specs.Lists.{wordAt};
 ghost use Rattle.axis.specs.Axis.{directionOf};
 ghost use Rattle.squares.specs.LineBuffers.{filterAt};
 ghost use Rattle.link.specs.Lines.{LinesReady};
-ghost use Rattle.link.specs.Crossing.{endsCopied, EndsFit, Crossed, CrossFits, crossedWords, Held};
+ghost use Rattle.grid.specs.Grid.{sideLimit};
+ghost use Rattle.plan.specs.Rules.{orderLimit};
+ghost use Rattle.link.specs.Crossing.{responsePlace, endsCopied, EndsFit, Crossed, CrossFits, crossedWords, Held};
 
 // The words of a buffer of responses: a row of ORDER_LIMIT words for each line, between margins of ORDER_LIMIT rows.
 pub(crate) const RESPONSES: usize = squares::ROW * plan::ORDER_LIMIT;
+
+// Where the response at a line and a place stands.
+pub(crate) fn response_place(line: usize, place: usize) -> usize
+    requires { ⌜ (line < sideLimit) × (place < orderLimit) ⌝ }
+    ensures { λ r. ⌜ r ≡ responsePlace line place ⌝ }
+{
+    (plan::ORDER_LIMIT + line) * plan::ORDER_LIMIT + place
+}
 
 // Puts the ends of lines, from a row on, into the margin of the responses.
 fn copy_ends(

@@ -10,11 +10,10 @@ mod writing;
 use filter::FilterWords;
 use plan::Plan;
 ghost use mathlib.Core.Path.{_≡_};
-ghost use Prim.Native.Nat.{_<_, _≤_};
 ghost use lib.ListN.{length};
 ghost use Rattle.task_words.specs.Writes.{linked};
 ghost use Rattle.strips.specs.StripRecord.{StripAt, EdgeFits};
-ghost use Rattle.link.specs.Courses.{unitGainFilters, gainsAfter, courseAlong, courseOf, LinkAt};
+ghost use Rattle.link.specs.Courses.{unitGainFilters, courseAlong, courseOf, LinkAt};
 
 // The link of a pass of block k: its strip is that of the whole map where the strips of its needs are.
 pub fn link(plan: Plan, k: usize, pass: usize, strips: &mut [u64])
@@ -48,14 +47,14 @@ pub struct Course {
 }
 
 // The course of a link of a pass along lines of so many places.
-fn course_along(pass: usize, first: usize, places: usize, lines: usize, order: usize) -> Course
+fn course_along(pass: usize, places: usize, lines: usize, order: usize) -> Course
     requires { ⌜ EdgeFits order places ⌝ }
-    ensures { λ r. ⌜ r ≡ courseAlong pass first places lines order ⌝ }
+    ensures { λ r. ⌜ r ≡ courseAlong pass places lines order ⌝ }
 {
     Course {
         pass: pass,
-        first: first,
-        passes: 1 + pass % 2,
+        first: squares::axis_start(pass),
+        passes: squares::axis_passes(pass),
         places: places,
         lines: lines,
         from: strips::edge_start(pass, order, places),
@@ -71,13 +70,7 @@ fn course_of(plan: Plan, k: usize, pass: usize) -> Course
     let grid = plan.grid;
     let shape = grid.block_shape(k);
     let filter = plan.passes[pass];
-    course_along(
-        pass,
-        axis::along(pass, 0, 2),
-        axis::along(pass, shape.rows, shape.columns),
-        axis::across(pass, shape.rows, shape.columns),
-        filter.order,
-    )
+    course_along(pass, shape.extent(pass), shape.lines(pass), filter.order)
 }
 
 // The words of the four filters of a plan, with gain 1.
@@ -94,12 +87,4 @@ fn unit_gain_filters(plan: Plan) -> [FilterWords; 4]
         filter::filter_with_gain(right, 1),
         filter::filter_with_gain(left, 1),
     ]
-}
-
-// The product of the gains of the passes after a pass, up to the last.
-fn gains_after(plan: Plan, pass: usize, last: usize) -> u64
-    requires { ⌜ (pass ≤ last) × (last < 4) ⌝ }
-    ensures { λ r. ⌜ r ≡ gainsAfter plan pass last ⌝ }
-{
-    filter::gains_from(plan, pass + 1, last - pass)
 }

@@ -10,8 +10,9 @@ ghost use lib.ListN.{length};
 ghost use Rattle.axis.specs.Axis.{directionOf};
 ghost use Rattle.task_words.specs.Strips.{fromEdge};
 ghost use Rattle.squares.specs.LineBuffers.{lineWords, filterAt};
-ghost use Rattle.link.specs.Courses.{scaledEdges, LinkFits};
+ghost use Rattle.link.specs.Courses.{LinkFits};
 ghost use Rattle.link.specs.Lines.{linesInside, stripLine, stripLines, StripRows, PassToFill, PassFilled, ZeroWords, LinesFilled, LinesReady};
+ghost use Rattle.task_words.specs.ScaledEdges.{scaledEdges};
 
 // The place of a line of a strip that lies at a distance from the edge by which a pass leaves the block.
 pub(crate) fn from_edge(pass: usize, order: usize, distance: usize) -> usize
@@ -55,7 +56,7 @@ fn strip_line(
     if 0 < count {
         buffer::scale_words(
             strips,
-            strip.start + place * strip.place_step,
+            strip.first_at(place),
             strip.line_step,
             lines,
             row * squares::ROW + plan::ORDER_LIMIT,
@@ -108,7 +109,7 @@ fn fill_pass(
     let row = squares::rows_before(filters, pass);
     if pass < course.first {
         let strip = strips::strip_before(plan, k, pass);
-        let gain = super::gains_after(plan, pass, course.pass);
+        let gain = filter::gains_after(plan, pass, course.pass);
         strip_lines(lines, row, course.places, strips, strip, pass, order, gain);
     } else {
         squares::unit_lines(lines, row, pass, course.places, order);

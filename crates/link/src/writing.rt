@@ -20,7 +20,7 @@ fn add_responses(
     let mut line = 0;
     while line < lines {
         let to = at + line * step;
-        let response = responses[(plan::ORDER_LIMIT + line) * plan::ORDER_LIMIT + place];
+        let response = responses[super::crossing::response_place(line, place)];
         strips[to] = word::add(strips[to], response);
         line += 1;
     }
@@ -32,7 +32,7 @@ fn write_place(strips: &mut [u64], strip: Strip, side: usize, responses: &[u64],
     ensures { λ _. ⌜ PlaceWritten strip side place (linkedWord strip (now (responses .entry)))
         (now (strips .entry)) (now (strips .exit)) ⌝ }
 {
-    let at = strip.start + place * strip.place_step;
+    let at = strip.first_at(place);
     let lines = super::lines::lines_inside(strip, place, side);
     add_responses(strips, at, strip.line_step, lines, responses, place);
     // Where no line is left to clear, the sum could pass the largest address.

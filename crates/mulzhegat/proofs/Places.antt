@@ -35,6 +35,7 @@ use Rattle.report.specs.declared.ReportAnswer.the-variants as reported
 use Rattle.report.specs.Values.{reportGiven}
 use Rattle.report.specs.Report.{marksRows, report}
 use Rattle.mulzhegat.specs.Places.{PlacesFit}
+use Rattle.buffer.specs.Lists.{joined}
 
 -- ---- rows
 
@@ -46,6 +47,13 @@ PlacesBelow bound (row ∷ rows) = (row .due ≡ true → row .place < bound) ×
 both : (bound : ℕ) (xs ys : List Row) → PlacesBelow bound xs → PlacesBelow bound ys → PlacesBelow bound (xs ++ ys)
 both bound [] ys first second = second
 both bound (x ∷ xs) ys (h, first) second = (h, λ d. both bound xs ys (first d) second)
+
+several : (bound : ℕ) (rows : ℕ → List Row) (count : ℕ) → ((i : ℕ) → i < count → PlacesBelow bound (rows i))
+    → PlacesBelow bound (joined rows count)
+unfolding joined
+several bound rows zero each = tt
+several bound rows (suc count) each =
+    both bound (joined rows count) (rows count) (several bound rows count (λ i h. each i (omega arith))) (each count (omega arith))
 
 first-below : (bound : ℕ) → 0 < bound → (rows : List Row) → PlacesBelow bound rows → placeIn (firstDue rows) < bound
 first-below bound low [] all = low
@@ -78,10 +86,7 @@ module _ (words : List ℕ) (limit : ℕ) where
 
   coefficient-places : (place count : ℕ) → place + count < limit → PlacesBelow limit (coefficientRows words place count)
   unfolding coefficientRows
-  coefficient-places place zero h = tt
-  coefficient-places place (suc count) h =
-      both limit (coefficientRows words place count) (wordRows words (place + count) 5 true)
-      (coefficient-places place count (omega arith)) (word-places (place + count) 5 true (omega arith))
+  coefficient-places place count h = several limit _ count (λ j l. word-places (place + j) 5 true (omega arith))
 
 -- Each place of a plan's words is below 100: an order takes four bits.
 module _ (words : List ℕ) where
@@ -97,12 +102,9 @@ module _ (words : List ℕ) where
       (word-places words 100 (place + 1) 4 true (omega arith))
       (coefficient-places words 100 (place + 2) (orderAt words place) (omega arith)))
 
-  passes-places : (count : ℕ) → count ≤ 4 → PlacesBelow 100 (passesRows words count)
+  passes-places : PlacesBelow 100 (passesRows words 4)
   unfolding passesRows
-  passes-places zero h = tt
-  passes-places (suc count) h =
-      both 100 (passesRows words count) (passRows words count (passPlace words count)) (passes-places count (omega arith))
-      (pass-places count (omega arith))
+  passes-places = several 100 _ 4 pass-places
 
   head-places : PlacesBelow 100 (headRows words)
   unfolding headRows
@@ -125,7 +127,7 @@ module _ (words : List ℕ) where
   unfolding planRows
   plan-places =
       both 100 (headRows words) (passesRows words 4 ++ (endRows words (passPlace words 4) ++ sideRows words)) head-places
-      (both 100 (passesRows words 4) (endRows words (passPlace words 4) ++ sideRows words) (passes-places 4 (omega arith))
+      (both 100 (passesRows words 4) (endRows words (passPlace words 4) ++ sideRows words) passes-places
       (both 100 (endRows words (passPlace words 4)) (sideRows words) end-places side-places))
 
   pub read-place : placeIn (readPlan words .answer) < half

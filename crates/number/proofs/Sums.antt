@@ -4,11 +4,12 @@ use mathlib.Core.Logic.{⊎-elim, _≢_}
 use mathlib.Core.Bool.{Bool, true, false}
 use Prim.Native.Nat.{ℕ, zero, suc, _+_, _-_, _*_, _<_, _≤_, min}
 use native.Mathlib.Omega.{arith}
-use native.Mathlib.Nat.{eq-or-lt-of-le, add-suc, add-zero}
+use native.Mathlib.Nat.{eq-or-lt-of-le, add-suc, add-zero, min-eq-left, min-eq-right}
 use native.Mathlib.Numerals.{add-one}
 use lib.Dec.{ltb}
-use borrow.Author.Tests.{lt-ltb, ltb-true, ltb-false}
-use Rattle.number.specs.Numbers.{allBelow, total, one}
+use borrow.Author.Tests.{lt-ltb, le-ltb, ltb-true, ltb-false}
+use Rattle.number.specs.Numbers.{ifBelow, allBelow, total, one}
+use Rattle.number.proofs.Tests.{lt-or-ge}
 
 pub all-below : (test : ℕ → Bool) (n : ℕ) → ((i : ℕ) → i < n → test i ≡ true) → allBelow test n ≡ true
 unfolding allBelow
@@ -27,6 +28,17 @@ total-none f = refl
 pub sum-on : (f : ℕ → ℕ) (i s v : ℕ) → s ≡ total f i → v ≡ f i → s + v ≡ total f (i + 1)
 unfolding total
 sum-on f i s v p q = rw (add-one i) (ap₂ _+_ p q)
+
+-- The same where the loop goes on past the last of them.
+pub sum-below : (f : ℕ → ℕ) (i count : ℕ) → total f (min i count) + ifBelow i count (f i) ≡ total f (min (i + 1) count)
+unfolding total
+sum-below f i count =
+    ⊎-elim
+    (λ (l : i < count).
+    rw (min-eq-left {n = i} {m = count} (omega arith), min-eq-left {n = i + 1} {m = count} (omega arith), lt-ltb i count l, add-one i))
+    (λ (g : count ≤ i).
+    rw (min-eq-right {n = count} {m = i} g, min-eq-right {n = count} {m = i + 1} (omega arith), le-ltb i count g) (omega arith))
+    (lt-or-ge i count)
 
 pub total-same : (f g : ℕ → ℕ) (n : ℕ) → ((i : ℕ) → i < n → f i ≡ g i) → total f n ≡ total g n
 unfolding total

@@ -1,7 +1,8 @@
-// Numbers: the lesser of two, and a range from 1 on.
+// Numbers: the lesser of two, one or none below a bound, a range from 1 on, and words of a kind and a payload.
 ghost use mathlib.Core.Path.{_≡_};
-ghost use Prim.Native.Nat.{min};
-ghost use Rattle.number.specs.Numbers.{within};
+ghost use Prim.Native.Nat.{_<_, min};
+ghost use Rattle.number.specs.Numbers.{ifBelow, within};
+ghost use Rattle.number.specs.KindWords.{payloadLimit, kindOf, payloadOf, wordOf};
 
 // The lesser of two numbers.
 pub fn lesser(a: usize, b: usize) -> usize
@@ -10,9 +11,39 @@ pub fn lesser(a: usize, b: usize) -> usize
     if a < b { a } else { b }
 }
 
+// A number where i is below a bound, and 0 where not.
+pub fn if_below(i: usize, bound: usize, number: usize) -> usize
+    ensures { λ r. ⌜ r ≡ ifBelow i bound number ⌝ }
+{
+    if i < bound { number } else { 0 }
+}
+
 // From 1 to `most`.
 pub fn within(number: usize, most: usize) -> bool
     ensures { λ r. ⌜ r ≡ within number most ⌝ }
 {
     if 1 <= number { number <= most } else { false }
+}
+
+// Plan words and marks have a kind in the top four bits and a payload in the low 28, below 2^28: `payloadLimit` of
+// specs/KindWords.antt is the same number.
+pub const PAYLOAD_LIMIT: u32 = 268435456;
+
+pub fn kind_of(word: u32) -> u32
+    ensures { λ r. ⌜ r ≡ kindOf word ⌝ }
+{
+    word / PAYLOAD_LIMIT
+}
+
+pub fn payload_of(word: u32) -> u32
+    ensures { λ r. ⌜ r ≡ payloadOf word ⌝ }
+{
+    word % PAYLOAD_LIMIT
+}
+
+pub fn word_of(kind: u32, payload: u32) -> u32
+    requires { ⌜ (kind < 16) × (payload < payloadLimit) ⌝ }
+    ensures { λ r. ⌜ r ≡ wordOf kind payload ⌝ }
+{
+    kind * PAYLOAD_LIMIT + payload
 }

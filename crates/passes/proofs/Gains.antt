@@ -124,8 +124,8 @@ gains-out filters h w X t y x =
 
 -- ---- the gains of later passes
 
--- Passes with gains are passes of gain 1 over the block times all gains, the outputs past the edge of each times the gains
--- of the passes after it.
+-- Passes with gains are passes of gain 1 over the block times all gains, the outputs past the edge of each times the
+-- gains of the passes after it.
 pub gains-after : (filters : ℕ → Filter) (h w : ℕ) (H : ℕ → ℕ → ℕ → ℕ) (X : ℕ → ℕ → ℕ) (s y x : ℕ)
     → passesOver filters h w H X (suc s) y x
     ≡ passesOver (λ u. unitGain (filters u)) h w (λ u l k. gainsFrom filters (suc u) (s - u) ⊗ H u l k)

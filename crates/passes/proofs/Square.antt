@@ -14,6 +14,7 @@ use Rattle.passes.specs.Passes.{filterLine}
 use Rattle.passes.specs.Square.{unitHistory, linkSquare, weightedSum}
 use Rattle.passes.proofs.Linear.{Linear, pair, linear-zero, linear-add, linear-sub, linear-mul, linear-reduce}
 use Rattle.passes.proofs.Passes.{filterLine-linear, filterLine-history, filterLine-small}
+use Rattle.passes.specs.Table.{sumOf}
 
 -- ---- unit histories
 
@@ -30,13 +31,13 @@ unit-apart (suc j) zero e = refl
 unit-apart (suc j) (suc k) e = unit-apart j k (λ q. e (ap suc q))
 
 units-past : (r : ℕ) (p : ℕ → ℕ) (k : ℕ) → r ≤ k → weightedSum r p (λ j. unitHistory j k) ≡ 0
-unfolding weightedSum
+unfolding weightedSum sumOf
 units-past zero p k h = refl
 units-past (suc r) p k h = rw (units-past r p k (omega arith), unit-apart r k (omega arith), mul-zero, zero-add)
 
 -- The unit histories weighted by p are p.
 units-inside : (r : ℕ) (p : ℕ → ℕ) (k : ℕ) → k < r → weightedSum r p (λ j. unitHistory j k) ≡ p k % modulus
-unfolding weightedSum
+unfolding weightedSum sumOf
 units-inside zero p k h = absurd (omega arith)
 units-inside (suc r) p k h =
     ⊎-elim
@@ -63,7 +64,7 @@ linear-residue {F = F} L a = ap F (fun-ext (λ j. sym (one-mul (a j)))) ∙ L .m
 
 linear-weightedSum : {J : Type 0} {F : (J → ℕ) → ℕ} → Linear F → (r : ℕ) (p : ℕ → ℕ) (v : ℕ → J → ℕ)
     → F (λ i. weightedSum r p (λ j. v j i)) ≡ weightedSum r p (λ j. F (v j))
-unfolding weightedSum
+unfolding weightedSum sumOf
 linear-weightedSum L zero p v = linear-zero L
 linear-weightedSum L (suc r) p v =
     linear-sum L _ (λ i. p r ⊗ v r i) ∙ ap₂ _⊕_ (linear-weightedSum L r p v) (L .mul (p r) (v r))

@@ -97,8 +97,8 @@ corners-sum X t l m n =
 pub rectangle-true : (h w : ℕ) (S X : ℕ → ℕ → ℕ)
     → ((y x : ℕ) → y < h → x < w → S y x ≡ serialPasses summedAreaTable h w X 4 y x)
     → (top left bottom right : ℕ) → top ≤ bottom → left ≤ right → bottom ≤ h → right ≤ w
-    → rectangleSum S top left bottom right ≡ sumInside X top left bottom right
-unfolding rectangleSum sumInside
+    → rectangleSum S top left bottom right ≡ sumInside sumOf X top left bottom right
+unfolding rectangleSum
 rectangle-true h w S X e t l b r p q u v =
     let y : b ≡ t + (b - t) = omega arith in
     let x : r ≡ l + (r - l) = omega arith in
@@ -123,7 +123,7 @@ pub rectangle-heights : (h w : ℕ) (S : ℕ → ℕ → ℕ) (heights : ℕ →
     → ((y x : ℕ) → y < h → x < w → S y x ≡ serialPasses summedAreaTable h w (λ y x. pixel (heights y x)) 4 y x)
     → (top left bottom right : ℕ) → top ≤ bottom → left ≤ right → bottom ≤ h → right ≤ w
     → rectangleSum S top left bottom right ≡ residue (heightsInside heights top left bottom right)
-unfolding sumInside heightsInside pixel
+unfolding heightsInside pixel
 rectangle-heights h w S heights e t l b r p q u v =
     rectangle-true h w S _ e t l b r p q u v
     ∙ ap (sumOf (r - l)) (fun-ext (λ k. sumOf-residue (b - t) (λ j. heights (t + j) (l + k))))

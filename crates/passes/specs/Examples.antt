@@ -1,12 +1,13 @@
--- A few examples that hold the definitions of this crate, as one list of what they compute and what document 01's words give,
--- worked by hand. The starred examples of document 01 stand in worked_examples.
+-- A few examples that hold the definitions of this crate, as one list of what they compute and what document 01's words
+-- give, worked by hand. The starred examples of document 01 stand in worked_examples.
 use mathlib.Core.List.{List, [], _∷_, map}
-use Prim.Native.Nat.{ℕ, zero, suc, _*_, _/_, _%_}
-use lib.ListN.{length, getD}
+use Prim.Native.Nat.{ℕ, zero, suc, _*_}
+use lib.ListN.{length}
 use lib.IntN.{ℤ, pos, negℤ}
 use Rattle.word.specs.Word.{residue}
-use Rattle.passes.specs.Filter.{Filter}
+use Rattle.passes.specs.Filter.{Filter, filterOfNumbers}
 use Rattle.passes.specs.Passes.{serialPasses}
+use Rattle.buffer.specs.Lists.{listOf, byPlace}
 use Rattle.buffer.specs.Pixel.{heightMap}
 use Rattle.passes.specs.Table.{runningSum, unchanged, summedAreaTable, rectangleSum}
 
@@ -17,12 +18,7 @@ pub record Example : Type 0 where
 
 -- The filter with a gain and the coefficients d1 to dr, given as signed numbers.
 unfoldable pub filterOf : ℤ → List ℤ → Filter
-filterOf gain coefficients =
-    record {
-      gain = residue gain;
-      order = length coefficients;
-      coefficient = λ k. residue (getD coefficients k (pos 0));
-    }
+filterOf gain coefficients = filterOfNumbers gain (length coefficients) coefficients
 
 -- The filters of the four passes.
 unfoldable pub passesOf : (down up right left : Filter) → ℕ → Filter
@@ -31,19 +27,11 @@ passesOf down up right left (suc zero) = up
 passesOf down up right left (suc (suc zero)) = right
 passesOf down up right left (suc (suc (suc t))) = left
 
--- The first n words of a map with w words in a row, row after row.
-unfoldable pub firstWords : ℕ → ℕ → (ℕ → ℕ → ℕ) → List ℕ
-firstWords w n X = collect n 0
-  where
-    collect : ℕ → ℕ → List ℕ
-    collect zero q = []
-    collect (suc n) q = X (q / w) (q % w) ∷ collect n (suc q)
-
 -- A map of h rows and w columns after the first t passes.
 unfoldable pub passesExample : (ℕ → Filter) → (h w : ℕ) → List ℤ → (t : ℕ) → List ℤ → Example
 passesExample filters h w heights t words =
     record {
-      computed = firstWords w (h * w) (serialPasses filters h w (heightMap w heights) t);
+      computed = listOf (byPlace w (serialPasses filters h w (heightMap w heights) t)) (h * w);
       expected = map residue words;
     }
 

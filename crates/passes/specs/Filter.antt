@@ -1,12 +1,20 @@
 -- The filter of one pass, and its step: document 01, 'The four passes'.
+use mathlib.Core.List.{List}
 use Prim.Native.Nat.{ℕ, zero, suc}
-use Rattle.word.specs.Word.{_⊖_, _⊗_}
+use lib.IntN.{ℤ}
+use Rattle.word.specs.Word.{_⊖_, _⊗_, residue}
+use Rattle.buffer.specs.Lists.{numberAt}
 
 -- A pass's gain g, its order r, and its coefficients d1 to dr, d1 at place 0; places past the order are not read.
 pub record Filter : Type 0 where
   pub gain : ℕ
   pub order : ℕ
   pub coefficient : ℕ → ℕ
+
+-- The filter of a gain, an order and a list of coefficients, signed numbers that enter as residues modulo 2^64.
+abbrev pub filterOfNumbers : (gain : ℤ) → (order : ℕ) → (coefficients : List ℤ) → Filter
+filterOfNumbers gain order coefficients =
+    record { gain = residue gain; order = order; coefficient = λ k. residue (numberAt coefficients k) }
 
 -- A word v less the feedback of the first r coefficients d: v - d1 × y[i-1] - .. - dr × y[i-r], the outputs y nearest
 -- first.

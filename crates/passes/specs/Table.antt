@@ -29,19 +29,19 @@ unfoldable pub sumOf : ℕ → (ℕ → ℕ) → ℕ
 sumOf zero f = 0
 sumOf (suc n) f = sumOf n f ⊕ f n
 
--- The sum of a map's words in the rectangle from row top and column left to before row bottom and column right.
-unfoldable pub sumInside : (ℕ → ℕ → ℕ) → (top left bottom right : ℕ) → ℕ
-sumInside X top left bottom right = sumOf (right - left) (λ k. sumOf (bottom - top) (λ j. X (top + j) (left + k)))
-
 -- z 0 + .. + z (n-1), of signed numbers.
 unfoldable pub signedSumOf : ℕ → (ℕ → ℤ) → ℤ
 signedSumOf zero z = pos 0
 signedSumOf (suc n) z = signedSumOf n z +ℤ z n
 
--- The sum of the heights in that rectangle, as a signed number.
+-- The sum over the rectangle from row top and column left to before row bottom and column right, where `sum` adds up
+-- the first values of a function.
+abbrev pub sumInside : {A : Type 0} → (sum : ℕ → (ℕ → A) → A) → (ℕ → ℕ → A) → (top left bottom right : ℕ) → A
+sumInside sum X top left bottom right = sum (right - left) (λ k. sum (bottom - top) (λ j. X (top + j) (left + k)))
+
+-- The sum of the heights in a rectangle, as a signed number.
 unfoldable pub heightsInside : (ℕ → ℕ → ℤ) → (top left bottom right : ℕ) → ℤ
-heightsInside heights top left bottom right =
-    signedSumOf (right - left) (λ k. signedSumOf (bottom - top) (λ j. heights (top + j) (left + k)))
+heightsInside heights top left bottom right = sumInside signedSumOf heights top left bottom right
 
 -- A table S at (row - 1, column - 1), a row or column of -1 counting as 0.
 unfoldable pub cornerOf : (ℕ → ℕ → ℕ) → (row column : ℕ) → ℕ

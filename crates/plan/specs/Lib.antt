@@ -1,2 +1,3 @@
 pub mod Rules
 pub mod Sizes
+pub mod PaddedLine

@@ -21,13 +21,17 @@ orderOf plan pass = passAt plan pass .order
 abbrev pub orderSum : Plan → ℕ → ℕ
 orderSum plan count = total (orderOf plan) count
 
--- Words: size, block, pass and gain of four passes, the coefficients, and the end.
+-- The words that every plan has: size, block, pass and gain of four passes, and the end.
+abbrev pub fixedWords : ℕ
+fixedWords = 11
+
+-- Those, and the coefficients.
 abbrev pub wordCount : Plan → ℕ
-wordCount plan = 11 + orderSum plan 4
+wordCount plan = fixedWords + orderSum plan 4
 
 -- The most words that a plan can have: 27.
 abbrev pub wordLimit : ℕ
-wordLimit = 11 + 4 * orderLimit
+wordLimit = fixedWords + 4 * orderLimit
 
 -- M×N marks.
 abbrev pub neededMarks : Plan → ℕ

@@ -14,8 +14,15 @@ ghost use Rattle.plan.specs.Sizes.{orderSum, sizesOf, planSizes, sizesGi
 // The largest order of a pass: `orderLimit` of specs/Rules.antt is the same number.
 pub const ORDER_LIMIT: usize = 4;
 
-// The most words that a plan can have: `wordLimit` of specs/Sizes.antt is the same number.
-pub const WORD_LIMIT: usize = 11 + 4 * ORDER_LIMIT;
+// The words that every plan has, and the most that one can have: `fixedWords` and `wordLimit` of specs/Sizes.antt are the same
+// numbers.
+const FIXED_WORDS: usize = 11;
+
+pub const WORD_LIMIT: usize = FIXED_WORDS + 4 * ORDER_LIMIT;
+
+// The longest line of a block, with a margin of ORDER_LIMIT places at both ends: `paddedLine` of specs/PaddedLine.antt is
+// the same number.
+pub const PADDED_LINE: usize = grid::SIDE_LIMIT + 2 * ORDER_LIMIT;
 
 // One pass: its order, its gain and its coefficients, zero past the order.
 pub struct Pass {
@@ -78,7 +85,7 @@ impl Plan {
         let orders = self.order_sum(4);
         let marks = block_rows * block_columns;
         Sizes {
-            words: 11 + orders,
+            words: FIXED_WORDS + orders,
             block_rows: block_rows,
             block_columns: block_columns,
             marks: marks,
@@ -88,16 +95,17 @@ impl Plan {
         }
     }
 
-    // The sum of the orders of the first `count` passes.
+    // The sum of the orders of the first `count` passes. The loop goes over all four: the compiler unrolls it, and copies no
+    // plan to index into.
     pub fn order_sum(self, count: usize) -> usize
         requires { ⌜ (keepsRules self ≡ true) × (count ≤ 4) ⌝ }
         ensures { λ r. ⌜ r ≡ orderSum self count ⌝ }
     {
         let mut sum = 0;
         let mut i = 0;
-        while i < count {
+        while i < 4 {
             let pass = self.passes[i];
-            sum += pass.order;
+            sum += number::if_below(i, count, pass.order);
             i += 1;
         }
         sum

@@ -1,21 +1,24 @@
--- What the rows of a due word and of the block side answer, and the rows of several words or passes with one more.
+-- What the rows of a due word and of the block side answer, and those of several words or passes, one behind another.
 -- Assumes nothing.
 use mathlib.Core.Path.{_≡_, refl}
 use mathlib.Core.Bool.{Bool, true, false}
 use mathlib.Core.List.{List}
-use Prim.Native.Nat.{ℕ, _+_, _<_, _≤_}
+use mathlib.Core.Logic.{⊎-elim}
+use Prim.Native.Nat.{ℕ, zero, suc, _+_, _<_, _≤_}
+use native.Mathlib.Omega.{arith}
+use native.Mathlib.Nat.{eq-or-lt-of-le}
 use native.Mathlib.Numerals.{add-one}
-use lib.Dec.{leb}
 use lib.ListN.{length}
 use borrow.Author.Tests.{lt-ltb, le-ltb, le-leb, lt-leb, eq-eqb, ne-eqb}
 use Rattle.refusal.specs.Refusals.{Answer, accepted, refused}
-use Rattle.refusal.specs.Table.{firstDue, firstOf}
-use Rattle.refusal.proofs.Table.{first-append}
+use Rattle.refusal.specs.Table.{Row, firstDue, firstOf}
+use Rattle.refusal.proofs.Table.{first-append, tests-rows, both-accepted, rows-accepted}
 use Rattle.number.specs.Numbers.{allBelow}
-use Rattle.buffer.specs.Lists.{wordAt}
+use Rattle.buffer.specs.Lists.{wordAt, joined}
 use Rattle.number.proofs.Tests.{all-fails}
-use Rattle.plan_reader.specs.PlanWords.{kindOf, sizeAllowed, sideAllowed, passAllowed, endAllowed}
-use Rattle.plan_reader.specs.ReadPlan.{payloadAt, orderAt, passPlace, wordRows, headRows, coefficientRows, passRows, passesRows, endRows, sideRows, planRows}
+use Rattle.plan_reader.specs.PlanWords.{sizeAllowed, sideAllowed, passAllowed, endAllowed}
+use Rattle.plan_reader.specs.ReadPlan.{payloadAt, orderAt, passPlace, wordRows, headRows, coefficientRows, passRows, passesRows, endRows, sideReaches, sideRows, planRows}
+use Rattle.number.specs.KindWords.{kindOf}
 
 module _ (words : List ℕ) (place kind : ℕ) where
   pub word-missing :
@@ -39,10 +42,6 @@ module _ (words : List ℕ) (place kind : ℕ) where
       unfolding wordRows
       word-accepted = simp (lt-leb _ _ present, eq-eqb _ _ due)
 
--- The block side is at least the order of pass i.
-abbrev pub sideReaches : List ℕ → ℕ → Bool
-sideReaches words i = leb (orderAt words (passPlace words i)) (payloadAt words 1)
-
 module _ (words : List ℕ) where
   pub side-below : (i : ℕ) → i < 4 → payloadAt words 1 < orderAt words (passPlace words i)
       → firstDue (sideRows words) ≡ refused 4 1
@@ -55,51 +54,58 @@ module _ (words : List ℕ) where
 
 -- ---- tests one after another answer as their rows do
 
-module _ (words : List ℕ) where
-  pub coefficients-none : (place : ℕ) → accepted ≡ firstDue (coefficientRows words place 0)
-  unfolding coefficientRows
-  coefficients-none place = refl
+module _ (rows : ℕ → List Row) where
+  pub joined-none : accepted ≡ firstDue (joined rows 0)
+  unfolding joined
+  joined-none = refl
 
-  pub passes-none : accepted ≡ firstDue (passesRows words 0)
-  unfolding passesRows
-  passes-none = refl
+  pub joined-more : {answer earlier later : Answer} → answer ≡ firstOf earlier later → (count : ℕ)
+      → earlier ≡ firstDue (joined rows count) → later ≡ firstDue (rows count) → answer ≡ firstDue (joined rows (count + 1))
+  unfolding joined
+  joined-more decided count e f = rw (add-one count) (tests-rows (joined rows count) (rows count) decided e f)
 
-  module _ {answer earlier later : Answer} (decided : answer ≡ firstOf earlier later) where
-    pub head-rows : earlier ≡ firstDue (wordRows words 0 1 (sizeAllowed (payloadAt words 0)))
-        → later ≡ firstDue (wordRows words 1 2 (sideAllowed (payloadAt words 1))) → answer ≡ firstDue (headRows words)
-    unfolding headRows
-    head-rows e f = rw (decided, e, f, first-append)
+  -- All are accepted where each is, and each where all are.
+  pub joined-accepted : (count : ℕ) → ((i : ℕ) → i < count → firstDue (rows i) ≡ accepted)
+      → firstDue (joined rows count) ≡ accepted
+  unfolding joined
+  joined-accepted zero each = refl
+  joined-accepted (suc count) each =
+      rw first-append (both-accepted (joined-accepted count (λ i h. each i (omega arith))) (each count (omega arith)))
 
-    pub coefficients-more : (place count : ℕ) → earlier ≡ firstDue (coefficientRows words place count)
-        → later ≡ firstDue (wordRows words (place + count) 5 true) → answer ≡ firstDue (coefficientRows words place (count + 1))
-    unfolding coefficientRows
-    coefficients-more place count e f = rw (decided, e, f, add-one count, first-append)
+  pub each-accepted : (count i : ℕ) → firstDue (joined rows count) ≡ accepted → i < count → firstDue (rows i) ≡ accepted
+  unfolding joined
+  each-accepted zero i all h = absurd (omega arith)
+  each-accepted (suc count) i all h =
+      let both = rows-accepted (joined rows count) (rows count) all in
+      ⊎-elim (λ (e : i ≡ count). rw e (both .1)) (λ (l : i < count). each-accepted count i (both .0) l)
+      (eq-or-lt-of-le {n = i} {m = count} (omega arith))
 
-    pub passes-more : (count : ℕ) → earlier ≡ firstDue (passesRows words count)
-        → later ≡ firstDue (passRows words count (passPlace words count)) → answer ≡ firstDue (passesRows words (count + 1))
-    unfolding passesRows
-    passes-more count e f = rw (decided, e, f, add-one count, first-append)
+module _ (words : List ℕ) {answer earlier later : Answer} (decided : answer ≡ firstOf earlier later) where
+  pub head-rows : earlier ≡ firstDue (wordRows words 0 1 (sizeAllowed (payloadAt words 0)))
+      → later ≡ firstDue (wordRows words 1 2 (sideAllowed (payloadAt words 1))) → answer ≡ firstDue (headRows words)
+  unfolding headRows
+  head-rows e f = rw (decided, e, f, first-append)
 
-    module _ (place : ℕ) (word : earlier ≡ firstDue (wordRows words place 6 (endAllowed (payloadAt words place)))) where
-      pub end-followed : place + 1 < length words → later ≡ refused 5 (place + 1) → answer ≡ firstDue (endRows words place)
-      unfolding endRows
-      end-followed more e = rw (decided, word, e, first-append, lt-ltb _ _ more)
+  module _ (place : ℕ) (word : earlier ≡ firstDue (wordRows words place 6 (endAllowed (payloadAt words place)))) where
+    pub end-followed : place + 1 < length words → later ≡ refused 5 (place + 1) → answer ≡ firstDue (endRows words place)
+    unfolding endRows
+    end-followed more e = rw (decided, word, e, first-append, lt-ltb _ _ more)
 
-      pub end-last : length words ≤ place + 1 → later ≡ accepted → answer ≡ firstDue (endRows words place)
-      unfolding endRows
-      end-last none e = rw (decided, word, e, first-append, le-ltb _ _ none)
+    pub end-last : length words ≤ place + 1 → later ≡ accepted → answer ≡ firstDue (endRows words place)
+    unfolding endRows
+    end-last none e = rw (decided, word, e, first-append, le-ltb _ _ none)
 
-    pub pass-rows : {gain coefficients : Answer} (i place : ℕ) → later ≡ firstOf gain coefficients
-        → earlier ≡ firstDue (wordRows words place 3 (passAllowed i (payloadAt words place)))
-        → gain ≡ firstDue (wordRows words (place + 1) 4 true)
-        → coefficients ≡ firstDue (coefficientRows words (place + 2) (orderAt words place))
-        → answer ≡ firstDue (passRows words i place)
-    unfolding passRows
-    pass-rows i place then e f g = rw (decided, then, e, f, g, first-append, first-append)
+  pub pass-rows : {gain coefficients : Answer} (i place : ℕ) → later ≡ firstOf gain coefficients
+      → earlier ≡ firstDue (wordRows words place 3 (passAllowed i (payloadAt words place)))
+      → gain ≡ firstDue (wordRows words (place + 1) 4 true)
+      → coefficients ≡ firstDue (coefficientRows words (place + 2) (orderAt words place))
+      → answer ≡ firstDue (passRows words i place)
+  unfolding passRows
+  pass-rows i place then e f g = rw (decided, then, e, f, g, first-append, first-append)
 
-    pub plan-rows : {passes last end side : Answer} → later ≡ firstOf passes last → last ≡ firstOf end side
-        → earlier ≡ firstDue (headRows words) → passes ≡ firstDue (passesRows words 4)
-        → end ≡ firstDue (endRows words (passPlace words 4)) → side ≡ firstDue (sideRows words)
-        → answer ≡ firstDue (planRows words)
-    unfolding planRows
-    plan-rows then at-last e f g h = rw (decided, then, at-last, e, f, g, h, first-append, first-append, first-append)
+  pub plan-rows : {passes last end side : Answer} → later ≡ firstOf passes last → last ≡ firstOf end side
+      → earlier ≡ firstDue (headRows words) → passes ≡ firstDue (passesRows words 4)
+      → end ≡ firstDue (endRows words (passPlace words 4)) → side ≡ firstDue (sideRows words)
+      → answer ≡ firstDue (planRows words)
+  unfolding planRows
+  plan-rows then at-last e f g h = rw (decided, then, at-last, e, f, g, h, first-append, first-append, first-append)

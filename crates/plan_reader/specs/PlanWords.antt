@@ -1,19 +1,11 @@
--- Plan words, document 01's table: a word's kind and payload, and what a payload of each kind holds and may be.
+-- Plan words, document 01's table: what a payload of each kind holds and may be.
 use mathlib.Core.Bool.{Bool, _&&_, cond}
-use Prim.Native.Nat.{ℕ, suc, _-_, _/_, _%_}
+use Prim.Native.Nat.{ℕ, suc, _-_, _/_, _%_, _^_}
 use lib.IntN.{ℤ, pos, negsuc}
 use lib.Dec.{ltb, leb, eqb}
 use Rattle.plan.specs.Rules.{orderLimit}
 use Rattle.number.specs.Numbers.{within}
 use Rattle.grid.specs.Grid.{sizeLimit, sideLimit}
-
--- The kind of a word of 32 bits: its top four bits.
-abbrev pub kindOf : ℕ → ℕ
-kindOf word = word / 268435456
-
--- The payload of a word: its low 28 bits.
-abbrev pub payloadOf : ℕ → ℕ
-payloadOf word = word % 268435456
 
 -- Size, kind 1: the rows in bits 13 to 25.
 abbrev pub rowsIn : ℕ → ℕ
@@ -49,6 +41,10 @@ passAllowed pass payload =
 abbrev pub endAllowed : ℕ → Bool
 endAllowed payload = eqb payload 0
 
--- Gain and coefficient, kinds 4 and 5: signed 28 bits, two's complement: the payload, less 2^28 from 2^27 on.
+-- A number of some bits as a signed one, two's complement: less 2^bits where its top bit is set.
+unfoldable pub twosComplement : (bits : ℕ) → ℕ → ℤ
+twosComplement bits n = cond (ltb n (2 ^ (bits - 1))) (pos n) (negsuc (2 ^ bits - suc n))
+
+-- Gain and coefficient, kinds 4 and 5: signed 28 bits.
 unfoldable pub signed28 : ℕ → ℤ
-signed28 payload = cond (ltb payload 134217728) (pos payload) (negsuc (268435456 - suc payload))
+signed28 payload = twosComplement 28 payload

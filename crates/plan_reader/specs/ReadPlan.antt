@@ -11,9 +11,10 @@ use Rattle.plan.specs.declared.Pass.{Pass}
 use Rattle.plan.specs.declared.Plan.{Plan}
 use Rattle.plan.specs.Rules.{orderLimit}
 use Rattle.number.specs.Numbers.{allBelow}
-use Rattle.buffer.specs.Lists.{wordAt, listOf}
+use Rattle.buffer.specs.Lists.{wordAt, listOf, joined}
 use Rattle.plan_reader.specs.declared.PlanRead.{PlanRead}
-use Rattle.plan_reader.specs.PlanWords.{kindOf, payloadOf, rowsIn, columnsIn, sizeAllowed, sideAllowed, orderIn, passAllowed, endAllowed, signed28}
+use Rattle.plan_reader.specs.PlanWords.{rowsIn, columnsIn, sizeAllowed, sideAllowed, orderIn, passAllowed, endAllowed, signed28}
+use Rattle.number.specs.KindWords.{kindOf, payloadOf}
 
 -- The payload of the word at a place.
 abbrev pub payloadAt : List ℕ → ℕ → ℕ
@@ -50,8 +51,7 @@ headRows words =
 
 -- The first `count` coefficient words, from a place on.
 unfoldable pub coefficientRows : List ℕ → (place count : ℕ) → List Row
-coefficientRows words place zero = []
-coefficientRows words place (suc count) = coefficientRows words place count ++ wordRows words (place + count) 5 true
+coefficientRows words place count = joined (λ j. wordRows words (place + j) 5 true) count
 
 -- Pass i, its pass word at a place: pass word, gain word, and as many coefficient words as the order says.
 unfoldable pub passRows : List ℕ → (i place : ℕ) → List Row
@@ -61,8 +61,7 @@ passRows words i place =
 
 -- The first `count` passes.
 unfoldable pub passesRows : List ℕ → (count : ℕ) → List Row
-passesRows words zero = []
-passesRows words (suc count) = passesRows words count ++ passRows words count (passPlace words count)
+passesRows words count = joined (λ i. passRows words i (passPlace words i)) count
 
 -- The end word stands at a place, and then: 5 if a word follows it.
 unfoldable pub endRows : List ℕ → (place : ℕ) → List Row
@@ -70,10 +69,13 @@ endRows words place =
     wordRows words place 6 (endAllowed (payloadAt words place))
     ++ (5 at place + 1 when ltb (place + 1) (length words) ∷ [])
 
+-- The block side is at least the order of pass i.
+abbrev pub sideReaches : List ℕ → ℕ → Bool
+sideReaches words i = leb (orderAt words (passPlace words i)) (payloadAt words 1)
+
 -- 4 if the block side is below an order.
 unfoldable pub sideRows : List ℕ → List Row
-sideRows words =
-    4 at 1 when not (allBelow (λ i. leb (orderAt words (passPlace words i)) (payloadAt words 1)) 4) ∷ []
+sideRows words = 4 at 1 when not (allBelow (sideReaches words) 4) ∷ []
 
 -- All words from left to right; then 5, then 4.
 unfoldable pub planRows : List ℕ → List Row

@@ -8,9 +8,10 @@ ghost use mathlib.Core.Path.{_≡_};
 ghost use Prim.Native.Nat.{_+_, _<_, _≤_, _%_};
 ghost use Rattle.refusal.specs.Table.{firstDue, answerOf};
 ghost use Rattle.plan.specs.Rules.{orderLimit};
-ghost use Rattle.buffer.specs.Lists.{wordAt, listOf};
-ghost use Rattle.plan_reader.specs.PlanWords.{sizeAllowed, passAllowed, signed28};
+ghost use Rattle.buffer.specs.Lists.{wordAt};
+ghost use Rattle.plan_reader.specs.PlanWords.{rowsIn, columnsIn, sizeAllowed, orderIn, passAllowed, signed28};
 ghost use Rattle.plan_reader.specs.ReadPlan.{payloadAt, orderAt, passPlace, wordRows, headRows, coefficientRows, passRows, passesRows, endRows, sideRows, planRows, coefficientIn, passFrom, planFrom, zeroPass, zeroPlan, readPlan, readGiven};
+ghost use Rattle.number.specs.KindWords.{payloadLimit};
 
 // The plan that was read, or a plan of zeros beside a refusal.
 pub struct PlanRead {
@@ -47,13 +48,13 @@ fn word_at(words: &[u32], place: usize) -> u32
 fn payload_at(words: &[u32], place: usize) -> u32
     ensures { λ r. ⌜ r ≡ payloadAt (now (words .entry)) place ⌝ }
 {
-    word_at(words, place) % 268435456
+    number::payload_of(word_at(words, place))
 }
 
 fn order_at(words: &[u32], place: usize) -> usize
     ensures { λ r. ⌜ r ≡ orderAt (now (words .entry)) place ⌝ }
 {
-    (payload_at(words, place) % 16) as usize
+    order_in(payload_at(words, place))
 }
 
 // The place of the pass word of pass i, of the end word for i = 4.
@@ -70,13 +71,31 @@ fn pass_place(words: &[u32], i: usize) -> usize
     place
 }
 
+fn rows_in(payload: u32) -> usize
+    ensures { λ r. ⌜ r ≡ rowsIn payload ⌝ }
+{
+    (payload / 8192 % 8192) as usize
+}
+
+fn columns_in(payload: u32) -> usize
+    ensures { λ r. ⌜ r ≡ columnsIn payload ⌝ }
+{
+    (payload % 8192) as usize
+}
+
+fn order_in(payload: u32) -> usize
+    ensures { λ r. ⌜ r ≡ orderIn payload ⌝ }
+{
+    (payload % 16) as usize
+}
+
 fn size_allowed(payload: u32) -> bool
     ensures { λ r. ⌜ r ≡ sizeAllowed payload ⌝ }
 {
-    if !number::within((payload / 8192 % 8192) as usize, grid::SIZE_LIMIT) {
+    if !number::within(rows_in(payload), grid::SIZE_LIMIT) {
         return false;
     }
-    if !number::within((payload % 8192) as usize, grid::SIZE_LIMIT) {
+    if !number::within(columns_in(payload), grid::SIZE_LIMIT) {
         return false;
     }
     payload / 67108864 == 0
@@ -88,7 +107,7 @@ fn pass_allowed(pass: usize, payload: u32) -> bool
     if (payload / 16 % 4) as usize != pass {
         return false;
     }
-    if plan::ORDER_LIMIT < (payload % 16) as usize {
+    if plan::ORDER_LIMIT < order_in(payload) {
         return false;
     }
     payload / 64 == 0
@@ -96,13 +115,13 @@ fn pass_allowed(pass: usize, payload: u32) -> bool
 
 // A payload of signed 28 bits.
 fn decode_signed28(payload: u32) -> i64
-    requires { ⌜ payload < 268435456 ⌝ }
+    requires { ⌜ payload < payloadLimit ⌝ }
     ensures { λ r. ⌜ r ≡ signed28 payload ⌝ }
 {
     if payload < 134217728 {
         payload as i64
     } else {
-        payload as i64 - 268435456
+        payload as i64 - number::PAYLOAD_LIMIT as i64
     }
 }
 
@@ -115,7 +134,7 @@ fn word_outcome(words: &[u32], place: usize, kind: u32, allowed: bool) -> Outcom
     if count <= place {
         return Outcome::Refused(Refusal::WordsEndEarly(count));
     }
-    if words[place] / 268435456 != kind {
+    if number::kind_of(words[place]) != kind {
         return Outcome::Refused(Refusal::AnotherKindDue(place));
     }
     if !allowed {
@@ -223,7 +242,7 @@ fn coefficient_in(words: &[u32], place: usize, j: usize) -> i64
 
 fn coefficients_from(words: &[u32], place: usize) -> [i64; plan::ORDER_LIMIT]
     requires { ⌜ place ≤ 1000 ⌝ }
-    ensures { λ r. ⌜ r ≡ listOf (coefficientIn (now (words .entry)) place) orderLimit ⌝ }
+    ensures { λ r. ⌜ r ≡ passFrom (now (words .entry)) place .coefficients ⌝ }
 {
     let mut coefficients = [0; plan::ORDER_LIMIT];
     let mut j = 0;
@@ -250,7 +269,7 @@ fn pass_from(words: &[u32], place: usize) -> Pass
 }
 
 fn passes_from(words: &[u32]) -> [Pass; 4]
-    ensures { λ r. ⌜ r ≡ listOf (λ i. passFrom (now (words .entry)) (passPlace (now (words .entry)) i)) 4 ⌝ }
+    ensures { λ r. ⌜ r ≡ planFrom (now (words .entry)) .passes ⌝ }
 {
     let empty = zero_pass();
     let mut passes = [empty; 4];
@@ -270,8 +289,8 @@ fn plan_from(words: &[u32]) -> Plan
     let side = payload_at(words, 1);
     let passes = passes_from(words);
     let grid = Grid {
-        rows: (size / 8192 % 8192) as usize,
-        columns: (size % 8192) as usize,
+        rows: rows_in(size),
+        columns: columns_in(size),
         side: side as usize,
     };
     Plan {
@@ -280,7 +299,7 @@ fn plan_from(words: &[u32]) -> Plan
     }
 }
 
-fn zero_pass() -> Pass
+pub fn zero_pass() -> Pass
     ensures { λ r. ⌜ r ≡ zeroPass ⌝ }
 {
     Pass {

@@ -1,7 +1,7 @@
 -- The words of a record: a size as a signed number, and an array that is filled from its front. Assumes nothing.
 use mathlib.Core.Path.{_≡_, refl, sym, ap, _∙_}
 use mathlib.Core.List.{List, [], _∷_, _++_, append-assoc}
-use Prim.Native.Nat.{ℕ, _+_, _*_, _<_, _≤_, _^_}
+use Prim.Native.Nat.{ℕ, _+_, _<_, _≤_, _^_}
 use native.Mathlib.Omega.{arith}
 use native.Mathlib.Numerals.{add-one}
 use lib.IntN.{ℤ, pos, negsuc}
@@ -11,8 +11,9 @@ use borrow.Author.Tests.{lt-ltb, le-ltb}
 use Rattle.plan.specs.declared.Pass.{Pass}
 use Rattle.plan.specs.declared.Plan.{Plan}
 use Rattle.plan.specs.Rules.{orderLimit, passAt}
+use Rattle.buffer.specs.Lists.{joined}
 use Rattle.plan_reader.specs.ReadPlan.{zeroPlan}
-use Rattle.plan_record.specs.Records.{passLength, recordLength, numberFrom, recordOfPass, recordOfPasses, recordOfPlan}
+use Rattle.plan_record.specs.Records.{passLength, passStart, recordLength, numberFrom, recordOfPass, recordOfPasses, recordOfPlan}
 
 pub number-held : (size : ℕ) → size < 2 ^ 63 → numberFrom size ≡ pos size
 number-held size h = simp (lt-ltb size 9223372036854775808 h)
@@ -74,24 +75,24 @@ pub front-none :
     (plan : Plan) {a b c : ℤ} → a ≡ numberFrom (plan .grid .rows) → b ≡ numberFrom (plan .grid .columns)
     → c ≡ numberFrom (plan .grid .side)
     → (a ∷ (b ∷ (c ∷ []))) ≡ front plan 0
-unfolding front recordOfPasses
+unfolding front recordOfPasses joined
 front-none plan p q r = rw (p, q, r)
 
 pub front-more :
-    (plan : Plan) (i : ℕ) (words filled : List ℤ) → take (3 + i * passLength) words ≡ front plan i
-    → take (3 + i * passLength + passLength) filled ≡ take (3 + i * passLength) words ++ recordOfPass (passAt plan i)
-    → take (3 + (i + 1) * passLength) filled ≡ front plan (i + 1)
-unfolding front recordOfPasses
+    (plan : Plan) (i : ℕ) (words filled : List ℤ) → take (passStart i) words ≡ front plan i
+    → take (passStart i + passLength) filled ≡ take (passStart i) words ++ recordOfPass (passAt plan i)
+    → take (passStart (i + 1)) filled ≡ front plan (i + 1)
+unfolding front recordOfPasses joined
 front-more plan i words filled e f =
-    let n : 3 + (i + 1) * passLength ≡ 3 + i * passLength + passLength = omega arith in
+    let n : passStart (i + 1) ≡ passStart i + passLength = omega arith in
     rw (n, add-one i, f, e)
 
-pub front-all : (plan : Plan) (words : List ℤ) → length words ≡ recordLength → take (3 + 4 * passLength) words ≡ front plan 4
+pub front-all : (plan : Plan) (words : List ℤ) → length words ≡ recordLength → take recordLength words ≡ front plan 4
     → words ≡ recordOfPlan plan
 unfolding front recordOfPlan
 front-all plan words e f = sym (take-all-of words recordLength e) ∙ f
 
 -- What stands beside a refusal: the record of a plan of zeros is all zeros.
 pub zero-record : recordOfPlan zeroPlan ≡ replicate recordLength (pos 0)
-unfolding recordOfPlan recordOfPasses recordOfPass
+unfolding recordOfPlan recordOfPasses joined recordOfPass
 zero-record = refl

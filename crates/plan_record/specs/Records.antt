@@ -1,27 +1,26 @@
 -- The C record of a plan: rows, columns and side, and then of each pass its order, its gain and its coefficients, each a
 -- signed number of 64 bits.
 use mathlib.Core.Bool.{cond}
-use mathlib.Core.List.{List, [], _∷_, _++_}
-use Prim.Native.Nat.{ℕ, zero, suc, _+_, _*_}
+use mathlib.Core.List.{List, _∷_}
+use Prim.Native.Nat.{ℕ, _+_, _*_}
 use lib.IntN.{ℤ, pos, negsuc}
 use lib.Dec.{ltb}
-use lib.ListN.{getD}
 use Rattle.plan.specs.declared.Pass.{Pass}
 use Rattle.plan.specs.declared.Plan.{Plan}
 use Rattle.plan.specs.Rules.{orderLimit, passAt}
-use Rattle.buffer.specs.Lists.{listOf}
+use Rattle.buffer.specs.Lists.{listOf, joined, numberAt}
 
 -- The words of a pass in the record: order, gain, and a place for each coefficient.
 abbrev pub passLength : ℕ
 passLength = 2 + orderLimit
 
--- The words of a record: rows, columns and side, and four passes.
-abbrev pub recordLength : ℕ
-recordLength = 3 + 4 * passLength
+-- The place of the first word of pass i: rows, columns and side stand before the passes.
+abbrev pub passStart : ℕ → ℕ
+passStart i = 3 + i * passLength
 
--- A word of a record.
-abbrev pub numberAt : List ℤ → ℕ → ℤ
-numberAt words place = getD words place (pos 0)
+-- The words of a record: up to the end of four passes.
+abbrev pub recordLength : ℕ
+recordLength = passStart 4
 
 -- ---- from the C record
 
@@ -49,7 +48,7 @@ planOfRecord words =
             columns = sizeFrom (numberAt words 1);
             side = sizeFrom (numberAt words 2);
           };
-      passes = listOf (λ i. passOfRecord words (3 + i * passLength)) 4;
+      passes = listOf (λ i. passOfRecord words (passStart i)) 4;
     }
 
 -- ---- to the C record
@@ -64,8 +63,7 @@ recordOfPass pass = numberFrom (pass .order) ∷ pass .gain ∷ pass .coefficien
 
 -- The words of the first `count` passes.
 unfoldable pub recordOfPasses : Plan → ℕ → List ℤ
-recordOfPasses plan zero = []
-recordOfPasses plan (suc count) = recordOfPasses plan count ++ recordOfPass (passAt plan count)
+recordOfPasses plan count = joined (λ i. recordOfPass (passAt plan i)) count
 
 -- The C record of a plan.
 unfoldable pub recordOfPlan : Plan → List ℤ

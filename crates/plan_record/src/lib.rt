@@ -4,17 +4,23 @@ use plan::Pass;
 use plan::Plan;
 ghost use mathlib.Core.Path.{_≡_};
 ghost use mathlib.Core.List.{_++_};
-ghost use Prim.Native.Nat.{_≤_, _+_, _*_};
+ghost use Prim.Native.Nat.{_≤_, _<_, _+_};
 ghost use lib.ListN.{length, take};
-ghost use Rattle.plan.specs.Rules.{orderLimit};
-ghost use Rattle.buffer.specs.Lists.{listOf};
-ghost use Rattle.plan_record.specs.Records.{recordLength, passLength, numberAt, sizeFrom, numberFrom, passOfRecord, planOfRecord, recordOfPass, recordOfPlan};
+ghost use Rattle.plan_record.specs.Records.{recordLength, passLength, passStart, sizeFrom, numberFrom, passOfRecord, planOfRecord, recordOfPass, recordOfPlan};
 
 // The words of a pass: order, gain and a place for each coefficient.
 pub const PASS_LENGTH: usize = 2 + plan::ORDER_LIMIT;
 
 // The words of a record: rows, columns and side, and four passes.
 pub const RECORD_LENGTH: usize = 3 + 4 * PASS_LENGTH;
+
+// The place of the first word of pass i.
+fn pass_start(i: usize) -> usize
+    requires { ⌜ i < 4 ⌝ }
+    ensures { λ r. ⌜ r ≡ passStart i ⌝ }
+{
+    3 + i * PASS_LENGTH
+}
 
 // The plan that a record stands for.
 pub fn plan_of_record(words: &[i64; RECORD_LENGTH]) -> Plan
@@ -47,7 +53,7 @@ fn size_from(number: i64) -> usize
 
 fn coefficients_of_record(words: &[i64; RECORD_LENGTH], place: usize) -> [i64; plan::ORDER_LIMIT]
     requires { ⌜ place + passLength ≤ recordLength ⌝ }
-    ensures { λ r. ⌜ r ≡ listOf (λ j. numberAt (now (words .entry)) (place + 2 + j)) orderLimit ⌝ }
+    ensures { λ r. ⌜ r ≡ passOfRecord (now (words .entry)) place .coefficients ⌝ }
 {
     let mut coefficients = [0; plan::ORDER_LIMIT];
     let mut j = 0;
@@ -73,17 +79,13 @@ fn pass_of_record(words: &[i64; RECORD_LENGTH], place: usize) -> Pass
 }
 
 fn passes_of_record(words: &[i64; RECORD_LENGTH]) -> [Pass; 4]
-    ensures { λ r. ⌜ r ≡ listOf (λ i. passOfRecord (now (words .entry)) (3 + i * passLength)) 4 ⌝ }
+    ensures { λ r. ⌜ r ≡ planOfRecord (now (words .entry)) .passes ⌝ }
 {
-    let empty = Pass {
-        order: 0,
-        gain: 0,
-        coefficients: [0; plan::ORDER_LIMIT],
-    };
+    let empty = plan_reader::zero_pass();
     let mut passes = [empty; 4];
     let mut i = 0;
     while i < 4 {
-        let pass = pass_of_record(words, 3 + i * PASS_LENGTH);
+        let pass = pass_of_record(words, pass_start(i));
         passes[i] = pass;
         i += 1;
     }
@@ -101,7 +103,7 @@ pub fn record_of_plan(plan: Plan) -> [i64; RECORD_LENGTH]
     let mut i = 0;
     while i < 4 {
         let pass = plan.passes[i];
-        words = with_pass(words, 3 + i * PASS_LENGTH, pass);
+        words = with_pass(words, pass_start(i), pass);
         i += 1;
     }
     words

@@ -11,10 +11,9 @@ use Rattle.refusal.specs.Refusals.{accepted}
 use Rattle.refusal.specs.Table.{firstDue}
 use Rattle.refusal.proofs.Table.{none-of}
 use Rattle.buffer.specs.Lists.{wordAt}
-use Rattle.plan_reader.specs.PlanWords.{kindOf}
 use Rattle.plan_reader.specs.ReadPlan.{payloadAt, wordRows}
 use Rattle.plan_reader.proofs.RefusalRows.{word-accepted}
-use Rattle.plan_writer.specs.WritePlan.{wordOf}
+use Rattle.number.specs.KindWords.{kindOf, wordOf}
 
 -- ---- a word that was accepted
 

@@ -21,14 +21,16 @@ use Rattle.plan.specs.Rules.{orderLimit, inSigned28, coefficientAt, coefficient
 use Rattle.number.specs.Numbers.{within, allBelow}
 use Rattle.number.proofs.Sums.{all-below}
 use Rattle.number.proofs.Tests.{and-left, and-right, and-both, all-at, lt-or-ge}
+use Rattle.buffer.specs.Lists.{listOf, joined}
 use Rattle.buffer.proofs.Listed.{listed-at}
 use Rattle.plan_reader.specs.PlanWords.{rowsIn, columnsIn, passIn, passAllowed, sizeAllowed, sideAllowed, endAllowed, signed28}
-use Rattle.plan_reader.specs.ReadPlan.{payloadAt, orderAt, afterPass, passPlace, wordRows, headRows, coefficientRows, passRows, passesRows, endRows, sideRows, planRows, coefficientIn, passFrom, planFrom, readPlan}
+use Rattle.plan_reader.specs.ReadPlan.{payloadAt, orderAt, afterPass, passPlace, wordRows, headRows, coefficientRows, passRows, passesRows, endRows, sideReaches, sideRows, planRows, coefficientIn, passFrom, planFrom, readPlan}
 use Rattle.plan_reader.proofs.RecordParts.{coefficient-read, coefficient-zero}
-use Rattle.plan_reader.proofs.RefusalRows.{sideReaches}
-use Rattle.plan_writer.specs.WritePlan.{wordOf, payload28, coefficientWords, passWords, passesWords, wordsOf}
+use Rattle.plan_reader.proofs.RefusalRows.{each-accepted}
+use Rattle.plan_writer.specs.WritePlan.{payload28, coefficientWords, passWords, passesWords, wordsOf}
 use Rattle.plan_writer.proofs.Payload.{payload-signed, signed-kept}
 use Rattle.plan_writer.proofs.AcceptedWords.{word-due, word-first}
+use Rattle.number.specs.KindWords.{wordOf}
 
 -- ---- one pass
 
@@ -84,7 +86,7 @@ module _ (words : List ℕ) (i place : ℕ) (e : firstDue (passRows words i plac
   -- its words are those that were read
   coefficients-first : (count : ℕ) → count ≤ orderAt words place → firstDue (coefficientRows words (place + 2) count) ≡ accepted
       → drop (place + 2) words ≡ coefficientWords pass count ++ drop (place + 2 + count) words
-  unfolding coefficientRows coefficientWords
+  unfolding coefficientRows joined coefficientWords listOf
   coefficients-first zero h a = rw (add-zero (place + 2))
   coefficients-first (suc count) h a =
       let both = rows-accepted (coefficientRows words (place + 2) count) (wordRows words (place + 2 + count) 5 true) a in
@@ -145,19 +147,11 @@ module _ (words : List ℕ) where
   pass-accepted : (count i : ℕ) → firstDue (passesRows words count) ≡ accepted → i < count
       → firstDue (passRows words i (passPlace words i)) ≡ accepted
   unfolding passesRows
-  pass-accepted zero i a h = absurd (omega arith)
-  pass-accepted (suc count) i a h =
-      let both = rows-accepted (passesRows words count) (passRows words count (passPlace words count)) a in
-      ⊎-elim
-      (λ (l : i < count). pass-accepted count i (both .0) l)
-      (λ (g : count ≤ i).
-      let same : i ≡ count = omega arith in
-      rw same (both .1))
-      (lt-or-ge i count)
+  pass-accepted count i a h = each-accepted _ count i a h
 
   passes-first : firstDue (passesRows words 4) ≡ accepted → (count : ℕ) → count ≤ 4
       → drop 2 words ≡ passesWords (planFrom words) count ++ drop (passPlace words count) words
-  unfolding passesWords passPlace
+  unfolding passesWords joined passPlace
   passes-first a zero h = refl
   passes-first a (suc count) h =
       passes-first a count (omega arith)

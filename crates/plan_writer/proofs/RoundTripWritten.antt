@@ -3,17 +3,17 @@
 use mathlib.Core.Path.{_≡_, refl, sym, ap, _∙_}
 use mathlib.Core.Bool.{true}
 use mathlib.Core.Logic.{⊎-elim}
-use mathlib.Core.List.{List, [], _∷_, _++_, append-assoc}
+use mathlib.Core.List.{[], _∷_, _++_}
 use Prim.Native.Nat.{ℕ, zero, suc, _+_, _*_, _/_, _%_, _<_, _≤_}
 use native.Mathlib.Omega.{arith}
-use native.Mathlib.Nat.{eq-or-lt-of-le}
 use lib.IntN.{ℤ, pos, negsuc}
-use lib.ListN.{length, getD, List·getD-append}
-use lib.Seq.{getD-at, getD-append-add}
+use lib.ListN.{length, getD}
+use lib.Seq.{getD-at}
 use borrow.Author.Tests.{lt-ltb, le-ltb, le-leb, eq-eqb, eqb-true}
 use Rattle.refusal.specs.Refusals.{accepted}
 use Rattle.refusal.specs.Table.{firstDue}
 use Rattle.refusal.proofs.Table.{first-append, both-accepted}
+use Rattle.grid.specs.Grid.{sizeLimit}
 use Rattle.plan.specs.declared.Pass.{Pass}
 use Rattle.plan.specs.declared.Plan.{Plan}
 use Rattle.plan.specs.Rules.{orderLimit, inSigned28, isZero, coefficientAt, passAt, keepsRules}
@@ -23,44 +23,31 @@ use Rattle.buffer.specs.Lists.{wordAt}
 use Rattle.number.proofs.Sums.{all-below, total-grows}
 use Rattle.number.proofs.Tests.{lt-or-ge, and-both}
 use Rattle.plan.proofs.Record.{PassRules, rules}
-use Rattle.buffer.proofs.Listed.{listed-only}
-use Rattle.plan_reader.specs.PlanWords.{signed28, passAllowed, sizeAllowed}
-use Rattle.plan_reader.specs.ReadPlan.{payloadAt, orderAt, passPlace, headRows, coefficientRows, passRows, passesRows, endRows, sideRows, planRows, coefficientIn, passFrom, planFrom, readPlan}
+use Rattle.buffer.proofs.Listed.{listed-at, listed-only}
+use Rattle.buffer.proofs.Joined.{joined-at}
+use Rattle.plan_reader.specs.PlanWords.{rowsIn, columnsIn, signed28, passAllowed, sizeAllowed}
+use Rattle.plan_reader.specs.ReadPlan.{payloadAt, orderAt, passPlace, headRows, coefficientRows, passRows, passesRows, endRows, sideReaches, sideRows, planRows, coefficientIn, passFrom, planFrom, readPlan}
 use Rattle.plan_reader.proofs.RecordParts.{coefficient-read, coefficient-zero, same-pass, same-plan}
-use Rattle.plan_reader.proofs.RefusalRows.{side-accepted, sideReaches}
+use Rattle.plan_reader.proofs.RefusalRows.{side-accepted, joined-accepted}
 use Rattle.plan_writer.specs.RecordType.{WellShaped}
-use Rattle.plan_writer.specs.WritePlan.{wordOf, payload28, coefficientWords, passWords, passesWords, sizePayload, wordsOf}
+use Rattle.plan_writer.specs.WritePlan.{payload28, sizePayload, passPayload, coefficientWords, passWords, passesWords, wordsOf}
 use Rattle.plan_writer.proofs.Payload.{payload-below, signed-payload}
-use Rattle.plan_writer.proofs.WrittenWords.{length-coefficients, length-pass, length-passes, length-words}
+use Rattle.plan_writer.proofs.WrittenWords.{length-pass, length-passes, length-words}
 use Rattle.plan_writer.proofs.AcceptedWords.{payload-written, word-written}
+use Rattle.number.specs.KindWords.{wordOf}
 
 -- ---- where the words stand
 
 coefficient-word : (pass : Pass) (count j : ℕ) → j < count
     → getD (coefficientWords pass count) j 0 ≡ wordOf 5 (payload28 (coefficientAt pass j))
 unfolding coefficientWords
-coefficient-word pass zero j h = absurd (omega arith)
-coefficient-word pass (suc count) j h =
-    let n = length-coefficients pass count in
-    ⊎-elim (λ (e : j ≡ count). rw e (getD-at (coefficientWords pass count) _ [] 0 count n))
-    (λ (l : j < count). List·getD-append (coefficientWords pass count) _ 0 j (omega arith) ∙ coefficient-word pass count j l)
-    (eq-or-lt-of-le {n = j} {m = count} (omega arith))
+coefficient-word pass count j h = listed-at _ count j 0 h
 
-word-in-passes : (plan : Plan) (count i k : ℕ) (tail : List ℕ) → i < count → k < 2 + passAt plan i .order
-    → getD (passesWords plan count ++ tail) (2 * i + orderSum plan i + k) 0 ≡ getD (passWords i (passAt plan i)) k 0
+word-in-passes : (plan : Plan) (i k : ℕ) → i < 4 → k < 2 + passAt plan i .order
+    → getD (passesWords plan 4 ++ (wordOf 6 0 ∷ [])) (2 * i + orderSum plan i + k) 0 ≡ getD (passWords i (passAt plan i)) k 0
 unfolding passesWords
-word-in-passes plan zero i k tail h b = absurd (omega arith)
-word-in-passes plan (suc count) i k tail h b =
-    rw append-assoc
-    (⊎-elim
-    (λ (e : i ≡ count).
-    let n : length (passWords i (passAt plan i)) ≡ 2 + passAt plan i .order = length-pass i (passAt plan i) in
-    ap (λ (m : ℕ). getD (passesWords plan m ++ (passWords m (passAt plan m) ++ tail)) (2 * i + orderSum plan i + k) 0) (sym e)
-    ∙ ap (λ (m : ℕ). getD (passesWords plan i ++ (passWords i (passAt plan i) ++ tail)) (m + k) 0) (sym (length-passes plan i))
-    ∙ getD-append-add (passesWords plan i) (passWords i (passAt plan i) ++ tail) k 0
-    ∙ List·getD-append (passWords i (passAt plan i)) tail 0 k (omega arith))
-    (λ (l : i < count). word-in-passes plan count i k (passWords count (passAt plan count) ++ tail) l b)
-    (eq-or-lt-of-le {n = i} {m = count} (omega arith)))
+word-in-passes plan i k h b =
+    joined-at _ 4 i k _ _ 0 h (omega (arith, length-pass i (passAt plan i))) (length-passes plan i)
 
 -- The place of the pass word of pass i.
 abbrev passStart : Plan → ℕ → ℕ
@@ -71,7 +58,7 @@ word-of-pass : (plan : Plan) (i k place : ℕ) → i < 4 → k < 2 + passAt plan
 unfolding wordsOf
 word-of-pass plan i k place h b e =
     let f : place ≡ suc (suc (2 * i + orderSum plan i + k)) = omega arith in
-    rw f (word-in-passes plan 4 i k (wordOf 6 0 ∷ []) h b)
+    rw f (word-in-passes plan i k h b)
 
 end-word : (plan : Plan) → wordAt (wordsOf plan) (passStart plan 4) ≡ wordOf 6 0
 unfolding wordsOf
@@ -95,7 +82,7 @@ module _ (plan : Plan) (i : ℕ) (h : i < 4) (kept : PassRules (plan .grid .side
   pass-within : (k : ℕ) → k < 2 + pass .order → start + k < length (wordsOf plan)
   pass-within k b = omega (arith, length-words plan, total-grows (orderOf plan) i 4 (omega arith))
 
-  head-at : wordAt (wordsOf plan) start ≡ wordOf 3 (i * 16 + pass .order)
+  head-at : wordAt (wordsOf plan) start ≡ wordOf 3 (passPayload i (pass .order))
   unfolding passWords
   head-at = word-of-pass plan i 0 start h (omega arith) (omega arith)
 
@@ -109,7 +96,7 @@ module _ (plan : Plan) (i : ℕ) (h : i < 4) (kept : PassRules (plan .grid .side
   coefficient-at j b =
       word-of-pass plan i (suc (suc j)) (start + 2 + j) h (omega arith) (omega arith) ∙ coefficient-word pass (pass .order) j b
 
-  head-payload : payloadAt (wordsOf plan) start ≡ i * 16 + pass .order
+  head-payload : payloadAt (wordsOf plan) start ≡ passPayload i (pass .order)
   head-payload = payload-written (wordsOf plan) start 3 _ head-at (omega (arith, kept .order-limited))
 
   order-read : orderAt (wordsOf plan) start ≡ pass .order
@@ -121,14 +108,12 @@ module _ (plan : Plan) (i : ℕ) (h : i < 4) (kept : PassRules (plan .grid .side
   coefficients-accepted : (count : ℕ) → count ≤ pass .order
       → firstDue (coefficientRows (wordsOf plan) (start + 2) count) ≡ accepted
   unfolding coefficientRows
-  coefficients-accepted zero b = refl
-  coefficients-accepted (suc count) b =
-      let l : count < pass .order = omega arith in
-      let p : start + 2 + count < length (wordsOf plan) = omega (arith, pass-within (2 + count) (omega arith)) in
-      rw first-append
-      (both-accepted (coefficients-accepted count (omega arith))
-      (word-written (wordsOf plan) (start + 2 + count) 5 _ (coefficient-at count l)
-      (payload-below _ (signed-below count l)) p true refl))
+  coefficients-accepted count b =
+      joined-accepted _ count
+      (λ j h.
+      let l : j < pass .order = omega arith in
+      let p : start + 2 + j < length (wordsOf plan) = omega (arith, pass-within (2 + j) (omega arith)) in
+      word-written (wordsOf plan) (start + 2 + j) 5 _ (coefficient-at j l) (payload-below _ (signed-below j l)) p true refl)
 
   pass-allowed : passAllowed i (payloadAt (wordsOf plan) start) ≡ true
   pass-allowed =
@@ -180,16 +165,16 @@ module _ (plan : Plan) (kept : keepsRules plan ≡ true) where
       rw (place-read i (omega arith))
       (omega (arith, order-read plan i (omega arith) (rules plan kept .pass-kept i (omega arith))))
 
-  passes-accepted : (count : ℕ) → count ≤ 4 → firstDue (passesRows (wordsOf plan) count) ≡ accepted
+  passes-accepted : firstDue (passesRows (wordsOf plan) 4) ≡ accepted
   unfolding passesRows
-  passes-accepted zero h = refl
-  passes-accepted (suc count) h =
-      rw first-append
-      (both-accepted (passes-accepted count (omega arith))
-      (rw (place-read count (omega arith))
-      (pass-accepted plan count (omega arith) (rules plan kept .pass-kept count (omega arith)))))
+  passes-accepted =
+      joined-accepted _ 4
+      (λ i h. rw (place-read i (omega arith)) (pass-accepted plan i h (rules plan kept .pass-kept i h)))
 
-  size-payload : payloadAt (wordsOf plan) 0 ≡ sizePayload plan
+  abbrev size : ℕ
+  size = sizePayload (plan .grid .rows) (plan .grid .columns)
+
+  size-payload : payloadAt (wordsOf plan) 0 ≡ size
   unfolding wordsOf
   size-payload = let r = rules plan kept in payload-written (wordsOf plan) 0 1 _ refl (omega arith)
 
@@ -204,9 +189,9 @@ module _ (plan : Plan) (kept : keepsRules plan ≡ true) where
   size-allowed =
       let r = rules plan kept in
       rw size-payload
-      (and-both (within-both (sizePayload plan / 8192 % 8192) 4096 (omega arith) (omega arith))
-      (and-both (within-both (sizePayload plan % 8192) 4096 (omega arith) (omega arith))
-      (eq-eqb (sizePayload plan / 67108864) 0 (omega arith))))
+      (and-both (within-both (rowsIn size) sizeLimit (omega arith) (omega arith))
+      (and-both (within-both (columnsIn size) sizeLimit (omega arith) (omega arith))
+      (eq-eqb (size / 67108864) 0 (omega arith))))
 
   head-accepted : firstDue (headRows (wordsOf plan)) ≡ accepted
   unfolding headRows wordsOf
@@ -214,7 +199,7 @@ module _ (plan : Plan) (kept : keepsRules plan ≡ true) where
       let r = rules plan kept in
       let n = length-words plan in
       rw first-append
-      (both-accepted (word-written (wordsOf plan) 0 1 (sizePayload plan) refl (omega arith) (omega arith) _ size-allowed)
+      (both-accepted (word-written (wordsOf plan) 0 1 size refl (omega arith) (omega arith) _ size-allowed)
       (word-written (wordsOf plan) 1 2 (plan .grid .side) refl (omega arith) (omega arith) _
       (rw side-payload (within-both (plan .grid .side) 32 (r .side-low) (r .side-high)))))
 
@@ -242,7 +227,7 @@ module _ (plan : Plan) (kept : keepsRules plan ≡ true) where
   unfolding planRows
   plan-accepted =
       rw (first-append, first-append, first-append)
-      (both-accepted head-accepted (both-accepted (passes-accepted 4 (omega arith)) (both-accepted end-accepted sides-accepted)))
+      (both-accepted head-accepted (both-accepted passes-accepted (both-accepted end-accepted sides-accepted)))
 
   module _ (shape : WellShaped plan) where
     pass-back : (i : ℕ) → i < 4 → passAt plan i ≡ passFrom (wordsOf plan) (passPlace (wordsOf plan) i)
@@ -252,8 +237,8 @@ module _ (plan : Plan) (kept : keepsRules plan ≡ true) where
     unfolding planFrom
     plan-read =
         let r = rules plan kept in
-        let rows : payloadAt (wordsOf plan) 0 / 8192 % 8192 ≡ plan .grid .rows = rw size-payload (omega arith) in
-        let columns : payloadAt (wordsOf plan) 0 % 8192 ≡ plan .grid .columns = rw size-payload (omega arith) in
+        let rows : rowsIn (payloadAt (wordsOf plan) 0) ≡ plan .grid .rows = rw size-payload (omega arith) in
+        let columns : columnsIn (payloadAt (wordsOf plan) 0) ≡ plan .grid .columns = rw size-payload (omega arith) in
         same-plan rows columns side-payload
         (sym (listed-only (λ i. passFrom (wordsOf plan) (passPlace (wordsOf plan) i)) (plan .passes) 4
         (record { order = 0; gain = pos 0; coefficients = [] }) (shape .passCount) pass-back))

@@ -17,7 +17,10 @@ use Rattle.plan.specs.Rules.{orderLimit, inSigned28, coefficientAt, coefficient
 use Rattle.number.specs.Numbers.{total}
 use Rattle.plan.specs.Sizes.{orderSum, wordCount}
 use Rattle.number.proofs.Tests.{and-right, all-at}
-use Rattle.plan_writer.specs.WritePlan.{wordOf, payload28, coefficientWords, passWords, passesWords, sizePayload, wordsOf}
+use Rattle.buffer.specs.Lists.{listOf, joined}
+use Rattle.buffer.proofs.Listed.{listed-length}
+use Rattle.plan_writer.specs.WritePlan.{payload28, passPayload, coefficientWords, passWords, passesWords, sizeWord, wordsOf}
+use Rattle.number.specs.KindWords.{wordOf}
 
 sets-append : (a b l : List ℕ) (i : ℕ) → sets l i (a ++ b) ≡ sets (sets l i a) (i + length a) b
 sets-append [] b l i = rw (add-zero i)
@@ -45,20 +48,18 @@ coefficient-signed pass j limited kept h =
 
 pub length-coefficients : (pass : Pass) (count : ℕ) → length (coefficientWords pass count) ≡ count
 unfolding coefficientWords
-length-coefficients pass zero = refl
-length-coefficients pass (suc count) =
-    length-append (coefficientWords pass count) _ ∙ simp (length-coefficients pass count) (omega arith)
+length-coefficients pass count = listed-length _ count
 
 module _ (pass : Pass) (words : List ℕ) (place : ℕ) where
   pub no-coefficients : words ≡ sets words place (coefficientWords pass 0)
-  unfolding coefficientWords
+  unfolding coefficientWords listOf
   no-coefficients = refl
 
   pub more-coefficients : (count : ℕ)
       → sets (sets words place (coefficientWords pass count)) (place + count)
       (wordOf 5 (payload28 (coefficientAt pass count)) ∷ [])
       ≡ sets words place (coefficientWords pass (count + 1))
-  unfolding coefficientWords
+  unfolding coefficientWords listOf
   more-coefficients count =
       rw (add-one count) (sets-parts (coefficientWords pass count) _ words place count (length-coefficients pass count))
 
@@ -71,7 +72,7 @@ length-pass i pass = omega (arith, length-coefficients pass (pass .order))
 -- Pass word, gain word and coefficient words, each written at the place after the one before.
 pub pass-parts : (words : List ℕ) (place i : ℕ) (pass : Pass) {head gain place₁ place₂ place₃ : ℕ}
     {words₁ words₂ words₃ : List ℕ}
-    → head ≡ wordOf 3 (i * 16 + pass .order) → gain ≡ wordOf 4 (payload28 (pass .gain))
+    → head ≡ wordOf 3 (passPayload i (pass .order)) → gain ≡ wordOf 4 (payload28 (pass .gain))
     → (place₁ ≡ place + 1) × (words₁ ≡ sets words place (head ∷ []))
     → (place₂ ≡ place₁ + 1) × (words₂ ≡ sets words₁ place₁ (gain ∷ []))
     → (place₃ ≡ place₂ + pass .order) × (words₃ ≡ sets words₂ place₂ (coefficientWords pass (pass .order)))
@@ -89,7 +90,7 @@ unfolding keepsRules passesKept
 pass-kept plan e i h = all-at _ 4 i (and-right (gridKept (plan .grid)) (passesKept plan) e) h
 
 pub length-passes : (plan : Plan) (count : ℕ) → length (passesWords plan count) ≡ 2 * count + orderSum plan count
-unfolding passesWords total
+unfolding passesWords joined total
 length-passes plan zero = refl
 length-passes plan (suc count) =
     length-append (passesWords plan count) (passWords count (passAt plan count))
@@ -101,13 +102,13 @@ more-orders plan i = rw (add-one i)
 
 module _ (plan : Plan) (words : List ℕ) (place : ℕ) where
   pub no-passes : words ≡ sets words place (passesWords plan 0)
-  unfolding passesWords
+  unfolding passesWords joined
   no-passes = refl
 
   pub more-passes : (i : ℕ)
       → sets (sets words place (passesWords plan i)) (place + (2 * i + orderSum plan i)) (passWords i (passAt plan i))
       ≡ sets words place (passesWords plan (i + 1))
-  unfolding passesWords
+  unfolding passesWords joined
   more-passes i =
       rw (add-one i)
       (sets-parts (passesWords plan i) (passWords i (passAt plan i)) words place (2 * i + orderSum plan i)
@@ -117,7 +118,7 @@ module _ (plan : Plan) (words : List ℕ) (place : ℕ) where
 
 -- Size word, block word, passes and end word, each written at the place after the one before.
 pub plan-parts : (words : List ℕ) (plan : Plan) {size block place₁ place₂ place₃ : ℕ} {words₁ words₂ words₃ words₄ : List ℕ}
-    → size ≡ wordOf 1 (sizePayload plan) → block ≡ wordOf 2 (plan .grid .side)
+    → size ≡ sizeWord plan → block ≡ wordOf 2 (plan .grid .side)
     → (place₁ ≡ 0 + 1) × (words₁ ≡ sets words 0 (size ∷ []))
     → (place₂ ≡ place₁ + 1) × (words₂ ≡ sets words₁ place₁ (block ∷ []))
     → (place₃ ≡ place₂ + (8 + orderSum plan 4)) × (words₃ ≡ sets words₂ place₂ (passesWords plan 4))

@@ -8,7 +8,7 @@ use lib.ListN.{length, drop}
 use Rattle.refusal.specs.Refusals.{accepted}
 use Rattle.plan.specs.declared.Plan.{Plan}
 use Rattle.plan.specs.Rules.{keepsRules}
-use Rattle.plan.specs.Sizes.{wordLimit}
+use Rattle.plan.specs.Sizes.{fixedWords, wordLimit}
 use Rattle.plan_reader.specs.ReadPlan.{readPlan}
 use Rattle.plan_writer.specs.WritePlan.{wordsOf, writePlan, writtenWords}
 use Rattle.plan_writer.specs.RecordType.{WellShaped}
@@ -29,4 +29,4 @@ pub record Demand2 : Type 0 where
   pub keeps-rules : (words : List ℕ) → readPlan words .answer ≡ accepted → keepsRules (readPlan words .value) ≡ true
   -- A plan has 11 to 27 words: 11, and one for each coefficient of four orders within the limit.
   pub counted : (words : List ℕ) → readPlan words .answer ≡ accepted
-      → (11 ≤ length words) × (length words ≤ wordLimit)
+      → (fixedWords ≤ length words) × (length words ≤ wordLimit)

@@ -1,7 +1,7 @@
 -- The words of a plan, in the order of document 01's table, and the call that writes them.
 use mathlib.Core.Bool.{not}
 use mathlib.Core.List.{List, [], _∷_, _++_}
-use Prim.Native.Nat.{ℕ, zero, suc, _+_, _-_, _*_}
+use Prim.Native.Nat.{ℕ, suc, _+_, _-_, _*_}
 use lib.IntN.{ℤ, pos, negsuc}
 use lib.Dec.{ltb}
 use lib.ListN.{length, drop}
@@ -11,42 +11,45 @@ use Rattle.plan.specs.declared.Pass.{Pass}
 use Rattle.plan.specs.declared.Plan.{Plan}
 use Rattle.plan.specs.Rules.{coefficientAt, passAt, keepsRules}
 use Rattle.plan.specs.Sizes.{wordCount}
+use Rattle.buffer.specs.Lists.{listOf, joined}
 use Rattle.plan_writer.specs.declared.PlanWritten.{PlanWritten}
 use Rattle.plan_writer.specs.declared.PlanWritten.the-variants.{Words, Refused}
-
--- A word: its kind in the top four bits, its payload in the low 28.
-abbrev pub wordOf : ℕ → ℕ → ℕ
-wordOf kind payload = kind * 268435456 + payload
+use Rattle.number.specs.KindWords.{payloadLimit, wordOf}
 
 -- The payload of a number of signed 28 bits, two's complement: `negsuc n` is -(n + 1).
 unfoldable pub payload28 : ℤ → ℕ
 payload28 (pos n) = n
-payload28 (negsuc n) = 268435456 - suc n
+payload28 (negsuc n) = payloadLimit - suc n
+
+-- The payload of the size word: rows in bits 13 to 25, columns in bits 0 to 12.
+abbrev pub sizePayload : (rows columns : ℕ) → ℕ
+sizePayload rows columns = rows * 8192 + columns
+
+-- The payload of a pass word: the pass in bits 4 and 5, its order in bits 0 to 3.
+abbrev pub passPayload : (i order : ℕ) → ℕ
+passPayload i order = i * 16 + order
 
 -- The first `count` coefficient words of a pass.
 unfoldable pub coefficientWords : Pass → ℕ → List ℕ
-coefficientWords pass zero = []
-coefficientWords pass (suc count) =
-    coefficientWords pass count ++ (wordOf 5 (payload28 (coefficientAt pass count)) ∷ [])
+coefficientWords pass count = listOf (λ j. wordOf 5 (payload28 (coefficientAt pass j))) count
 
 -- The words of pass i: pass word, gain word, coefficient words.
 unfoldable pub passWords : ℕ → Pass → List ℕ
 passWords i pass =
-    wordOf 3 (i * 16 + pass .order) ∷ wordOf 4 (payload28 (pass .gain)) ∷ coefficientWords pass (pass .order)
+    wordOf 3 (passPayload i (pass .order)) ∷ wordOf 4 (payload28 (pass .gain)) ∷ coefficientWords pass (pass .order)
 
 -- The words of the first `count` passes.
 unfoldable pub passesWords : Plan → ℕ → List ℕ
-passesWords plan zero = []
-passesWords plan (suc count) = passesWords plan count ++ passWords count (passAt plan count)
+passesWords plan count = joined (λ i. passWords i (passAt plan i)) count
 
--- The payload of the size word: rows in bits 13 to 25, columns in bits 0 to 12.
-abbrev pub sizePayload : Plan → ℕ
-sizePayload plan = plan .grid .rows * 8192 + plan .grid .columns
+-- The size word of a plan.
+abbrev pub sizeWord : Plan → ℕ
+sizeWord plan = wordOf 1 (sizePayload (plan .grid .rows) (plan .grid .columns))
 
 -- The words of a plan: size, block, the four passes, end.
 unfoldable pub wordsOf : Plan → List ℕ
 wordsOf plan =
-    wordOf 1 (sizePayload plan) ∷ wordOf 2 (plan .grid .side) ∷ (passesWords plan 4 ++ (wordOf 6 0 ∷ []))
+    sizeWord plan ∷ wordOf 2 (plan .grid .side) ∷ (passesWords plan 4 ++ (wordOf 6 0 ∷ []))
 
 -- How many words are written into so much room; 0 beside a refusal.
 unfoldable pub writePlan : Plan → (room : ℕ) → Given ℕ

@@ -14,7 +14,8 @@ ghost use Rattle.grid.specs.Grid.{sizeLimit, sideLimit};
 ghost use Rattle.plan.specs.Rules.{keepsRules, inSigned28};
 ghost use Rattle.plan.specs.Sizes.{orderSum, wordCount};
 ghost use Rattle.plan_writer.specs.Room.{PassFits, CoefficientsFit};
-ghost use Rattle.plan_writer.specs.WritePlan.{wordOf, payload28, coefficientWords, passWords, passesWords, wordsOf, writePlan, writtenGiven, writtenWords};
+ghost use Rattle.plan_writer.specs.WritePlan.{payload28, sizePayload, passPayload, coefficientWords, passWords, passesWords, wordsOf, writePlan, writtenGiven, writtenWords};
+ghost use Rattle.number.specs.KindWords.{wordOf};
 
 // How many words were written, or why none was.
 pub enum PlanWritten {
@@ -50,7 +51,7 @@ fn write_words(plan: Plan, words: &mut [u32])
     let after_size = write_word(words, 0, size_word(plan.grid.rows, plan.grid.columns));
     let after_block = write_word(words, after_size, block_word(plan.grid.side));
     let after_passes = write_passes(plan, words, after_block);
-    write_word(words, after_passes, 1610612736);
+    write_word(words, after_passes, number::word_of(6, 0));
 }
 
 // The words of all passes, from a place on; gives the place after them.
@@ -104,23 +105,23 @@ fn write_word(words: &mut [u32], place: usize, word: u32) -> usize
 
 fn size_word(rows: usize, columns: usize) -> u32
     requires { ⌜ (rows ≤ sizeLimit) × (columns ≤ sizeLimit) ⌝ }
-    ensures { λ r. ⌜ r ≡ wordOf 1 (rows * 8192 + columns) ⌝ }
+    ensures { λ r. ⌜ r ≡ wordOf 1 (sizePayload rows columns) ⌝ }
 {
-    268435456 + ((rows as u32) * 8192 + (columns as u32))
+    number::word_of(1, (rows as u32) * 8192 + columns as u32)
 }
 
 fn block_word(side: usize) -> u32
     requires { ⌜ side ≤ sideLimit ⌝ }
     ensures { λ r. ⌜ r ≡ wordOf 2 side ⌝ }
 {
-    536870912 + (side as u32)
+    number::word_of(2, side as u32)
 }
 
 fn pass_word(i: usize, order: usize) -> u32
     requires { ⌜ (i < 4) × (order < 16) ⌝ }
-    ensures { λ r. ⌜ r ≡ wordOf 3 (i * 16 + order) ⌝ }
+    ensures { λ r. ⌜ r ≡ wordOf 3 (passPayload i order) ⌝ }
 {
-    805306368 + ((i as u32) * 16 + (order as u32))
+    number::word_of(3, (i as u32) * 16 + order as u32)
 }
 
 // A word of a kind with a signed payload.
@@ -128,7 +129,7 @@ fn value_word(kind: u32, value: i64) -> u32
     requires { ⌜ (kind < 16) × (inSigned28 value ≡ true) ⌝ }
     ensures { λ r. ⌜ r ≡ wordOf kind (payload28 value) ⌝ }
 {
-    kind * 268435456 + encode_signed28(value)
+    number::word_of(kind, encode_signed28(value))
 }
 
 // A number of signed 28 bits as a payload.
@@ -137,7 +138,7 @@ fn encode_signed28(value: i64) -> u32
     ensures { λ r. ⌜ r ≡ payload28 value ⌝ }
 {
     if value < 0 {
-        (value + 268435456) as u32
+        (value + number::PAYLOAD_LIMIT as i64) as u32
     } else {
         value as u32
     }

@@ -1,14 +1,15 @@
 -- A corner lies in the table, and is read at its place. Assumes nothing.
 use mathlib.Core.Path.{_≡_, refl}
-use Prim.Native.Nat.{ℕ, zero, suc, _+_, _*_, _-_, _<_}
+use Prim.Native.Nat.{ℕ, zero, suc, _-_, _<_}
 use native.Mathlib.Omega.{arith}
+use Rattle.number.specs.Numbers.{rowMajor}
 use Rattle.number.proofs.RowMajor.{place-below}
 use Rattle.plan.specs.declared.Plan.{Plan}
 use Rattle.passes.specs.Table.{cornerOf}
 use Rattle.rectangle.specs.Corners.{CornerFits}
 
 pub corner-inside : {plan : Plan} {n row column : ℕ} → CornerFits plan n row column → (row ≡ 0 → ⊥) → (column ≡ 0 → ⊥)
-    → (row - 1) * plan .grid .columns + (column - 1) < n
+    → rowMajor (plan .grid .columns) (row - 1) (column - 1) < n
 corner-inside {plan} {n} {row} {column} fits a b =
     omega (
       arith,

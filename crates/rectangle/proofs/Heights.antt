@@ -2,7 +2,7 @@
 use mathlib.Core.Path.{_≡_, refl, sym, ap, _∙_, fun-ext}
 use mathlib.Core.Bool.{true}
 use mathlib.Core.List.{List, [], _++_}
-use Prim.Native.Nat.{ℕ, zero, suc, _+_, _-_, _*_, _<_, _≤_}
+use Prim.Native.Nat.{ℕ, zero, suc, _+_, _-_, _<_, _≤_}
 use native.Mathlib.Omega.{arith}
 use lib.IntN.{ℤ, pos, negsuc}
 use lib.ListN.{length, getD, drop, replicate, length-append, List·getD-append}
@@ -11,18 +11,21 @@ use Rattle.plan.specs.declared.Pass.{Pass}
 use Rattle.plan.specs.declared.Plan.{Plan}
 use Rattle.plan.specs.Rules.{orderLimit, coefficientAt, passAt, keepsRules}
 use Rattle.plan.specs.Sizes.{neededPixels}
+use Rattle.word.proofs.Residues.{residue-zero}
+use Rattle.buffer.specs.Lists.{wordAt, numberAt}
 use Rattle.buffer.proofs.Listed.{listed-length, listed-at}
 use Rattle.passes.specs.Filter.{Filter}
 use Rattle.passes.specs.Passes.{passesOver, serialPasses}
-use Rattle.buffer.specs.Pixel.{heightMap}
+use Rattle.buffer.specs.Pixel.{heightAt, heightMap}
 use Rattle.passes.specs.Table.{runningSum, unchanged, firstAlone, summedAreaTable}
 use Rattle.passes.proofs.Table.{rectangle-heights}
-use Rattle.filter.specs.PlanFilters.{filterOf, filtersOf}
+use Rattle.filter.specs.PlanFilters.{filterOf, filtersOf, mapOf, serialResult}
+use Rattle.number.specs.Numbers.{rowMajor}
 use Rattle.number.proofs.RowMajor.{row-of, column-of, place-below}
 use Rattle.serial.specs.Serial.{serialWords, serialOutput}
 use Rattle.serial.proofs.SerialAnswers.{long-enough, output-of-accepted}
 use Rattle.rectangle.specs.Rectangle.{tableOf}
-use Rattle.rectangle.specs.Heights.{runningSumPass, unchangedPass, summedAreaPasses, heightAt, SumsHeights}
+use Rattle.rectangle.specs.Heights.{runningSumPass, unchangedPass, summedAreaPasses, SumsHeights}
 use Rattle.rectangle.proofs.SumAnswers.{accepted-when, given-accepted}
 
 -- ---- the filters
@@ -35,12 +38,8 @@ residue-minus-one : residue (negsuc 0) ≡ minusOne
 unfolding residue modulus minusOne
 residue-minus-one = refl
 
-residue-zero : residue (pos 0) ≡ 0
-unfolding residue modulus
-residue-zero = refl
-
 -- A coefficient place past those of a list of zeros reads 0 as well.
-zeros : (n k : ℕ) → residue (getD (replicate n (pos 0)) k (pos 0)) ≡ 0
+zeros : (n k : ℕ) → residue (numberAt (replicate n (pos 0)) k) ≡ 0
 zeros zero k = residue-zero
 zeros (suc n) zero = residue-zero
 zeros (suc n) (suc k) = zeros n k
@@ -94,28 +93,27 @@ module _ (plan : Plan) (kept : keepsRules plan ≡ true) (heights : List ℤ) (o
 
   table-at : (y x : ℕ) → y < plan .grid .rows → x < plan .grid .columns
       → tableOf plan (serialOutput plan heights output) y x
-      ≡ serialPasses (filtersOf plan) (plan .grid .rows) (plan .grid .columns) (heightMap (plan .grid .columns) heights) 4 y x
+      ≡ serialResult plan (mapOf plan heights) 4 y x
   unfolding serialWords
   table-at y x a b =
-      let q : y * plan .grid .columns + x < neededPixels plan = place-below (plan .grid .rows) (plan .grid .columns) y x a b in
-      ap (λ (l : List ℕ). getD l (y * plan .grid .columns + x) 0) (sym table-is)
-      ∙ List·getD-append (serialWords plan heights) (drop (neededPixels plan) output) 0 (y * plan .grid .columns + x)
-      (rw words-length q)
-      ∙ listed-at _ (neededPixels plan) (y * plan .grid .columns + x) 0 q
+      let place : ℕ = rowMajor (plan .grid .columns) y x in
+      let q : place < neededPixels plan = place-below (plan .grid .rows) (plan .grid .columns) y x a b in
+      ap (λ (l : List ℕ). wordAt l place) (sym table-is)
+      ∙ List·getD-append (serialWords plan heights) (drop (neededPixels plan) output) 0 place (rw words-length q)
+      ∙ listed-at _ (neededPixels plan) place 0 q
       ∙ rw (row-of (plan .grid .columns) y x b, column-of (plan .grid .columns) y x b)
 
 pub sums-heights : SumsHeights
 unfolding heightMap
-sums-heights plan kept passes heights output long room top left bottom right t l b r =
+sums-heights plan kept passes heights output long room top left bottom right inside =
     let table = serialOutput plan heights output in
     sym
     (given-accepted plan table top left bottom right
-    (accepted-when plan table top left bottom right kept (table-long plan kept heights output long room)
-    (record { top-bottom = t; left-right = l; bottom-low = b; right-low = r }))
+    (accepted-when plan table top left bottom right kept (table-long plan kept heights output long room) inside)
     (sym
-    (rectangle-heights (plan .grid .rows) (plan .grid .columns) _ (heightAt plan heights)
+    (rectangle-heights (plan .grid .rows) (plan .grid .columns) _ (heightAt (plan .grid .columns) heights)
     (λ y x a b.
     table-at plan kept heights output long room y x a b
     ∙ ap (λ (Z : ℕ → ℕ → ℕ). Z y x)
-    (passes-are plan passes (plan .grid .rows) (plan .grid .columns) (heightMap (plan .grid .columns) heights)))
-    top left bottom right (omega arith) (omega arith) b r)))
+    (passes-are plan passes (plan .grid .rows) (plan .grid .columns) (mapOf plan heights)))
+    top left bottom right (omega (arith, inside .top-bottom)) (omega (arith, inside .left-right)) (inside .bottom-low) (inside .right-low))))

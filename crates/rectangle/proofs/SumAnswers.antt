@@ -19,8 +19,7 @@ use Rattle.plan.specs.Rules.{keepsRules}
 use Rattle.plan.specs.Sizes.{neededPixels, sizesOf, planSizes, sizesGiven}
 use Rattle.plan.proofs.Known.{sizes-known, record-refused}
 use Rattle.passes.specs.Table.{rectangleSum}
-use Rattle.rectangle.specs.Corners.{Inside}
-use Rattle.rectangle.specs.Rectangle.{tableOf, outside, rectangleCall}
+use Rattle.rectangle.specs.Rectangle.{tableOf, Inside, outside, rectangleCall}
 
 module _ (plan : Plan) (top left bottom right : ℕ) where
   pub not-outside : outside plan top left bottom right ≡ false → Inside plan top left bottom right

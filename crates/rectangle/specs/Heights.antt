@@ -3,19 +3,19 @@
 use mathlib.Core.Path.{_≡_}
 use mathlib.Core.Bool.{true}
 use mathlib.Core.List.{List, [], _∷_}
-use Prim.Native.Nat.{ℕ, _-_, _<_, _≤_}
+use Prim.Native.Nat.{ℕ, _-_, _≤_}
 use lib.IntN.{ℤ, pos, negsuc}
-use lib.ListN.{length, getD, replicate}
+use lib.ListN.{length, replicate}
 use Rattle.word.specs.Word.{residue}
 use Rattle.refusal.specs.Refusals.{accepted}
 use Rattle.plan.specs.declared.Pass.{Pass}
-use Rattle.number.specs.Numbers.{rowMajor}
 use Rattle.plan.specs.declared.Plan.{Plan}
 use Rattle.plan.specs.Rules.{orderLimit, keepsRules}
 use Rattle.plan.specs.Sizes.{neededPixels}
+use Rattle.buffer.specs.Pixel.{heightAt}
 use Rattle.passes.specs.Table.{heightsInside}
 use Rattle.serial.specs.Serial.{serialOutput}
-use Rattle.rectangle.specs.Rectangle.{rectangleCall}
+use Rattle.rectangle.specs.Rectangle.{Inside, rectangleCall}
 
 -- Order 1, gain 1, coefficient -1.
 abbrev pub runningSumPass : Pass
@@ -25,20 +25,21 @@ runningSumPass = record { order = 1; gain = pos 1; coefficients = negsuc 0 ∷ r
 abbrev pub unchangedPass : Pass
 unchangedPass = record { order = 0; gain = pos 1; coefficients = replicate orderLimit (pos 0) }
 
--- The passes of the summed-area table: down and right with order 1, gain 1, coefficient -1; up and left with order 0, gain 1.
+-- The passes of the summed-area table: down and right with order 1, gain 1, coefficient -1; up and left with order 0,
+-- gain 1.
 abbrev pub summedAreaPasses : List Pass
 summedAreaPasses = runningSumPass ∷ unchangedPass ∷ runningSumPass ∷ unchangedPass ∷ []
 
--- The height at a row and a column of a list of heights, row after row.
-abbrev pub heightAt : Plan → List ℤ → ℕ → ℕ → ℤ
-heightAt plan heights row column = getD heights (rowMajor (plan .grid .columns) row column) (pos 0)
-
--- Over every rectangle of the map that is not empty, the call gives the sum of the heights in it from this table, modulo 2^64.
+-- Over every rectangle of the map that is not empty, the call gives the sum of the heights in it from this table,
+-- modulo 2^64.
 abbrev pub SumsOver : Plan → List ℤ → (table : List ℕ) → Type 0
 SumsOver plan heights table =
-    (top left bottom right : ℕ) → top < bottom → left < right → bottom ≤ plan .grid .rows → right ≤ plan .grid .columns
+    (top left bottom right : ℕ) → Inside plan top left bottom right
     → rectangleCall plan table top left bottom right
-    ≡ record { answer = accepted; value = residue (heightsInside (heightAt plan heights) top left bottom right) }
+    ≡ record {
+      answer = accepted;
+      value = residue (heightsInside (heightAt (plan .grid .columns) heights) top left bottom right);
+    }
 
 -- For a plan with these passes, any map, and the output that the serial passes leave of it.
 abbrev pub SumsHeights : Type 0

@@ -1,24 +1,32 @@
 -- The rectangle sum as a call: document 01, the paragraph on the rectangle sum and refusals 6, 7 and 12.
 use mathlib.Core.Bool.{Bool, not, _||_}
 use mathlib.Core.List.{List, [], _∷_}
-use Prim.Native.Nat.{ℕ}
+use Prim.Native.Nat.{ℕ, _<_, _≤_}
 use lib.Dec.{ltb, leb}
-use lib.ListN.{length, getD}
+use lib.ListN.{length}
 use Rattle.refusal.specs.Refusals.{refusedFor, accepted}
 use Rattle.refusal.specs.Table.{_at_when_, firstDue, Given, given}
 use Rattle.number.specs.Numbers.{rowMajor}
 use Rattle.plan.specs.declared.Plan.{Plan}
 use Rattle.plan.specs.Rules.{keepsRules}
 use Rattle.plan.specs.Sizes.{neededPixels}
+use Rattle.buffer.specs.Lists.{wordAt}
 use Rattle.passes.specs.Table.{rectangleSum}
 use Rattle.rectangle.specs.declared.RectangleSum.{RectangleSum}
 use Rattle.rectangle.specs.declared.RectangleSum.the-variants.{Sum, Refused}
 
 -- A table of h×w words, row after row, as a function of row and column.
 abbrev pub tableOf : Plan → List ℕ → ℕ → ℕ → ℕ
-tableOf plan table row column = getD table (rowMajor (plan .grid .columns) row column) 0
+tableOf plan table row column = wordAt table (rowMajor (plan .grid .columns) row column)
 
--- Top ≥ bottom, left ≥ right, bottom > h or right > w.
+-- A rectangle of the map that is not empty,
+pub record Inside (plan : Plan) (top left bottom right : ℕ) : Type 0 where
+  pub top-bottom : top < bottom
+  pub left-right : left < right
+  pub bottom-low : bottom ≤ plan .grid .rows
+  pub right-low : right ≤ plan .grid .columns
+
+-- and the test that a rectangle is none such: top ≥ bottom, left ≥ right, bottom > h or right > w.
 abbrev pub outside : Plan → (top left bottom right : ℕ) → Bool
 outside plan top left bottom right =
     leb bottom top || (leb right left || (ltb (plan .grid .rows) bottom || ltb (plan .grid .columns) right))

@@ -10,8 +10,8 @@ ghost use lib.ListN.{length};
 ghost use Rattle.refusal.specs.Table.{_at_when_, firstDue, answerOf};
 ghost use Rattle.plan.specs.Sizes.{neededPixels};
 ghost use Rattle.passes.specs.Table.{cornerOf, rectangleSum};
-ghost use Rattle.rectangle.specs.Corners.{Inside, CornerFits};
-ghost use Rattle.rectangle.specs.Rectangle.{tableOf, outside, rectangleCall, sumGiven};
+ghost use Rattle.rectangle.specs.Corners.{CornerFits};
+ghost use Rattle.rectangle.specs.Rectangle.{tableOf, Inside, outside, rectangleCall, sumGiven};
 
 // The sum, or why there is none.
 pub enum RectangleSum {

@@ -1,5 +1,5 @@
--- The answer of the serial passes by the tests that are made, what it says of the record and the lengths, and what the call
--- leaves in the output. Assumes nothing.
+-- The answer of the serial passes by the tests that are made, what it says of the record and the lengths, and what the
+-- call leaves in the output. Assumes nothing.
 use mathlib.Core.Path.{_≡_, _∙_}
 use mathlib.Core.Bool.{true, not}
 use mathlib.Core.List.{List, [], _∷_, _++_}

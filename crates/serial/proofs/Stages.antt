@@ -24,7 +24,7 @@ use Rattle.serial.specs.Stages.{rowsRead, RowsFit, mapRows, historyRows,
 -- ---- one turn of each loop
 
 pub band-read-down : (plan : Plan) (heights : List ℤ) (n : ℕ) (output : List ℕ) {a b c : List ℕ} {band : Band}
-    → band ≡ bandOf (plan .grid .rows) n → a ≡ bandsReadDown plan heights n output
+    → band ≡ bandOf plan n → a ≡ bandsReadDown plan heights n output
     → b ≡ rowsRead plan heights (band .top) (band .height) a
     → c ≡ rowsPassed plan (band .top) (band .height) 0 b → c ≡ bandsReadDown plan heights (n + 1) output
 unfolding bandsReadDown
@@ -59,7 +59,7 @@ pub some-bands : (plan : Plan) → keepsRules plan ≡ true → 1 ≤ bandCount 
 some-bands plan kept = count-positive (plan .grid .rows) bandRows (omega arith) (rules plan kept .rows-low)
 
 -- The rows of a band are in the map,
-pub band-fits : (plan : Plan) (n : ℕ) {band : Band} {m pass : ℕ} → band ≡ bandOf (plan .grid .rows) n → n < bandCount plan
+pub band-fits : (plan : Plan) (n : ℕ) {band : Band} {m pass : ℕ} → band ≡ bandOf plan n → n < bandCount plan
     → keepsRules plan ≡ true → pass < 4 → neededPixels plan ≤ m → RowsFit plan m (band .top) (band .height) pass
 band-fits plan n e counted kept is-pass long =
     rw e
@@ -72,7 +72,7 @@ band-fits plan n e counted kept is-pass long =
     })
 
 -- and have no more pixels than it.
-pub band-in-map : (plan : Plan) (n : ℕ) {band : Band} → band ≡ bandOf (plan .grid .rows) n → n < bandCount plan
+pub band-in-map : (plan : Plan) (n : ℕ) {band : Band} → band ≡ bandOf plan n → n < bandCount plan
     → band .top * plan .grid .columns + band .height * plan .grid .columns ≤ neededPixels plan
 band-in-map plan n e counted =
     rw e (rows-in-map plan _ _ (extent-inside (plan .grid .rows) bandRows n counted))

@@ -1,7 +1,7 @@
 -- The serial passes over a whole map as a call: document 01, 'The four passes' and 'Refused calls'.
 use mathlib.Core.Bool.{not}
 use mathlib.Core.List.{List, [], _∷_, _++_}
-use Prim.Native.Nat.{ℕ, _/_, _%_}
+use Prim.Native.Nat.{ℕ}
 use lib.Dec.{ltb}
 use lib.IntN.{ℤ}
 use lib.ListN.{length, drop}
@@ -10,7 +10,7 @@ use Rattle.refusal.specs.Table.{_at_when_, firstDue, ifAccepted}
 use Rattle.plan.specs.declared.Plan.{Plan}
 use Rattle.plan.specs.Rules.{keepsRules}
 use Rattle.plan.specs.Sizes.{neededPixels}
-use Rattle.buffer.specs.Lists.{listOf}
+use Rattle.buffer.specs.Lists.{listOf, byPlace}
 use Rattle.filter.specs.PlanFilters.{mapOf, serialResult}
 
 -- The answer: 6 where the record breaks a rule, then 7 where map or output has fewer than h×w places.
@@ -25,9 +25,7 @@ serialAnswer plan mapLength outputLength =
 -- The h×w words of the result of left, row after row.
 unfoldable pub serialWords : Plan → List ℤ → List ℕ
 serialWords plan heights =
-    listOf
-    (λ i. serialResult plan (mapOf plan heights) 4 (i / plan .grid .columns) (i % plan .grid .columns))
-    (neededPixels plan)
+    listOf (byPlace (plan .grid .columns) (serialResult plan (mapOf plan heights) 4)) (neededPixels plan)
 
 -- The output after a call: of an accepted call the words of the passes, and past these the words that were there; of a
 -- refused call all words that were there.

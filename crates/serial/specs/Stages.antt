@@ -75,9 +75,9 @@ bandTop n = n * bandRows
 abbrev pub bandHeight : Plan → ℕ → ℕ
 bandHeight plan n = blockExtent (plan .grid .rows) bandRows n
 
--- and both, in a map of that many rows.
-abbrev pub bandOf : (mapHeight n : ℕ) → Band
-bandOf mapHeight n = record { top = bandTop n; height = blockExtent mapHeight bandRows n }
+-- and both.
+abbrev pub bandOf : Plan → ℕ → Band
+bandOf plan n = record { top = bandTop n; height = bandHeight plan n }
 
 -- What a pass over a band wants of an output of n words.
 pub record BandFits (plan : Plan) (n band pass : ℕ) : Type 0 where

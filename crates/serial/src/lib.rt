@@ -13,13 +13,12 @@ ghost use lib.ListN.{length, drop};
 ghost use Rattle.refusal.specs.Table.{answerOf};
 ghost use Rattle.plan.specs.Rules.{keepsRules};
 ghost use Rattle.plan.specs.Sizes.{neededPixels};
-ghost use Rattle.grid.specs.Grid.{blockCount};
 ghost use Rattle.axis.specs.Axis.{axisOf, directionOf};
 ghost use Rattle.serial.specs.Serial.{serialAnswer, serialWords, serialOutput};
-ghost use Rattle.serial.specs.Stages.{MapFits, RowsFit, BandFits, historyRows, rowsPassed, bandRows, bandCount, bandOf, bandPassed, bandsReadDown, bandsFinished};
+ghost use Rattle.serial.specs.Stages.{MapFits, RowsFit, BandFits, historyRows, rowsPassed, bandCount, bandOf, bandPassed, bandsReadDown, bandsFinished};
 
-// The rows of a band: enough that the chains of multiplies of their row passes overlap, and few enough that a band stays
-// in the cache from one step to the next. `bandRows` of specs/Stages.antt is the same number.
+// The rows of a band: enough that the chains of multiplies of their row passes overlap, and few enough that a band
+// stays in the cache from one step to the next. `bandRows` of specs/Stages.antt is the same number.
 const BAND: usize = 8;
 
 // Where a band lies in the map, and how many rows it has.
@@ -73,15 +72,14 @@ fn band_count(plan: Plan) -> usize
     grid.block_rows()
 }
 
-// Where a band of a map of `rows` rows lies: the last band is what is left of the map.
-fn band_of(rows: usize, band: usize) -> Band
-    requires { ⌜ band < blockCount rows bandRows ⌝ }
-    ensures { λ r. ⌜ r ≡ bandOf rows band ⌝ }
+// Where a band of a map lies: the last band is what is left of the map.
+fn band_of(plan: Plan, band: usize) -> Band
+    requires { ⌜ band < bandCount plan ⌝ }
+    ensures { λ r. ⌜ r ≡ bandOf plan band ⌝ }
 {
-    let top = band * BAND;
     Band {
-        top: top,
-        height: number::lesser(BAND, rows - top),
+        top: band * BAND,
+        height: grid::counted_extent(plan.grid.rows, BAND, band),
     }
 }
 
@@ -93,7 +91,7 @@ fn read_down(plan: Plan, map: &[i32], output: &mut [u64])
     let bands = band_count(plan);
     let mut band = 0;
     while band < bands {
-        let at = band_of(plan.grid.rows, band);
+        let at = band_of(plan, band);
         let from = at.top * plan.grid.columns;
         buffer::read_heights(map, from, output, from, at.height * plan.grid.columns);
         pass_over_rows(plan, output, at.top, at.height, 0);
@@ -138,12 +136,12 @@ fn pass_over_band(plan: Plan, output: &mut [u64], band: usize, pass: usize)
     requires { ⌜ BandFits plan (length (now output)) band pass ⌝ }
     ensures { λ _. ⌜ now (output .exit) ≡ bandPassed plan band pass (now (output .entry)) ⌝ }
 {
-    let at = band_of(plan.grid.rows, band);
+    let at = band_of(plan, band);
     pass_over_rows(plan, output, at.top, at.height, pass);
 }
 
-// The pass up, band by band from the bottom, and both row passes one band behind it: over a band, up reads the band below
-// as it left it and nothing further down, since a band has no fewer rows than a filter has taps.
+// The pass up, band by band from the bottom, and both row passes one band behind it: over a band, up reads the band
+// below as it left it and nothing further down, since a band has no fewer rows than a filter has taps.
 fn finish_up(plan: Plan, output: &mut [u64])
     requires { ⌜ (keepsRules plan ≡ true) × (neededPixels plan ≤ length (now output)) ⌝ }
     ensures { λ _. ⌜ now (output .exit) ≡ bandsFinished plan (now (output .entry)) ⌝ }

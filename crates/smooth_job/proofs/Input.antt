@@ -9,9 +9,9 @@ use native.Mathlib.Omega.{arith}
 use lib.Dec.{eqb}
 use lib.ListN.{length}
 use borrow.Author.Tests.{eq-eqb, ne-eqb, le-leb, lt-leb}
-use Rattle.plan_reader.specs.PlanWords.{kindOf}
 use Rattle.plan.specs.Sizes.{wordLimit}
 use Rattle.smooth_job.specs.Program.{wordIn, afterEnd, planLength, inputLimit, cutLength}
+use Rattle.number.specs.KindWords.{kindOf}
 
 module _ (word : ℕ → ℕ) where
   -- One word is looked at.

@@ -1,12 +1,12 @@
 -- A word of 32 bits as a signed number, by its sign, and what the machine makes of it. Assumes nothing.
 use mathlib.Core.Path.{_≡_, sym, _∙_}
-use Prim.Native.Nat.{ℕ, suc, _-_, _<_, _≤_}
+use Prim.Native.Nat.{ℕ, _<_, _≤_}
 use native.Mathlib.Omega.{arith}
-use lib.IntN.{ℤ, pos, negsuc, _-ℤ_}
+use lib.IntN.{ℤ, pos, _-ℤ_}
 use mir.Syntax.{w32, w64}
 use mir.Val.{SFits, toZ, ofZ}
 use mir.ValLaws.{toZ-pos, toZ-ofZ}
-use borrow.Author.Tests.{lt-ltb, le-ltb}
+use Rattle.plan_reader.proofs.SignedPayload.{complement-low, complement-high, lowered-back}
 use Rattle.smooth_job.specs.Program.{signed32}
 
 -- A signed answer, as the machine reads it back from its bits.
@@ -15,24 +15,13 @@ read-back {z} fits e = toZ-ofZ w32 z fits ∙ e
 
 pub decoded-low : (word : ℕ) → word < 2147483648 → toZ w32 word ≡ signed32 word
 unfolding signed32
-decoded-low word low = toZ-pos w32 word (omega arith) ∙ sym (simp (lt-ltb word 2147483648 low))
+decoded-low word low = toZ-pos w32 word (omega arith) ∙ sym (complement-low 32 word low)
 
 module _ (word : ℕ) (high : 2147483648 ≤ word) (bounded : word < 4294967296) where
-  signed-high : signed32 word ≡ negsuc (4294967296 - suc word)
-  unfolding signed32
-  signed-high = simp (le-ltb word 2147483648 high)
-
-  lowered : toZ w64 word -ℤ pos 4294967296 ≡ negsuc (4294967296 - suc word)
-  lowered = rw (toZ-pos w64 word (omega arith)) (simp (lt-ltb word 4294967296 bounded))
-
-  pub lowered-fits : SFits w64 (toZ w64 word -ℤ pos 4294967296)
-  lowered-fits = rw lowered (record { sfits = omega arith })
-
-  read : toZ w64 (ofZ w64 (toZ w64 word -ℤ pos 4294967296)) ≡ negsuc (4294967296 - suc word)
-  read = toZ-ofZ w64 (toZ w64 word -ℤ pos 4294967296) lowered-fits ∙ lowered
-
   pub narrowed-fits : SFits w32 (toZ w64 (ofZ w64 (toZ w64 word -ℤ pos 4294967296)))
-  narrowed-fits = rw read (record { sfits = omega arith })
+  narrowed-fits = rw (lowered-back 4294967296 word bounded (omega arith)) (record { sfits = omega arith })
 
   pub decoded-high : toZ w32 (ofZ w32 (toZ w64 (ofZ w64 (toZ w64 word -ℤ pos 4294967296)))) ≡ signed32 word
-  decoded-high = read-back narrowed-fits (read ∙ sym signed-high)
+  unfolding signed32
+  decoded-high =
+      read-back narrowed-fits (lowered-back 4294967296 word bounded (omega arith) ∙ sym (complement-high 32 word high))

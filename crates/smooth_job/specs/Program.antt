@@ -1,24 +1,25 @@
 -- Document 01's program: what its input asks for, what it answers, and the output words that it prints.
 use mathlib.Core.Bool.{not, cond}
 use mathlib.Core.List.{List, [], _∷_, _++_}
-use Prim.Native.Nat.{ℕ, zero, suc, _+_, _-_, _*_, _/_, _%_, min}
-use lib.IntN.{ℤ, pos, negsuc}
+use Prim.Native.Nat.{ℕ, zero, suc, _+_, _*_, _/_, _%_, min}
+use lib.IntN.{ℤ}
 use lib.Dec.{ltb, leb, eqb}
-use lib.ListN.{length, getD, replicate}
+use lib.ListN.{length, replicate}
 use Rattle.refusal.specs.Refusals.{Answer, accepted, refused}
 use Rattle.refusal.specs.Table.{Row, _at_when_, firstDue, answerOf, Given, given}
 use Rattle.plan.specs.declared.Plan.{Plan}
 use Rattle.plan.specs.Rules.{orderLimit}
 use Rattle.grid.specs.Grid.{sideLimit}
 use Rattle.plan.specs.Sizes.{wordLimit, neededPixels}
-use Rattle.buffer.specs.Lists.{listOf}
-use Rattle.plan_reader.specs.PlanWords.{kindOf}
+use Rattle.buffer.specs.Lists.{wordAt, listOf}
+use Rattle.plan_reader.specs.PlanWords.{twosComplement}
 use Rattle.plan_reader.specs.ReadPlan.{planRows, planFrom}
 use Rattle.report.specs.Values.{Values}
 use Rattle.report.specs.Report.{report}
 use Rattle.job_spec.specs.Calls.{Buffers, lists}
 use Rattle.whole_job.specs.WholeJob.{wholeAnswer, afterWholeJob}
 use Rattle.smooth_job.specs.declared.Smoothed.{Smoothed}
+use Rattle.number.specs.KindWords.{kindOf}
 
 -- ---- the input
 
@@ -26,11 +27,15 @@ use Rattle.smooth_job.specs.declared.Smoothed.{Smoothed}
 abbrev pub pixelLimit : ℕ
 pixelLimit = 64
 
+-- The byte of the input at a place, 0 past the end.
+abbrev pub byteAt : List ℕ → ℕ → ℕ
+byteAt input place = wordAt input place
+
 -- Word number i of the input: four bytes, the lowest first.
 unfoldable pub wordIn : List ℕ → ℕ → ℕ
 wordIn input i =
-    getD input (4 * i) 0 + 256 * getD input (4 * i + 1) 0 + 65536 * getD input (4 * i + 2) 0
-    + 16777216 * getD input (4 * i + 3) 0
+    byteAt input (4 * i) + 256 * byteAt input (4 * i + 1) + 65536 * byteAt input (4 * i + 2)
+    + 16777216 * byteAt input (4 * i + 3)
 
 -- The place after the first word of kind 6 among the n from place i on; the place after them where there is none.
 unfoldable pub afterEnd : (ℕ → ℕ) → ℕ → ℕ → ℕ
@@ -47,7 +52,7 @@ planWords input = listOf (wordIn input) (planLength input)
 
 -- A word of 32 bits as a height, two's complement.
 unfoldable pub signed32 : ℕ → ℤ
-signed32 word = cond (ltb word 2147483648) (pos word) (negsuc (4294967296 - suc word))
+signed32 word = twosComplement 32 word
 
 -- The n heights from word number `first` on.
 unfoldable pub heightsIn : List ℕ → ℕ → ℕ → List ℤ

@@ -8,14 +8,14 @@ use report::ReportAnswer;
 ghost use mathlib.Core.Path.{_≡_};
 ghost use mathlib.Core.Bool.{true};
 ghost use Prim.Native.Nat.{_+_, _*_, _/_, _<_, _≤_};
-ghost use lib.ListN.{length, getD, replicate};
+ghost use lib.ListN.{length, replicate};
 ghost use Rattle.plan.specs.Rules.{keepsRules};
 ghost use Rattle.refusal.specs.Refusals.{numberOf, placeOf};
 ghost use Rattle.plan.specs.Sizes.{neededPixels, wordLimit};
 ghost use Rattle.buffer.specs.Lists.{listOf};
 ghost use Rattle.plan_reader.specs.ReadPlan.{readPlan, readGiven};
 ghost use Rattle.report.specs.Report.{report};
-ghost use Rattle.smooth_job.specs.Program.{pixelLimit, stripLimit, wordIn, planLength, signed32, heightsIn, job, asked, askedWith, refusedWith, reportedWith, answerTo, smoothGiven, outputOf, cutLimit, cutLength};
+ghost use Rattle.smooth_job.specs.Program.{pixelLimit, stripLimit, byteAt, wordIn, planLength, signed32, heightsIn, job, asked, askedWith, refusedWith, reportedWith, answerTo, smoothGiven, outputOf, cutLimit, cutLength};
 
 // The most pixels, and room for the strips of any job of so many: `pixelLimit` and `stripLimit` of specs/Program.antt are the same
 // numbers.
@@ -85,7 +85,7 @@ fn refused(refusal: Refusal) -> Smoothed
 
 fn byte_at(input: &[u8], at: usize) -> u32
     requires { ⌜ at < length (now input) ⌝ }
-    ensures { λ r. ⌜ (r ≡ getD (now (input .entry)) at 0) × (r < 256) ⌝ }
+    ensures { λ r. ⌜ (r ≡ byteAt (now (input .entry)) at) × (r < 256) ⌝ }
 {
     input[at] as u32
 }
@@ -108,7 +108,7 @@ pub fn plan_length(input: &[u8]) -> usize
     let most = number::lesser(input.len() / 4, plan::WORD_LIMIT);
     let mut i = 0;
     while i < most {
-        if word_at(input, i) / 268435456 == 6 {
+        if number::kind_of(word_at(input, i)) == 6 {
             return i + 1;
         }
         i += 1;

@@ -19,11 +19,11 @@ use Rattle.passes.specs.Passes.{filterLine}
 use Rattle.passes.specs.Square.{weightedSum}
 use Rattle.squares.specs.LinePasses.{axisPasses, linePasses, onlyAt, passSquare, withHistories}
 
--- How many passes there are from the first of an axis to a pass of it.
-pub axis-passes : (pass : ℕ) → 1 + pass % 2 ≡ axisPasses pass
-axis-passes zero = refl
-axis-passes (suc zero) = refl
-axis-passes (suc (suc pass)) = omega (arith, axis-passes pass)
+-- An axis has two passes.
+pub passes-in-axis : (pass : ℕ) → (0 < axisPasses pass) × (axisPasses pass ≤ 2)
+passes-in-axis zero = omega arith
+passes-in-axis (suc zero) = omega arith
+passes-in-axis (suc (suc pass)) = passes-in-axis pass
 
 -- ---- linear ways of combining
 

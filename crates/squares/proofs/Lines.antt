@@ -2,7 +2,7 @@
 use mathlib.Core.List.{List}
 use mathlib.Core.Path.{_≡_, refl, ap, sym, _∙_}
 use mathlib.Core.Logic.{_≢_}
-use Prim.Native.Nat.{ℕ, zero, suc, _+_, _-_, _%_, _<_, _≤_}
+use Prim.Native.Nat.{ℕ, zero, suc, _+_, _-_, _<_, _≤_}
 use native.Mathlib.Omega.{arith}
 use native.Mathlib.Decide.{decLt}
 use native.Mathlib.Nat.{zero-add}
@@ -30,9 +30,7 @@ row-axis pass = axis-rows (rowPass pass) (omega arith)
 row-direction : (pass : ℕ) → directionOf (rowPass pass) ≡ directionOf pass
 row-direction zero = refl
 row-direction (suc zero) = refl
-row-direction (suc (suc pass)) =
-    let e : suc (suc pass) % 2 ≡ pass % 2 = omega arith in
-    ap (λ z. directionOf (2 + z)) e ∙ row-direction pass
+row-direction (suc (suc pass)) = row-direction pass
 
 -- ---- margins
 

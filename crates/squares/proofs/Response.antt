@@ -9,7 +9,7 @@ use Rattle.passes.specs.Filter.{Filter}
 use Rattle.axis.specs.Axis.{axisOf, along, across, lineOf}
 use Rattle.passes.specs.Passes.{filterLines, passesOver}
 use Rattle.squares.specs.LinePasses.{axisStart, axisPasses, linePasses, withHistories, rowEnd, crossed, response}
-use Rattle.squares.proofs.LinePasses.{axis-passes, linePasses-linear, linear-linePasses, linePasses-by-histories}
+use Rattle.squares.proofs.LinePasses.{linePasses-linear, linear-linePasses, linePasses-by-histories}
 
 module _ (filters : ℕ → Filter) (h w : ℕ) (H : ℕ → ℕ → ℕ → ℕ) where
   -- A line of a pass is a line through the passes of its axis.
@@ -56,7 +56,7 @@ module _ (filters : ℕ → Filter) (h w : ℕ) (H : ℕ → ℕ → ℕ → ℕ
   response-is u b l i =
       own-axis u b l i
       ∙ linePasses-by-histories filters (along (axisOf u) h w) (λ v. H v l) _ (axisStart u) (axisPasses u) i
-      (omega (arith, axis-passes u))
+      (omega arith)
       ∙ ap
       (withHistories filters (along (axisOf u) h w) (λ v. H v l) (axisStart u) (axisPasses u) 0 i)
       (crossed-is u b l i)

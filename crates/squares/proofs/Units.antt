@@ -5,7 +5,7 @@ use mathlib.Core.List.{List, []}
 use Prim.Native.Nat.{ℕ, zero, suc, _+_, _*_, _<_, _≤_}
 use native.Mathlib.Decide.{ℕ-discrete, decLt}
 use native.Mathlib.Omega.{arith}
-use lib.ListN.{length, set, getD}
+use lib.ListN.{length, set}
 use lib.Seq.{getD-set-same, getD-set-other}
 use Rattle.plan.specs.Rules.{orderLimit}
 use Rattle.buffer.specs.Lists.{wordAt}
@@ -16,7 +16,7 @@ use Rattle.buffer.proofs.Written.{written-next, written-length, written-other, 
 use Rattle.number.specs.Numbers.{rowMajor}
 use Rattle.filter.specs.Windows.{beyond}
 use Rattle.squares.specs.LinePasses.{onlyAt}
-use Rattle.squares.specs.LineBuffers.{rowWords, unitLines}
+use Rattle.squares.specs.LineBuffers.{rowWords, unitLines, squareAt}
 use Rattle.squares.specs.Rows.{ZerosFrom, RowsFilled}
 use Rattle.squares.proofs.LinePasses.{onlyAt-same, onlyAt-other}
 use Rattle.squares.proofs.Lines.{margin-below, beside-lines}
@@ -38,10 +38,10 @@ opposite-twice backward = refl
 -- One unit more.
 pub units-next : (d : Direction) (row places line : ℕ) (before : List ℕ) {b : List ℕ} {column : ℕ}
     → b ≡ unitLines d row places line before → column ≡ beyond d orderLimit places line
-    → set b ((row + line) * rowWords + column) 1 ≡ unitLines d row places (line + 1) before
+    → set b (rowMajor rowWords (row + line) column) 1 ≡ unitLines d row places (line + 1) before
 unfolding unitLines
 units-next d row places line before e f =
-    rw (e, f) (written-next (λ j. (row + j) * rowWords + beyond d orderLimit places j) (λ j. 1) line before)
+    rw (e, f) (written-next (λ j. rowMajor rowWords (row + j) (beyond d orderLimit places j)) (λ j. 1) line before)
 
 -- ---- what stands beside the lines
 
@@ -84,7 +84,7 @@ module _ (places t m v row order : ℕ) (first : t ≤ v) (last : v < t + m) (tw
   d = directionOf v
 
   abbrev unitPlace : ℕ → ℕ
-  unitPlace j = (row + j) * rowWords + beyond d orderLimit places j
+  unitPlace j = rowMajor rowWords (row + j) (beyond d orderLimit places j)
 
   abbrev units : List ℕ
   units = unitLines d row places order before
@@ -163,8 +163,8 @@ module _ (places t m v row order : ℕ) (first : t ≤ v) (last : v < t + m) (tw
 -- One row more.
 pub square-next : (v : ℕ → ℕ → ℕ) (place : ℕ) (square : List (List ℕ)) (row : List ℕ) → place < length square
     → ((j : ℕ) → j < orderLimit → wordAt row j ≡ v place j)
-    → ((p j : ℕ) → p < place → j < orderLimit → wordAt (getD square p []) j ≡ v p j)
-    → (p j : ℕ) → p < place + 1 → j < orderLimit → wordAt (getD (set square place row) p []) j ≡ v p j
+    → ((p j : ℕ) → p < place → j < orderLimit → squareAt square p j ≡ v p j)
+    → (p j : ℕ) → p < place + 1 → j < orderLimit → squareAt (set square place row) p j ≡ v p j
 square-next v place square row h e f p j a b =
     elim (ℕ-discrete p place) [
       | yes q ↦ rw q (ap (λ z. wordAt z j) (getD-set-same square place row [] h) ∙ e j b)

@@ -1,23 +1,26 @@
 -- Inner: lines in a buffer, one to a row, with room beside each for the outputs past its ends.
 use mathlib.Core.Bool.{cond}
 use mathlib.Core.List.{List, []}
-use Prim.Native.Nat.{ℕ, _+_, _*_, _%_, _<_, _≤_}
+use Prim.Native.Nat.{ℕ, _+_, _*_, _<_, _≤_}
 use lib.Dec.{ltb}
 use lib.ListN.{getD}
-use Rattle.number.specs.Numbers.{total}
+use Rattle.number.specs.Numbers.{total, rowMajor}
 use Rattle.grid.specs.Grid.{sideLimit}
 use Rattle.plan.specs.Rules.{orderLimit}
+use Rattle.plan.specs.PaddedLine.{paddedLine}
 use Rattle.passes.specs.Filter.{Filter}
 use Rattle.axis.specs.Axis.{Direction}
 use Rattle.filter.specs.FilterWords.{filterWith}
 use Rattle.filter.specs.Windows.{windowPass, beyond}
+use Rattle.buffer.specs.Lists.{wordAt}
 use Rattle.buffer.specs.Written.{written}
 use Rattle.filter.specs.declared.FilterWords.{FilterWords}
 use Rattle.filter.specs.declared.Window.{Window}
+use Rattle.squares.specs.LinePasses.{axisPasses}
 
 -- The words of a row: the longest line, and a history at both ends.
 abbrev pub rowWords : ℕ
-rowWords = sideLimit + 2 * orderLimit
+rowWords = paddedLine
 
 -- The rows of a buffer: one for each place of the histories of four passes.
 abbrev pub lineRows : ℕ
@@ -43,9 +46,9 @@ rowsBefore filters pass = total (λ u. filters u .order) pass
 abbrev pub lineWindow : (rows places : ℕ) → Window
 lineWindow rows places = record { stride = rowWords; top = 0; left = orderLimit; height = rows; width = places }
 
--- The pass along rows with the direction of a pass.
+-- The pass along rows, 2 or 3, with the direction of a pass.
 abbrev pub rowPass : ℕ → ℕ
-rowPass pass = 2 + pass % 2
+rowPass pass = 1 + axisPasses pass
 
 -- The buffer after a pass along its lines, in the rows of the passes up to it.
 unfoldable pub linePass : (ℕ → Filter) → (places pass : ℕ) → List ℕ → List ℕ
@@ -58,7 +61,11 @@ linePass filters places pass buffer =
 -- order: of zeros it makes the unit histories.
 unfoldable pub unitLines : Direction → (row places order : ℕ) → List ℕ → List ℕ
 unitLines d row places order buffer =
-    written (λ j. (row + j) * rowWords + beyond d orderLimit places j) (λ j. 1) order buffer
+    written (λ j. rowMajor rowWords (row + j) (beyond d orderLimit places j)) (λ j. 1) order buffer
+
+-- What a square has at a place and a line.
+abbrev pub squareAt : List (List ℕ) → (place line : ℕ) → ℕ
+squareAt square place line = wordAt (getD square place []) line
 
 -- What the passes t, .. t+m-1 along the rows of a buffer of n words want.
 pub record LinesFit (n : ℕ) (filters : ℕ → Filter) (places t m : ℕ) : Type 0 where

@@ -4,21 +4,17 @@ use Prim.Native.Nat.{ℕ, zero, suc, _+_}
 use lib.Dec.{eqb}
 use Rattle.word.specs.Word.{_⊕_}
 use Rattle.passes.specs.Filter.{Filter}
-use Rattle.axis.specs.Axis.{directionOf}
+use Rattle.axis.specs.Axis.{axisOf, directionOf, along, isBackward, ifBackward}
 use Rattle.passes.specs.Passes.{filterLine}
 use Rattle.passes.specs.Square.{unitHistory, weightedSum}
 
 -- Of the passes, the first that runs along the same axis as a pass,
 abbrev pub axisStart : ℕ → ℕ
-axisStart zero = 0
-axisStart (suc zero) = 0
-axisStart (suc (suc pass)) = 2
+axisStart pass = along (axisOf pass) 0 2
 
--- and how many there are from that one to the pass itself.
+-- and how many there are from that one to the pass itself: the forward pass of an axis comes before its backward one.
 abbrev pub axisPasses : ℕ → ℕ
-axisPasses zero = 1
-axisPasses (suc zero) = 2
-axisPasses (suc (suc pass)) = axisPasses pass
+axisPasses pass = 1 + ifBackward (isBackward (directionOf pass)) 1
 
 -- The passes t, t+1, .. t+m-1 over a line x of n places; P u stands for the outputs of pass u past the line's end.
 unfoldable pub linePasses : (ℕ → Filter) → (n : ℕ) → (P : ℕ → ℕ → ℕ) → (x : ℕ → ℕ) → (t m : ℕ) → ℕ → ℕ

@@ -3,19 +3,20 @@
 use filter::FilterWords;
 use filter::Window;
 ghost use mathlib.Core.Path.{_≡_};
-ghost use mathlib.Core.List.{[]};
 ghost use Prim.Native.Nat.{ℕ, _+_, _*_, _<_, _≤_};
-ghost use lib.ListN.{length, getD};
+ghost use lib.ListN.{length};
+ghost use Rattle.number.specs.Numbers.{rowMajor};
 ghost use Rattle.grid.specs.Grid.{sideLimit};
 ghost use Rattle.plan.specs.Rules.{orderLimit};
 ghost use Rattle.buffer.specs.Lists.{wordAt};
 ghost use Rattle.axis.specs.Axis.{directionOf};
 ghost use Rattle.filter.specs.Windows.{beyond};
-ghost use Rattle.squares.specs.LineBuffers.{rowWords, filterAt, OrdersFit, rowsBefore, linePass, unitLines, LinesFit, UnitsFit};
+ghost use Rattle.squares.specs.LineBuffers.{rowWords, filterAt, OrdersFit, rowsBefore, linePass, unitLines, squareAt, LinesFit, UnitsFit};
+ghost use Rattle.squares.specs.LinePasses.{axisStart, axisPasses};
 ghost use Rattle.squares.specs.Rows.{LinesPassed};
 
 // The words of a row of lines: the longest line, and a history at both ends.
-pub const ROW: usize = grid::SIDE_LIMIT + 2 * plan::ORDER_LIMIT;
+pub const ROW: usize = plan::PADDED_LINE;
 
 // The words of a buffer of lines: a row for each place of the histories of four passes.
 pub const LINES: usize = 4 * plan::ORDER_LIMIT * ROW;
@@ -31,6 +32,20 @@ pub fn margin(pass: usize, extent: usize, distance: usize) -> usize
     } else {
         plan::ORDER_LIMIT - 1 - distance
     }
+}
+
+// Of the passes, the first that runs along the same axis as a pass,
+pub fn axis_start(pass: usize) -> usize
+    ensures { λ r. ⌜ r ≡ axisStart pass ⌝ }
+{
+    axis::along(pass, 0, 2)
+}
+
+// and how many there are from that one to the pass itself.
+pub fn axis_passes(pass: usize) -> usize
+    ensures { λ r. ⌜ r ≡ axisPasses pass ⌝ }
+{
+    if axis::is_backward(pass) { 2 } else { 1 }
 }
 
 // The rows of the passes before a pass.
@@ -63,7 +78,8 @@ fn line_pass(lines: &mut [u64], places: usize, filters: [FilterWords; 4], pass: 
             height: rows,
             width: places,
         };
-        filter::run_pass(lines, window, 2 + pass % 2, plan::ORDER_LIMIT, filter);
+        let along_rows = 1 + axis_passes(pass);
+        filter::run_pass(lines, window, along_rows, plan::ORDER_LIMIT, filter);
     }
 }
 
@@ -101,7 +117,7 @@ pub fn unit_lines(lines: &mut [u64], row: usize, pass: usize, places: usize, ord
 // What each line, from a row on, has in a column.
 fn square_row(lines: &[u64], row: usize, column: usize) -> [u64; plan::ORDER_LIMIT]
     requires { ⌜ (column < rowWords) × ((row + orderLimit) * rowWords ≤ length (now lines)) ⌝ }
-    ensures { λ r. ⌜ ((line : ℕ) → line < orderLimit → wordAt r line ≡ wordAt (now (lines .entry)) ((row + line) * rowWords + column)) ⌝ }
+    ensures { λ r. ⌜ ((line : ℕ) → line < orderLimit → wordAt r line ≡ wordAt (now (lines .entry)) (rowMajor rowWords (row + line) column)) ⌝ }
 {
     let mut words = [0; plan::ORDER_LIMIT];
     let mut line = 0;
@@ -119,7 +135,7 @@ pub fn square_from(
     from: usize,
 ) -> [[u64; plan::ORDER_LIMIT]; plan::ORDER_LIMIT]
     requires { ⌜ (from + orderLimit ≤ rowWords) × ((row + orderLimit) * rowWords ≤ length (now lines)) ⌝ }
-    ensures { λ r. ⌜ ((place line : ℕ) → place < orderLimit → line < orderLimit → wordAt (getD r place []) line ≡ wordAt (now (lines .entry)) ((row + line) * rowWords + (from + place))) ⌝ }
+    ensures { λ r. ⌜ ((place line : ℕ) → place < orderLimit → line < orderLimit → squareAt r place line ≡ wordAt (now (lines .entry)) (rowMajor rowWords (row + line) (from + place))) ⌝ }
 {
     let mut square = [[0; plan::ORDER_LIMIT]; plan::ORDER_LIMIT];
     let mut place = 0;

@@ -1,2 +1,4 @@
 pub mod Slots
 pub mod StripRecords
+pub mod Edges
+pub mod BlockBounds

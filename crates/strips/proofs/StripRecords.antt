@@ -11,8 +11,8 @@ use Rattle.plan.specs.declared.Plan.{Plan}
 use Rattle.plan.specs.Sizes.{neededMarks, neededStrips, orderOf}
 use Rattle.buffer.specs.Lists.{wordAt}
 use Rattle.number.proofs.Tests.{and-left, and-right, and-both, same-test}
-use Rattle.axis.specs.Axis.{Axis, columns, rows, Direction, forward, backward, axisOf, directionOf, along, across, isBackward, ifForward}
-use Rattle.grid.specs.Grid.{rowsOf, columnsOf, neighbour, orZero}
+use Rattle.axis.specs.Axis.{Axis, columns, rows, Direction, forward, backward, axisOf, directionOf, along, isBackward, ifForward}
+use Rattle.grid.specs.Grid.{neighbour, orZero, extentAlong, linesAcross}
 use Rattle.task_words.specs.Strips.{stripStart, placeInStrip, stripPlace, placeInside, insideBlock, stripWord, fromEdge, nearestFirst, pastEdges}
 use Rattle.grid.proofs.Neighbours.{neighbour-below}
 use Rattle.grid.proofs.Blocks.{lines-in-side}
@@ -23,7 +23,7 @@ use Rattle.grid.specs.declared.BlockShape.{BlockShape}
 use Rattle.strips.specs.declared.Strip.{Strip}
 use Rattle.grid.specs.declared.Neighbour.{Neighbour}
 use Rattle.grid.specs.declared.Neighbour.the-variants.{Block, Beyond}
-use Rattle.grid.specs.Shapes.{shapeOf, foundNeighbour}
+use Rattle.grid.specs.Shapes.{shapeOf, foundNeighbour, shapeExtent, shapeLines}
 use Rattle.strips.specs.StripRecord.{firstInside, pastInside, stripWith, stripOf, emptyStrip, stripIn, stripBefore, addressIn, stripRead, StripFits}
 
 -- ---- the code's values
@@ -46,9 +46,9 @@ strip-with-is backward order n start lineStep placeStep lines e t f =
     let whole : 0 + min order n ≡ min order n = omega arith in rw (f, t, e, whole)
 
 pub strip-of-is : (plan : Plan) (k pass : ℕ) {shape : BlockShape} {start n lineStep placeStep lines : ℕ} {strip : Strip}
-    → shape ≡ shapeOf (plan .grid) k → start ≡ stripStart plan k pass → n ≡ along (axisOf pass) (shape .rows) (shape .columns)
+    → shape ≡ shapeOf (plan .grid) k → start ≡ stripStart plan k pass → n ≡ shapeExtent shape pass
     → lineStep ≡ along (axisOf pass) 1 (orderOf plan pass) → placeStep ≡ along (axisOf pass) (plan .grid .side) 1
-    → lines ≡ across (axisOf pass) (shape .rows) (shape .columns)
+    → lines ≡ shapeLines shape pass
     → strip ≡ stripWith (directionOf pass) (orderOf plan pass) n start lineStep placeStep lines
     → strip ≡ stripOf plan k pass
 unfolding stripOf shapeOf
@@ -101,8 +101,8 @@ module _ (plan : Plan) (k pass line place : ℕ) where
   unfolding stripRead stripWord insideBlock stripOf stripWith
   strip-read strips h =
       ap₂ (λ (test : Bool) word. cond test word 0)
-      (ap (ltb line (across (axisOf pass) (rowsOf (plan .grid) k) (columnsOf (plan .grid) k)) &&_)
-      (inside-test (directionOf pass) (orderOf plan pass) (along (axisOf pass) (rowsOf (plan .grid) k) (columnsOf (plan .grid) k)) place h))
+      (ap (ltb line (linesAcross (plan .grid) k pass) &&_)
+      (inside-test (directionOf pass) (orderOf plan pass) (extentAlong (plan .grid) k pass) place h))
       (ap (wordAt strips) address-is)
 
 pub past-in-order : (d : Direction) (order n : ℕ) → pastInside d order n ≤ order
@@ -120,7 +120,7 @@ strip-fits plan k pass n here h long =
           (omega (
             arith,
             strip-place-below plan k pass line place here h (omega (arith, lines-in-side (plan .grid) k (axisOf pass)))
-                (omega (arith, past-in-order (directionOf pass) (orderOf plan pass) (along (axisOf pass) (rowsOf (plan .grid) k) (columnsOf (plan .grid) k)))),
+                (omega (arith, past-in-order (directionOf pass) (orderOf plan pass) (extentAlong (plan .grid) k pass))),
           ));
     }
 

@@ -7,8 +7,8 @@ use Prim.Native.Nat.{ℕ, _+_, _-_, _*_, _<_, _≤_, min}
 use lib.Dec.{ltb, leb}
 use Rattle.plan.specs.declared.Plan.{Plan}
 use Rattle.buffer.specs.Lists.{wordAt}
-use Rattle.axis.specs.Axis.{Direction, forward, backward, axisOf, directionOf, along, across}
-use Rattle.grid.specs.Grid.{sideLimit, rowsOf, columnsOf, neighbour}
+use Rattle.axis.specs.Axis.{Direction, forward, backward, axisOf, directionOf, along}
+use Rattle.grid.specs.Grid.{sideLimit, neighbour, extentAlong, linesAcross}
 use Rattle.plan.specs.Rules.{orderLimit, keepsRules}
 use Rattle.plan.specs.Sizes.{orderOf, neededMarks}
 use Rattle.task_words.specs.Strips.{stripStart}
@@ -56,9 +56,9 @@ stripWith d order n start lineStep placeStep lines =
 -- Block k's strip of a pass: rows of b words (down, up), or b rows of `order` words (right, left).
 unfoldable pub stripOf : Plan → ℕ → ℕ → Strip
 stripOf plan k pass =
-    stripWith (directionOf pass) (orderOf plan pass) (along (axisOf pass) (rowsOf (plan .grid) k) (columnsOf (plan .grid) k))
+    stripWith (directionOf pass) (orderOf plan pass) (extentAlong (plan .grid) k pass)
     (stripStart plan k pass) (along (axisOf pass) 1 (orderOf plan pass)) (along (axisOf pass) (plan .grid .side) 1)
-    (across (axisOf pass) (rowsOf (plan .grid) k) (columnsOf (plan .grid) k))
+    (linesAcross (plan .grid) k pass)
 
 -- The strip without lines, which is 0 everywhere.
 abbrev pub emptyStrip : Strip
@@ -77,6 +77,10 @@ stripBefore plan k pass = stripIn plan pass (neighbour (plan .grid) k pass)
 abbrev pub placeHeld : Strip → (place : ℕ) → Bool
 placeHeld strip place = leb (strip .first) place && ltb place (strip .past)
 
+-- Whether a line and a place of a strip do.
+abbrev pub wordHeld : Strip → (line place : ℕ) → Bool
+wordHeld strip line place = ltb line (strip .lines) && placeHeld strip place
+
 -- Where the word at a line and a place of a strip stands.
 abbrev pub addressIn : Strip → ℕ → ℕ → ℕ
 addressIn strip line place = strip .start + line * strip .«line_step» + place * strip .«place_step»
@@ -84,7 +88,7 @@ addressIn strip line place = strip .start + line * strip .«line_step» + place 
 -- The word that is read there: 0 outside the block.
 unfoldable pub stripRead : Strip → List ℕ → ℕ → ℕ → ℕ
 stripRead strip strips line place =
-    cond (ltb line (strip .lines) && placeHeld strip place) (wordAt strips (addressIn strip line place)) 0
+    cond (wordHeld strip line place) (wordAt strips (addressIn strip line place)) 0
 
 -- The words of a strip that lie in the block stand in a list of n words.
 pub record StripFits (n : ℕ) (strip : Strip) : Type 0 where

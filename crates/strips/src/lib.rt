@@ -3,9 +3,10 @@
 use grid::Neighbour;
 use plan::Plan;
 ghost use mathlib.Core.Path.{_≡_};
+ghost use Prim.Native.Nat.{_<_, _^_};
 ghost use Rattle.axis.specs.Axis.{directionOf};
 ghost use Rattle.task_words.specs.Strips.{stripStart};
-ghost use Rattle.strips.specs.StripRecord.{StripAt, EdgeFits, edgeStart, stripWith, stripOf, stripBefore};
+ghost use Rattle.strips.specs.StripRecord.{StripAt, EdgeFits, edgeStart, addressIn, stripWith, stripOf, stripBefore};
 
 // A strip of lines: the word at a line and a place stands at `start + line * line_step + place * place_step`. The lines
 // below `lines` and the places from `first` to before `past` lie in the block.
@@ -16,6 +17,16 @@ pub struct Strip {
     pub lines: usize,
     pub first: usize,
     pub past: usize,
+}
+
+impl Strip {
+    // Where the word of the first line at a place stands.
+    pub fn first_at(self, place: usize) -> usize
+        requires { ⌜ addressIn self 0 place < 2 ^ 64 ⌝ }
+        ensures { λ r. ⌜ r ≡ addressIn self 0 place ⌝ }
+    {
+        self.start + place * self.place_step
+    }
 }
 
 // The first word of block k's strip of a pass.
@@ -71,19 +82,18 @@ pub fn strip_of(plan: Plan, k: usize, pass: usize) -> Strip
     requires { ⌜ StripAt plan k pass ⌝ }
     ensures { λ r. ⌜ r ≡ stripOf plan k pass ⌝ }
 {
-    let grid = plan.grid;
-    let shape = grid.block_shape(k);
+    let shape = plan.grid.block_shape(k);
     let start = strip_start(plan, k, pass);
     let filter = plan.passes[pass];
     let order = filter.order;
     strip_with(
         pass,
         order,
-        axis::along(pass, shape.rows, shape.columns),
+        shape.extent(pass),
         start,
         axis::along(pass, 1, order),
-        axis::along(pass, grid.side, 1),
-        axis::across(pass, shape.rows, shape.columns),
+        axis::along(pass, plan.grid.side, 1),
+        shape.lines(pass),
     )
 }
 
@@ -92,8 +102,7 @@ pub fn strip_before(plan: Plan, k: usize, pass: usize) -> Strip
     requires { ⌜ StripAt plan k pass ⌝ }
     ensures { λ r. ⌜ r ≡ stripBefore plan k pass ⌝ }
 {
-    let grid = plan.grid;
-    let found = grid.neighbour(k, pass);
+    let found = plan.grid.neighbour(k, pass);
     match found {
         Neighbour::Block(j) => strip_of(plan, j, pass),
         Neighbour::Beyond => Strip {

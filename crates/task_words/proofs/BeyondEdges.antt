@@ -10,7 +10,7 @@ use native.Mathlib.Omega.{arith}
 use lib.Dec.{ltb}
 use borrow.Author.Tests.{ltb-true, lt-ltb, le-ltb, le-leb, lt-leb}
 use Rattle.plan.specs.declared.Plan.{Plan}
-use Rattle.grid.specs.Grid.{blockCount, blockExtent, blockRows, blockColumns, blockRow, blockColumn, firstRow, firstColumn, rowsOf, columnsOf, partOf, neighbour, orZero}
+use Rattle.grid.specs.Grid.{blockCount, blockExtent, blockRows, blockColumns, blockRow, blockColumn, firstRow, firstColumn, rowsOf, columnsOf, partOf, neighbour, orZero, extentAlong, linesAcross}
 use Rattle.plan.specs.Sizes.{neededMarks, orderOf}
 use Rattle.number.proofs.Tests.{lt-or-ge}
 use Rattle.grid.proofs.Extents.{counted-start, extent-full, extent-last}
@@ -86,17 +86,17 @@ and-then true q false v v' e f = rw e
 -- A strip with the nearest place first: the block's words by their distance from the edge.
 pub edge-nearest : (plan : Plan) (j pass : ℕ) (Z : ℕ → ℕ → ℕ) (l i : ℕ) → i < orderOf plan pass
     → nearestFirst plan pass (edgeWord plan j pass Z) l i
-    ≡ cond (ltb l (across (axisOf pass) (rowsOf (plan .grid) j) (columnsOf (plan .grid) j)))
-    (cond (ltb i (along (axisOf pass) (rowsOf (plan .grid) j) (columnsOf (plan .grid) j)))
+    ≡ cond (ltb l (linesAcross (plan .grid) j pass))
+    (cond (ltb i (extentAlong (plan .grid) j pass))
     (lineOf (axisOf pass) Z l
-    (fromEdge (directionOf pass) (along (axisOf pass) (rowsOf (plan .grid) j) (columnsOf (plan .grid) j)) i))
+    (fromEdge (directionOf pass) (extentAlong (plan .grid) j pass) i))
     0)
     0
 unfolding nearestFirst edgeWord insideBlock
 edge-nearest plan j pass Z l i h =
-    let n = along (axisOf pass) (rowsOf (plan .grid) j) (columnsOf (plan .grid) j) in
+    let n = extentAlong (plan .grid) j pass in
     rw (lt-ltb i (orderOf plan pass) h)
-    (and-then (ltb l (across (axisOf pass) (rowsOf (plan .grid) j) (columnsOf (plan .grid) j))) _ (ltb i n) _ _
+    (and-then (ltb l (linesAcross (plan .grid) j pass)) _ (ltb i n) _ _
     (place-inside (directionOf pass) n (orderOf plan pass) i h)
     (λ t.
     ap (lineOf (axisOf pass) Z l)
@@ -155,7 +155,7 @@ orZero-same f g (some j) e = e j refl
 
 -- The words of a map beyond block k, where a pass comes from, are the strip of the neighbour there, nearest first.
 pub beside-strip : (plan : Plan) → SideFits plan → (k : ℕ) (here : k < neededMarks plan) (pass : ℕ) → pass < 4
-    → (Z : ℕ → ℕ → ℕ) (l i : ℕ) → l < across (axisOf pass) (rowsOf (plan .grid) k) (columnsOf (plan .grid) k) → i < orderOf plan pass
+    → (Z : ℕ → ℕ → ℕ) (l i : ℕ) → l < linesAcross (plan .grid) k pass → i < orderOf plan pass
     → wordsBeside (axisOf pass) (directionOf pass) (placeOf plan k here) Z l i
     ≡ orZero (λ j. nearestFirst plan pass (edgeWord plan j pass (partOf (plan .grid) j Z)) l i) (neighbour (plan .grid) k pass)
 beside-strip plan fits k here pass h Z l i p q =

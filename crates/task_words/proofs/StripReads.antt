@@ -13,7 +13,7 @@ use Rattle.plan.specs.Sizes.{neededMarks, orderOf}
 use Rattle.number.proofs.Tests.{and-left, and-right}
 use Rattle.axis.specs.Axis.{Axis, columns, rows, Direction, forward, backward, axisOf, directionOf, along, across, lineOf}
 use Rattle.passes.proofs.Blocks.{wordsBeside}
-use Rattle.grid.specs.Grid.{rowsOf, columnsOf, partOf, neighbour}
+use Rattle.grid.specs.Grid.{rowsOf, columnsOf, partOf, neighbour, extentAlong, linesAcross}
 use Rattle.task_words.specs.Strips.{placeInside, indexOfPlace, insideBlock, edgeWord, stripWord, fromEdge, nearestFirst, pastEdges}
 use Rattle.filter.specs.PlanFilters.{serialResult}
 use Rattle.task_words.specs.Matching.{matchingWord}
@@ -24,13 +24,13 @@ use Rattle.task_words.proofs.Strips.{HoldsStrip}
 
 -- ---- inside the block
 
-index-below : (d : Direction) (n order place : ℕ) → place < order → placeInside d n order place ≡ true
+pub index-below : (d : Direction) (n order place : ℕ) → place < order → placeInside d n order place ≡ true
     → indexOfPlace d n order place < n
 index-below forward n order place h e = let p = leb-true order (n + place) e in omega arith
 index-below backward n order place h e = ltb-true place n e
 
 module _ (plan : Plan) (k pass line place : ℕ) (inside : insideBlock plan k pass line place ≡ true) where
-  pub inside-line : line < across (axisOf pass) (rowsOf (plan .grid) k) (columnsOf (plan .grid) k)
+  pub inside-line : line < linesAcross (plan .grid) k pass
   unfolding insideBlock
   inside-line = ltb-true _ _ (and-left _ _ inside)
 
@@ -38,12 +38,12 @@ module _ (plan : Plan) (k pass line place : ℕ) (inside : insideBlock plan k pa
   inside-side = omega (arith, inside-line, lines-in-side (plan .grid) k (axisOf pass))
 
   pub inside-index : place < orderOf plan pass
-      → indexOfPlace (directionOf pass) (along (axisOf pass) (rowsOf (plan .grid) k) (columnsOf (plan .grid) k))
+      → indexOfPlace (directionOf pass) (extentAlong (plan .grid) k pass)
       (orderOf plan pass) place
-      < along (axisOf pass) (rowsOf (plan .grid) k) (columnsOf (plan .grid) k)
+      < extentAlong (plan .grid) k pass
   unfolding insideBlock
   inside-index h =
-      let lines = ltb line (across (axisOf pass) (rowsOf (plan .grid) k) (columnsOf (plan .grid) k)) in
+      let lines = ltb line (linesAcross (plan .grid) k pass) in
       index-below (directionOf pass) _ (orderOf plan pass) place h (and-right lines _ inside)
 
 pub from-edge-below : (d : Direction) (n i : ℕ) → i < n → fromEdge d n i < n
@@ -128,7 +128,7 @@ NeedsTrue plan X strips k n =
 -- Then what stands past its edges is what the whole map has there.
 pub past-true : (plan : Plan) → SideFits plan → (X : ℕ → ℕ → ℕ) (strips : List ℕ) (k : ℕ) (here : k < neededMarks plan)
     (n : ℕ) → n ≤ 4 → NeedsTrue plan X strips k n → (pass line distance : ℕ) → pass < n
-    → line < across (axisOf pass) (rowsOf (plan .grid) k) (columnsOf (plan .grid) k) → distance < orderOf plan pass
+    → line < linesAcross (plan .grid) k pass → distance < orderOf plan pass
     → pastEdges plan strips k pass line distance
     ≡ wordsBeside (axisOf pass) (directionOf pass) (placeOf plan k here) (serialResult plan X (suc pass)) line distance
 unfolding pastEdges matchingWord

@@ -7,9 +7,9 @@ use lib.Dec.{ltb, leb}
 use Rattle.plan.specs.declared.Plan.{Plan}
 use Rattle.plan.specs.Sizes.{orderOf, orderSum}
 use Rattle.buffer.specs.Lists.{wordAt}
-use Rattle.axis.specs.Axis.{Axis, columns, rows, Direction, forward, backward, axisOf, directionOf, along, across, lineOf}
+use Rattle.axis.specs.Axis.{Axis, columns, rows, Direction, forward, backward, axisOf, directionOf, lineOf}
 use Rattle.buffer.specs.Written.{rowWritten}
-use Rattle.grid.specs.Grid.{rowsOf, columnsOf, neighbour, orZero}
+use Rattle.grid.specs.Grid.{neighbour, orZero, extentAlong, linesAcross}
 
 -- ---- where a strip lies
 
@@ -65,15 +65,15 @@ indexOfPlace backward n order place = place
 -- Whether a line and a place of block k's strip of a pass lie in the block.
 unfoldable pub insideBlock : Plan → ℕ → ℕ → ℕ → ℕ → Bool
 insideBlock plan k pass line place =
-    ltb line (across (axisOf pass) (rowsOf (plan .grid) k) (columnsOf (plan .grid) k))
-    && placeInside (directionOf pass) (along (axisOf pass) (rowsOf (plan .grid) k) (columnsOf (plan .grid) k)) (orderOf plan pass) place
+    ltb line (linesAcross (plan .grid) k pass)
+    && placeInside (directionOf pass) (extentAlong (plan .grid) k pass) (orderOf plan pass) place
 
 -- The strip of a pass where block k has the words Z: 0 at places outside the block.
 unfoldable pub edgeWord : Plan → ℕ → ℕ → (ℕ → ℕ → ℕ) → ℕ → ℕ → ℕ
 edgeWord plan k pass Z line place =
     cond (insideBlock plan k pass line place)
     (lineOf (axisOf pass) Z line
-    (indexOfPlace (directionOf pass) (along (axisOf pass) (rowsOf (plan .grid) k) (columnsOf (plan .grid) k)) (orderOf plan pass)
+    (indexOfPlace (directionOf pass) (extentAlong (plan .grid) k pass) (orderOf plan pass)
     place))
     0
 

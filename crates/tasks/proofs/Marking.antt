@@ -13,9 +13,10 @@ use Rattle.grid.specs.declared.Grid.{Grid}
 use Rattle.grid.specs.Grid.{blockTotal, blockRow, blockColumn}
 use Rattle.tasks.specs.Tasks.{exists, nothingDone}
 use Rattle.tasks.specs.Counts.{oneAt}
-use Rattle.tasks.specs.Marks.{hasBit, isMarked, spareClear, markValid, markValidAt, markOf, Shows}
+use Rattle.tasks.specs.Marks.{hasBit, isMarked, spareClear, markValid, markValidAt, markOf, Shows, markKind}
 use Rattle.tasks.proofs.Existence.{exists-has}
 use Rattle.tasks.proofs.Counting.{Only}
+use Rattle.number.specs.KindWords.{kindOf, payloadOf, wordOf}
 
 one-is : (b : Bool) → eqb (one b) 1 ≡ b
 one-is true = refl
@@ -38,10 +39,10 @@ module _ (f : ℕ → ℕ) (h : (t : ℕ) → f t ≤ 1) where
   word-bit (suc (suc (suc (suc (suc zero))))) l = omega (arith, small)
   word-bit (suc (suc (suc (suc (suc (suc t)))))) l = absurd (omega arith)
 
-  word-kind : word / 268435456 ≡ 7
+  word-kind : kindOf word ≡ markKind
   word-kind = omega (arith, small)
 
-  word-low : word % 268435456 < 64
+  word-low : payloadOf word < 64
   word-low = omega (arith, small)
 
 -- Bit t of the mark of what is done says whether task t is.
@@ -66,7 +67,7 @@ shifted-one t l = let p = power-small t l in omega arith
 pub valid-room : (grid : Grid) (k w : ℕ) → markValid grid k w ≡ true → (t : ℕ) → t < 6 → w + 2 ^ t < 2 ^ 32
 unfolding markValid
 valid-room grid k w valid t l =
-    let kind : w / 268435456 ≡ 7 = eqb-true (w / 2 ^ 28) 7 (and-left (eqb (w / 2 ^ 28) 7) _ valid) in
+    let kind : kindOf w ≡ markKind = eqb-true (kindOf w) markKind (and-left (eqb (kindOf w) markKind) _ valid) in
     omega (arith, power-small t l)
 
 -- All needed marks pass the test.
@@ -100,6 +101,6 @@ module _ (grid : Grid) (done : ℕ → ℕ → Bool) (marks : List ℕ) (shows :
       (spare-of grid done k (λ t l. only t k l h)))))
 
 -- The mark that the start sets: kind 7 and no bit.
-pub mark-nothing : (k : ℕ) → markOf nothingDone k ≡ 7 * 2 ^ 28
+pub mark-nothing : (k : ℕ) → markOf nothingDone k ≡ wordOf markKind 0
 unfolding markOf total
 mark-nothing k = refl

@@ -17,9 +17,10 @@ use Rattle.grid.specs.declared.Grid.{Grid}
 use Rattle.grid.specs.Grid.{blockTotal}
 use Rattle.tasks.specs.Tasks.{exists, BlockTask, needsOf, allDone, ready, nothingDone, alsoDone}
 use Rattle.tasks.specs.Counts.{oneAt, doneAt, doneCount}
-use Rattle.tasks.specs.Marks.{bitAt, markOf, Shows, withBit}
+use Rattle.tasks.specs.Marks.{bitAt, markOf, Shows, withBit, markKind}
 use Rattle.tasks.proofs.Existence.{exists-block, exists-task}
 use Rattle.tasks.proofs.Needs.{ready-exists, ready-undone, ready-needs}
+use Rattle.number.specs.KindWords.{wordOf}
 
 module _ (done : ℕ → ℕ → Bool) (t k : ℕ) where
   pub also-new : alsoDone done t k t k ≡ true
@@ -79,7 +80,7 @@ mark-also done t k l e =
 mark-other : (done : ℕ → ℕ → Bool) (t k j : ℕ) → j ≢ k → markOf (alsoDone done t k) j ≡ markOf done j
 unfolding markOf
 mark-other done t k j n =
-    ap (λ s. 7 * 2 ^ 28 + s) (total-same _ _ 6 (λ u h. ap (λ x. one x * 2 ^ u) (also-block done t k u j n)))
+    ap (wordOf markKind) (total-same _ _ 6 (λ u h. ap (λ x. one x * 2 ^ u) (also-block done t k u j n)))
 
 module _ (marks : List ℕ) (t k : ℕ) where
   pub bit-length : length (withBit marks t k) ≡ length marks

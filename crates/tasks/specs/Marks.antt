@@ -5,11 +5,17 @@ use mathlib.Core.List.{List}
 use mathlib.Core.Path.{_≡_}
 use Prim.Native.Nat.{ℕ, _+_, _*_, _/_, _%_, _^_, _<_}
 use lib.Dec.{ltb, eqb}
-use lib.ListN.{getD, set}
+use lib.ListN.{set}
 use Rattle.number.specs.Numbers.{allBelow, total, one}
+use Rattle.number.specs.KindWords.{kindOf, payloadOf, wordOf}
+use Rattle.buffer.specs.Lists.{wordAt}
 use Rattle.grid.specs.declared.Grid.{Grid}
 use Rattle.grid.specs.Grid.{blockTotal, blockRow, blockColumn}
 use Rattle.tasks.specs.Tasks.{hasTask}
+
+-- The kind of a mark.
+abbrev pub markKind : ℕ
+markKind = 7
 
 -- Bit t of a mark is set.
 unfoldable pub hasBit : ℕ → ℕ → Bool
@@ -17,7 +23,7 @@ hasBit mark t = eqb (mark / 2 ^ t % 2) 1
 
 -- Task t of block k is marked in a list of marks.
 unfoldable pub isMarked : List ℕ → ℕ → ℕ → Bool
-isMarked marks t k = hasBit (getD marks k 0) t
+isMarked marks t k = hasBit (wordAt marks k) t
 
 -- Bit t of a mark of block (m, n) is clear, unless the block has task t.
 unfoldable pub spareClear : Grid → ℕ → ℕ → ℕ → ℕ → Bool
@@ -27,12 +33,12 @@ spareClear grid m n mark t = cond (hasTask grid t m n) true (not (hasBit mark t)
 -- those of the block's tasks.
 unfoldable pub markValid : Grid → ℕ → ℕ → Bool
 markValid grid k mark =
-    eqb (mark / 2 ^ 28) 7
-    && (ltb (mark % 2 ^ 28) (2 ^ 6) && allBelow (spareClear grid (blockRow grid k) (blockColumn grid k) mark) 6)
+    eqb (kindOf mark) markKind
+    && (ltb (payloadOf mark) (2 ^ 6) && allBelow (spareClear grid (blockRow grid k) (blockColumn grid k) mark) 6)
 
 -- Mark k of a list has the right kind and no spare bit.
 abbrev pub markValidAt : Grid → List ℕ → ℕ → Bool
-markValidAt grid marks k = markValid grid k (getD marks k 0)
+markValidAt grid marks k = markValid grid k (wordAt marks k)
 
 -- The bit of task t in the mark of block k, as a number.
 abbrev pub bitAt : (ℕ → ℕ → Bool) → ℕ → ℕ → ℕ
@@ -40,12 +46,12 @@ bitAt done k t = one (done t k) * 2 ^ t
 
 -- The mark of block k that shows what is done.
 unfoldable pub markOf : (ℕ → ℕ → Bool) → ℕ → ℕ
-markOf done k = 7 * 2 ^ 28 + total (bitAt done k) 6
+markOf done k = wordOf markKind (total (bitAt done k) 6)
 
 -- The needed marks of a list are those of what is done.
 abbrev pub Shows : Grid → (ℕ → ℕ → Bool) → List ℕ → Type 0
-Shows grid done marks = (k : ℕ) → k < blockTotal grid → getD marks k 0 ≡ markOf done k
+Shows grid done marks = (k : ℕ) → k < blockTotal grid → wordAt marks k ≡ markOf done k
 
 -- The marks after task t of block k, which was not marked: its bit is set.
 unfoldable pub withBit : List ℕ → ℕ → ℕ → List ℕ
-withBit marks t k = set marks k (getD marks k 0 + 2 ^ t)
+withBit marks t k = set marks k (wordAt marks k + 2 ^ t)

@@ -1,6 +1,6 @@
 -- What the marks say to a call of task t at block k: rows 8 to 11 of the table of refused calls.
 use mathlib.Core.Bool.{Bool, not, cond}
-use mathlib.Core.List.{List, [], _∷_}
+use mathlib.Core.List.{List, [], _∷_, _++_}
 use Prim.Native.Nat.{ℕ, min}
 use lib.Dec.{ltb}
 use Rattle.refusal.specs.Table.{Row, _at_when_}
@@ -31,20 +31,22 @@ leastBrokenOf grid marks (k ∷ ks) = min (brokenAt grid marks k) (leastBrokenOf
 unfoldable pub leastBroken : Grid → List ℕ → ℕ → ℕ → ℕ
 leastBroken grid marks t k = leastBrokenOf grid marks (lookedAt grid t k)
 
--- What the marks say to the call: 8 where there is no such block or task, 9 at the least broken mark that is looked at, 10
--- where the task is marked, 11 where a need of it is not.
+-- What a call of task t at block k is refused by, where some tests of marks stand between: 8 where there is no such block or task,
+-- 10 where the task is done, 11 where a need of it is not.
+abbrev pub taskRows : Grid → (done : ℕ → ℕ → Bool) → (broken : List Row) → ℕ → ℕ → List Row
+taskRows grid done broken t k =
+    8 at 0 when not (exists grid t k)
+    ∷ (broken
+    ++ (10 at 0 when done t k
+    ∷ 11 at 0 when not (allDone done (needsOf grid t k))
+    ∷ []))
+
+-- What the marks say to the call: as marked is done, and 9 at the least broken mark that is looked at.
 unfoldable pub verdictRows : Grid → List ℕ → ℕ → ℕ → List Row
 verdictRows grid marks t k =
-    8 at 0 when not (exists grid t k)
-    ∷ 9 at leastBroken grid marks t k when ltb (leastBroken grid marks t k) (blockTotal grid)
-    ∷ 10 at 0 when isMarked marks t k
-    ∷ 11 at 0 when not (allDone (isMarked marks) (needsOf grid t k))
-    ∷ []
+    taskRows grid (isMarked marks)
+    (9 at leastBroken grid marks t k when ltb (leastBroken grid marks t k) (blockTotal grid) ∷ []) t k
 
 -- The same by what is done alone, with no look at marks, so that no mark can be broken.
 unfoldable pub doneRows : Grid → (ℕ → ℕ → Bool) → ℕ → ℕ → List Row
-doneRows grid done t k =
-    8 at 0 when not (exists grid t k)
-    ∷ 10 at 0 when done t k
-    ∷ 11 at 0 when not (allDone done (needsOf grid t k))
-    ∷ []
+doneRows grid done t k = taskRows grid done [] t k

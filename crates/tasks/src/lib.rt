@@ -7,9 +7,10 @@ use refusal::Refusal;
 ghost use mathlib.Core.Path.{_≡_};
 ghost use mathlib.Core.Bool.{true};
 ghost use Prim.Native.Nat.{_<_, _≤_, _+_, _^_, min};
-ghost use lib.ListN.{length, getD};
+ghost use lib.ListN.{length};
 ghost use Rattle.refusal.specs.Table.{firstDue, answerOf};
 ghost use Rattle.number.specs.Numbers.{allBelow};
+ghost use Rattle.buffer.specs.Lists.{wordAt};
 ghost use Rattle.grid.specs.Grid.{gridKept, blockRow, blockColumn};
 ghost use Rattle.grid.specs.Shapes.{InGrid};
 ghost use Rattle.tasks.specs.Tasks.{hasTask, exists, needsOf, allDone, ready};
@@ -20,6 +21,11 @@ ghost use Rattle.tasks.specs.Lent.{Lent, LentAt};
 
 // Tasks 0 to 5: collect, the links down, up, right and left, finish.
 pub const TASKS: usize = 6;
+
+// The kind of a mark, and the mark of a block with no task done. `markKind` of specs/Marks.antt is the same number.
+const MARK_KIND: u32 = 7;
+
+pub const UNMARKED: u32 = MARK_KIND * number::PAYLOAD_LIMIT;
 
 // The passes down, up, right and left.
 const PASSES: usize = 4;
@@ -69,10 +75,10 @@ pub fn mark_valid(grid: Grid, block: usize, mark: u32) -> bool
     requires { ⌜ InGrid grid block ⌝ }
     ensures { λ r. ⌜ r ≡ markValid grid block mark ⌝ }
 {
-    if mark / 0x1000_0000 != 7 {
+    if number::kind_of(mark) != MARK_KIND {
         return false;
     }
-    if mark % 0x1000_0000 >= 64 {
+    if number::payload_of(mark) >= 64 {
         return false;
     }
     spares_clear(grid, block, mark)
@@ -227,7 +233,7 @@ pub fn verdict(grid: Grid, marks: &[u32], task: usize, block: usize) -> Outcome
 
 // The marks after an accepted task.
 pub fn set_bit(marks: &mut [u32], task: usize, block: usize)
-    requires { ⌜ (task < 6) × (block < length (now marks)) × (getD (now marks) block 0 + 2 ^ task < 2 ^ 32) ⌝ }
+    requires { ⌜ (task < 6) × (block < length (now marks)) × (wordAt (now marks) block + 2 ^ task < 2 ^ 32) ⌝ }
     ensures { λ _. ⌜ now (marks .exit) ≡ withBit (now (marks .entry)) task block ⌝ }
 {
     let mark = marks[block];

@@ -1,5 +1,5 @@
--- The totals that an operator reads: the table of a job with all its tasks done gives the heights' sums. Document 01, the
--- paragraph on the rectangle sum.
+-- The totals that an operator reads: the table of a job with all its tasks done gives the heights' sums. Document 01,
+-- the paragraph on the rectangle sum.
 use mathlib.Core.Path.{_≡_}
 use mathlib.Core.List.{List}
 use Prim.Native.Nat.{ℕ, _≤_}
@@ -13,8 +13,8 @@ use Rattle.job_spec.specs.Calls.{Buffers, startAnswer, started, afterCalls}
 use Rattle.job_spec.specs.Demand3.{countAfter}
 use Rattle.rectangle.specs.Heights.{summedAreaPasses, SumsOver}
 
--- Calls that make a whole job: start accepts the plan with the lent marks and strips, map and output have h×w words, and
--- after the calls, whatever they are and in whatever order, all 6MN - 2M - 2N tasks are done.
+-- Calls that make a whole job: start accepts the plan with the lent marks and strips, map and output have h×w words,
+-- and after the calls, whatever they are and in whatever order, all 6MN - 2M - 2N tasks are done.
 pub record WholeJob (plan : Plan) (heights : List ℤ) (lent : Buffers) (calls : List BlockTask) : Type 0 where
   pub start-accepts : startAnswer plan (lent .marks) (lent .strips) ≡ accepted
   pub map-long : neededPixels plan ≤ length heights

@@ -7,7 +7,7 @@ use Rattle.plan.specs.Rules.{coefficientsKept, passKept, passesKept, keepsRules
 use Rattle.grid.specs.Grid.{gridKept, blockCount, blockExtent, blockRow, blockColumn, blockArea, blockPixelPlace, neighbour, goesOn}
 use Rattle.plan.specs.Sizes.{sizesOf}
 use Rattle.buffer.specs.Written.{rectangleWritten, rowWritten, written, cleared}
-use Rattle.buffer.specs.Lists.{listOf}
+use Rattle.buffer.specs.Lists.{listOf, joined}
 use Rattle.plan_reader.specs.ReadPlan.{passPlace, wordRows, headRows, coefficientRows, passRows, passesRows, endRows, sideRows, planRows, readPlan}
 use Rattle.passes.specs.Line.{history, output}
 use Rattle.passes.specs.Filter.{lessFeedback, filterStep}
@@ -27,7 +27,7 @@ use Rattle.worked_examples.specs.Examples.{serialExample, rectangleExamp
 
 pub examples-hold : ExamplesHold
 unfolding modulus minusOne _⊕_ _⊖_ _⊗_ residue allBelow coefficientsKept passKept passesKept keepsRules blockCount
-    blockExtent gridKept blockArea sizesOf listOf passPlace wordRows headRows coefficientRows passRows passesRows endRows sideRows planRows readPlan history
+    blockExtent gridKept blockArea sizesOf listOf joined passPlace wordRows headRows coefficientRows passRows passesRows endRows sideRows planRows readPlan history
     output lessFeedback filterStep filterLine filterLines passesOver serialPasses pixel heightMap cornerOf rectangleSum filterOf
     written serialAnswer serialWords serialOutput rectangleCall hasTask exists needsOf allDone total hasBit isMarked spareClear
     markValid markOf withBit blocksOf lookedAt leastBrokenOf leastBroken verdictRows blockRow blockColumn blockPixelPlace neighbour

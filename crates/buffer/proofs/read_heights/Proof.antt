@@ -3,8 +3,7 @@ use mathlib.Core.Path.{_≡_, refl, ap, _∙_}
 use Prim.Native.Nat.{_+_, _-_, _≤_}
 use native.Mathlib.Omega.{arith}
 use borrow.Author.Needs.{needs}
-use lib.IntN.{pos}
-use lib.ListN.{length, length-set, getD}
+use lib.ListN.{length, length-set}
 use mir.Syntax.{w32}
 use mir.ValLaws.{toZ-ofZ}
 use Rattle.buffer.specs.Pixel.{pixel}
@@ -13,6 +12,7 @@ use Rattle.buffer.specs.Written.{rowWritten}
 use Rattle.buffer.proofs.Copies.{row-none, row-more}
 use Rattle.buffer.proofs.read_heights.Statement.{statement}
 use Rattle.buffer.proofs.read_heights.Tie as tie
+use Rattle.buffer.specs.Lists.{numberAt}
 
 abbrev Inv-loop : tie.InvT-loop
 Inv-loop map map-start to₀ to-start count i₀ to i =
@@ -55,7 +55,7 @@ loop-again : tie.Need-loop-again Inv-loop μ-loop
 loop-again c =
     let l = c .before .before .before in
     let a = l .before .before .args in
-    let height = getD (a .map .now) (a .map-start + l .loop .i) (pos 0) in
+    let height = numberAt (a .map .now) (a .map-start + l .loop .i) in
     let word-is : c .read-pixel .result ≡ pixel height =
     c .read-pixel .ensures ∙ ap pixel (toZ-ofZ w32 height (record { sfits = c .before .read-pixel-arg .given })) in (
       omega arith,

@@ -5,18 +5,18 @@ use borrow.Author.Needs.{needs}
 use Rattle.plan.proofs.Record.{in-grid}
 use Rattle.filter.specs.PlanFilters.{mapOf}
 use Rattle.collect_finish.specs.WorkFits.{ShapedBlock}
-use Rattle.collect_finish.proofs.WorkPlaces.{shape-in-work, block-in-map, corner-in-map}
+use Rattle.collect_finish.proofs.WorkPlaces.{shape-in-work, block-in-map}
 use Rattle.collect_finish.proofs.WorkCells.{blank-clear}
 use Rattle.collect_finish.proofs.Collecting.{Collecting, collect-start, collect-pass, collect-strip, collect-turn, collect-end}
 use Rattle.collect_finish.proofs.collect.Statement.{statement}
 use Rattle.collect_finish.proofs.collect.Tie as tie
 
 abbrev Inv-loop : tie.InvT-loop
-Inv-loop k map strips₀ plan shape corner work₀ pass₀ strips work pass =
+Inv-loop k map strips₀ plan shape work₀ pass₀ strips work pass =
     Collecting plan k (mapOf plan map) strips₀ strips pass work
 
 abbrev μ-loop : tie.MeasureT-loop
-μ-loop k map strips₀ plan shape corner work₀ pass₀ strips work pass = 4 - pass
+μ-loop k map strips₀ plan shape work₀ pass₀ strips work pass = 4 - pass
 
 -- ---- stations: each is reached from a later one
 
@@ -24,7 +24,7 @@ abbrev start : tie.After-block-shape Inv-loop μ-loop → tie.Start Inv-loop μ-
 start c = c .before .before .before
 
 abbrev at-shape : tie.After-load-block Inv-loop μ-loop → tie.After-block-shape Inv-loop μ-loop
-at-shape c = c .before .before .before .before .before
+at-shape c = c .before .before
 
 abbrev at-load : tie.At-loop Inv-loop μ-loop → tie.After-load-block Inv-loop μ-loop
 at-load c = c .before .before
@@ -55,18 +55,12 @@ shape-at-loop c = at-shape (at-load c)
 block-shape-requires : tie.Need-block-shape-requires Inv-loop μ-loop
 block-shape-requires c κs = let block = c .before .before .pre .block in in-grid _ (block .kept) _ (block .counted)
 
-mul-corner : tie.Need-mul-corner Inv-loop μ-loop
-mul-corner c = let b = c .before .before in omega (arith, corner-in-map (placed b) (start b .pre .map-long))
-
-add-corner : tie.Need-add-corner Inv-loop μ-loop
-add-corner c = let b = c .before .before .before in omega (arith, corner-in-map (placed b) (start b .pre .map-long))
-
 slice-aggregate-load-block : tie.Need-slice-aggregate-load-block Inv-loop μ-loop
 slice-aggregate-load-block c = search needs
 
 load-block-requires : tie.Need-load-block-requires Inv-loop μ-loop
 load-block-requires c κs =
-    let b = c .before .before .before .before in
+    let b = c .before in
     record { inside = block-in-map (placed b) (start b .pre .map-long); held = shape-in-work (placed b); clear = blank-clear _ }
 
 loop-holds : tie.Need-loop-holds Inv-loop μ-loop
@@ -143,8 +137,6 @@ collect-spec =
     Inv-loop
     μ-loop
     block-shape-requires
-    mul-corner
-    add-corner
     slice-aggregate-load-block
     load-block-requires
     loop-holds

@@ -6,17 +6,17 @@ use borrow.Author.Needs.{needs}
 use Rattle.plan.proofs.Record.{in-grid}
 use Rattle.filter.specs.PlanFilters.{mapOf}
 use Rattle.collect_finish.specs.WorkFits.{ShapedBlock}
-use Rattle.collect_finish.proofs.WorkPlaces.{shape-in-work, block-in-work, block-in-map, corner-in-map}
+use Rattle.collect_finish.proofs.WorkPlaces.{shape-in-work, block-in-work, block-in-map}
 use Rattle.collect_finish.proofs.WorkCells.{blank-clear}
 use Rattle.collect_finish.proofs.Finishing.{Finishing, finish-start, finish-margin, finish-pass, finish-turn, finish-end}
 use Rattle.collect_finish.proofs.finish.Statement.{statement}
 use Rattle.collect_finish.proofs.finish.Tie as tie
 
 abbrev Inv-loop : tie.InvT-loop
-Inv-loop plan k map strips output grid shape corner work₀ pass₀ work pass = Finishing plan k (mapOf plan map) strips pass work
+Inv-loop plan k map strips output grid shape work₀ pass₀ work pass = Finishing plan k (mapOf plan map) strips pass work
 
 abbrev μ-loop : tie.MeasureT-loop
-μ-loop plan k map strips output grid shape corner work₀ pass₀ work pass = 4 - pass
+μ-loop plan k map strips output grid shape work₀ pass₀ work pass = 4 - pass
 
 -- ---- stations: each is reached from a later one
 
@@ -24,7 +24,7 @@ abbrev start : tie.After-block-shape Inv-loop μ-loop → tie.Start Inv-loop μ-
 start c = c .before .before .before .before
 
 abbrev at-shape : tie.After-touch-output Inv-loop μ-loop → tie.After-block-shape Inv-loop μ-loop
-at-shape c = c .before .before .before .before .before .before
+at-shape c = c .before .before .before
 
 abbrev at-touch : tie.After-load-block Inv-loop μ-loop → tie.After-touch-output Inv-loop μ-loop
 at-touch c = c .before .before .before
@@ -32,10 +32,10 @@ at-touch c = c .before .before .before
 abbrev at-load : tie.At-loop Inv-loop μ-loop → tie.After-load-block Inv-loop μ-loop
 at-load c = c .before .before
 
-abbrev in-turn : tie.After-gains-from Inv-loop μ-loop → tie.In-loop Inv-loop μ-loop
+abbrev in-turn : tie.After-gains-after Inv-loop μ-loop → tie.In-loop Inv-loop μ-loop
 in-turn c = c .before
 
-abbrev at-gain : tie.After-load-margin Inv-loop μ-loop → tie.After-gains-from Inv-loop μ-loop
+abbrev at-gain : tie.After-load-margin Inv-loop μ-loop → tie.After-gains-after Inv-loop μ-loop
 at-gain c = c .before .before
 
 abbrev at-margin : tie.After-gains-first Inv-loop μ-loop → tie.After-load-margin Inv-loop μ-loop
@@ -62,18 +62,12 @@ block-shape-requires : tie.Need-block-shape-requires Inv-loop μ-loop
 block-shape-requires c κs =
     let block = c .before .before .before .pre .block in in-grid _ (block .kept) _ (block .counted)
 
-mul-corner : tie.Need-mul-corner Inv-loop μ-loop
-mul-corner c = let b = c .before .before in omega (arith, corner-in-map (placed b) (start b .pre .map-long))
-
-add-corner : tie.Need-add-corner Inv-loop μ-loop
-add-corner c = let b = c .before .before .before in omega (arith, corner-in-map (placed b) (start b .pre .map-long))
-
 slice-aggregate-touch-output : tie.Need-slice-aggregate-touch-output Inv-loop μ-loop
 slice-aggregate-touch-output c = search needs
 
 touch-output-requires : tie.Need-touch-output-requires Inv-loop μ-loop
 touch-output-requires c κs =
-    let b = c .before .before .before .before .before in
+    let b = c .before .before in
     record {
       inside = block-in-map (placed b) (start b .pre .output-long);
       held = shape-in-work (placed b);
@@ -99,14 +93,8 @@ loop-holds c =
     let b = at-shape (at-touch l) in
     finish-start (placed b) (start b .args .map .now) (l .load-block .ensures)
 
-add-gains-from : tie.Need-add-gains-from Inv-loop μ-loop
-add-gains-from c = search needs
-
-sub-gains-from : tie.Need-sub-gains-from Inv-loop μ-loop
-sub-gains-from c = search needs
-
-gains-from-requires : tie.Need-gains-from-requires Inv-loop μ-loop
-gains-from-requires c κs = omega arith
+gains-after-requires : tie.Need-gains-after-requires Inv-loop μ-loop
+gains-after-requires c κs = omega arith
 
 slice-aggregate-load-margin : tie.Need-slice-aggregate-load-margin Inv-loop μ-loop
 slice-aggregate-load-margin c = search needs
@@ -131,7 +119,7 @@ run-block-pass-requires c κs =
     let g = at-gain m in
     let t = in-turn g in
     let l = t .before in
-    finish-pass (placed (shape-at-loop l)) (l .loop .inv) (t .loop-test .taken) (g .gains-from .ensures)
+    finish-pass (placed (shape-at-loop l)) (l .loop .inv) (t .loop-test .taken) (g .gains-after .ensures)
     (m .load-margin .ensures) (f .gains-first .ensures)
 
 add-pass : tie.Need-add-pass Inv-loop μ-loop
@@ -148,17 +136,11 @@ loop-again c =
     let g = at-gain m in
     let t = in-turn g in
     let l = t .before in
-    finish-turn (placed (shape-at-loop l)) (l .loop .inv) (t .loop-test .taken) (g .gains-from .ensures)
+    finish-turn (placed (shape-at-loop l)) (l .loop .inv) (t .loop-test .taken) (g .gains-after .ensures)
     (m .load-margin .ensures) (f .gains-first .ensures) (p .run-block-pass .ensures)
 
 slice-aggregate-copy-rectangle : tie.Need-slice-aggregate-copy-rectangle Inv-loop μ-loop
 slice-aggregate-copy-rectangle c = search needs
-
-mul-copy-rectangle : tie.Need-mul-copy-rectangle Inv-loop μ-loop
-mul-copy-rectangle c = search needs
-
-add-copy-rectangle : tie.Need-add-copy-rectangle Inv-loop μ-loop
-add-copy-rectangle c = search needs
 
 copy-rectangle-requires : tie.Need-copy-rectangle-requires Inv-loop μ-loop
 copy-rectangle-requires c κs =
@@ -183,16 +165,12 @@ finish-spec =
     Inv-loop
     μ-loop
     block-shape-requires
-    mul-corner
-    add-corner
     slice-aggregate-touch-output
     touch-output-requires
     slice-aggregate-load-block
     load-block-requires
     loop-holds
-    add-gains-from
-    sub-gains-from
-    gains-from-requires
+    gains-after-requires
     slice-aggregate-load-margin
     load-margin-requires
     gains-first-requires
@@ -202,8 +180,6 @@ finish-spec =
     loop-less
     loop-again
     slice-aggregate-copy-rectangle
-    mul-copy-rectangle
-    add-copy-rectangle
     copy-rectangle-requires
     same-length
     returns)

@@ -6,32 +6,33 @@ use lib.ListN.{length}
 use Prim.Native.Nat.{_+_, _≤_}
 use Rattle.axis.specs.Axis.{axisOf, directionOf}
 use Rattle.plan.specs.Sizes.{orderOf}
-use Rattle.collect_finish.specs.Work.{workStride, linesOf, marginStart, marginFirst}
+use Rattle.collect_finish.specs.Work.{workStride, marginStart, marginFirst}
 use Rattle.collect_finish.proofs.WorkPlaces.{edge-asked}
 use Rattle.collect_finish.proofs.StripRectangles.{StripLies}
 use Rattle.collect_finish.proofs.MarginLoads.{strip-lies, first-in-work, strip-in-strips, strip-in-work, strip-loaded}
 use Rattle.collect_finish.proofs.load_margin.Statement.{statement}
 use Rattle.collect_finish.proofs.load_margin.Tie as tie
+use Rattle.grid.specs.Shapes.{shapeLines}
 
 -- ---- stations
 
 abbrev start : tie.After-strip-before → tie.Start
 start c = c .before .before .before .before
 
-abbrev at-strip : tie.After-along → tie.After-strip-before
-at-strip c = c .before .before .before .before
+abbrev at-strip : tie.After-extent → tie.After-strip-before
+at-strip c = c .before .before
 
-abbrev at-margin : tie.After-along2 → tie.After-margin-start
-at-margin c = c .before
+abbrev at-margin : tie.After-along → tie.After-margin-start
+at-margin c = c .before .before
 
-abbrev at-steps : tie.After-across → tie.After-along2
+abbrev at-steps : tie.After-across → tie.After-along
 at-steps c = c .before .before .before .before
 
 -- ---- what is known there
 
 lies : (c : tie.After-strip-before)
     → let a = start c .args in
-    StripLies (axisOf (a .pass)) (length (a .strips .now)) (orderOf (a .t1) (a .pass)) (linesOf (a .shape) (a .pass))
+    StripLies (axisOf (a .pass)) (length (a .strips .now)) (orderOf (a .t1) (a .pass)) (shapeLines (a .shape) (a .pass))
     (c .strip-before .result)
 lies c = strip-lies (start c .pre .moves) (c .strip-before .ensures)
 
@@ -41,7 +42,7 @@ start-is : (c : tie.After-margin-start)
     c .margin-start .result ≡ marginFirst (a .t1) (a .shape) (a .pass)
 start-is c =
     let a = start (at-strip (c .before)) .args in
-    c .margin-start .ensures ∙ ap (marginStart (directionOf (a .pass)) (orderOf (a .t1) (a .pass))) (c .before .along .ensures)
+    c .margin-start .ensures ∙ ap (marginStart (directionOf (a .pass)) (orderOf (a .t1) (a .pass))) (c .before .extent .ensures)
 
 index-small : (c : tie.After-margin-start)
     → c .margin-start .result + at-strip (c .before) .strip-before .result .first ≤ workStride
@@ -62,29 +63,26 @@ strip-before-requires c κs = search needs
 sub-places : tie.Need-sub-places
 sub-places c = lies (c .before) .ordered
 
-mul-start : tie.Need-mul-start
-mul-start c = omega (arith, lies (c .before .before) .start-in)
-
-add-start : tie.Need-add-start
-add-start c = omega (arith, lies (c .before .before .before) .start-in)
-
-along-requires : tie.Need-along-requires
-along-requires c κs = search needs
+extent-requires : tie.Need-extent-requires
+extent-requires c κs = search needs
 
 margin-start-requires : tie.Need-margin-start-requires
-margin-start-requires c κs = edge-asked (start (at-strip c) .pre .moves) (c .along .ensures)
+margin-start-requires c κs = edge-asked (start (at-strip c) .pre .moves) (c .extent .ensures)
 
 add-index : tie.Need-add-index
 add-index c = omega (arith, index-small c)
 
-along-requires-2 : tie.Need-along-requires-2
-along-requires-2 c κs = search needs
+first-at-requires : tie.Need-first-at-requires
+first-at-requires c κs = omega (arith, lies (at-strip (c .before)) .start-in)
+
+along-requires : tie.Need-along-requires
+along-requires c κs = search needs
 
 work-place-requires : tie.Need-work-place-requires
 work-place-requires c κs = index-small (at-margin (c .before))
 
-along-requires-3 : tie.Need-along-requires-3
-along-requires-3 c κs = search needs
+along-requires-2 : tie.Need-along-requires-2
+along-requires-2 c κs = search needs
 
 across-requires : tie.Need-across-requires
 across-requires c κs = search needs
@@ -94,11 +92,12 @@ copy-rectangle-requires c κs =
     let t = at-steps c in
     let m = at-margin t in
     let b = at-strip (m .before) in
-    let step = t .along2 .ensures in
+    let first = t .before .first-at .ensures in
+    let step = t .along .ensures in
     let place = c .before .before .work-place .ensures in
-    let tall = c .before .along3 .ensures in (
-      strip-in-strips (start b .pre .moves) (b .strip-before .ensures) (start-is m) step place tall (c .across .ensures),
-      strip-in-work (start b .pre .moves) (b .strip-before .ensures) (start-is m) step place tall (c .across .ensures),
+    let tall = c .before .along2 .ensures in (
+      strip-in-strips (start b .pre .moves) (b .strip-before .ensures) (start-is m) first step place tall (c .across .ensures),
+      strip-in-work (start b .pre .moves) (b .strip-before .ensures) (start-is m) first step place tall (c .across .ensures),
     )
 
 same-length : tie.Need-same-length
@@ -113,8 +112,8 @@ returns c =
     let b = at-strip (m .before) in
     let fits = start b .pre in
     let a = start b .args in
-    strip-loaded (fits .moves) (b .strip-before .ensures) (start-is m) (t .along2 .ensures)
-    (x .before .before .work-place .ensures) (x .before .along3 .ensures) (x .across .ensures) (a .gain) (a .strips .now) refl
+    strip-loaded (fits .moves) (b .strip-before .ensures) (start-is m) (t .before .first-at .ensures) (t .along .ensures)
+    (x .before .before .work-place .ensures) (x .before .along2 .ensures) (x .across .ensures) (a .gain) (a .strips .now) refl
     (fits .clear) (d .copy-rectangle .ensures)
 
 pub load-margin-spec : {M : Type 1} → statement M
@@ -125,14 +124,13 @@ load-margin-spec =
     element-copy-out-described
     strip-before-requires
     sub-places
-    mul-start
-    add-start
-    along-requires
+    extent-requires
     margin-start-requires
     add-index
-    along-requires-2
+    first-at-requires
+    along-requires
     work-place-requires
-    along-requires-3
+    along-requires-2
     across-requires
     copy-rectangle-requires
     same-length

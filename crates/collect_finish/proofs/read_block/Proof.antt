@@ -48,16 +48,10 @@ add-read-heights : tie.Need-add-read-heights Inv-loop μ-loop
 add-read-heights c = let h = row-in-map c in omega arith
 
 mul-read-heights-2 : tie.Need-mul-read-heights-2 Inv-loop μ-loop
-mul-read-heights-2 c = search needs
+mul-read-heights-2 c = let h = row-in-work (c .before) in omega arith
 
 add-read-heights-2 : tie.Need-add-read-heights-2 Inv-loop μ-loop
-add-read-heights-2 c = search needs
-
-mul-read-heights-3 : tie.Need-mul-read-heights-3 Inv-loop μ-loop
-mul-read-heights-3 c = let h = row-in-work (c .before) in omega arith
-
-add-read-heights-3 : tie.Need-add-read-heights-3 Inv-loop μ-loop
-add-read-heights-3 c = let h = row-in-work (c .before) in omega arith
+add-read-heights-2 c = let h = row-in-work (c .before) in omega arith
 
 read-heights-requires : tie.Need-read-heights-requires Inv-loop μ-loop
 read-heights-requires c κs =
@@ -92,8 +86,6 @@ read-block-spec =
     add-read-heights
     mul-read-heights-2
     add-read-heights-2
-    mul-read-heights-3
-    add-read-heights-3
     read-heights-requires
     add-row
     loop-less

@@ -23,14 +23,11 @@ at-loop c = c .before .before .before
 
 -- ---- needs
 
-add-work-start : tie.Need-add-work-start Inv-loop μ-loop
-add-work-start c = search needs
-
 mul-work-start : tie.Need-mul-work-start Inv-loop μ-loop
 mul-work-start c = search needs
 
-add-work-start-2 : tie.Need-add-work-start-2 Inv-loop μ-loop
-add-work-start-2 c = search needs
+add-work-start : tie.Need-add-work-start Inv-loop μ-loop
+add-work-start c = search needs
 
 sub-last : tie.Need-sub-last Inv-loop μ-loop
 sub-last c = search needs
@@ -86,9 +83,8 @@ touch-output-row-spec =
     (tie.spec
     Inv-loop
     μ-loop
-    add-work-start
     mul-work-start
-    add-work-start-2
+    add-work-start
     sub-last
     loop-holds
     add-if1

@@ -27,10 +27,10 @@ abbrev unneeded : tie.After-clear-words-arg → tie.Then1
 unneeded c = c .before
 
 -- and where one does.
-abbrev needed : tie.After-along → tie.Else1
+abbrev needed : tie.After-extent → tie.Else1
 needed c = c .before
 
-abbrev at-extent : tie.After-edge-start → tie.After-along
+abbrev at-extent : tie.After-edge-start → tie.After-extent
 at-extent c = c .before
 
 abbrev at-edge : tie.After-across → tie.After-edge-start
@@ -39,7 +39,7 @@ at-edge c = c .before
 abbrev at-width : tie.After-work-place → tie.After-across
 at-width c = c .before
 
-abbrev at-place : tie.After-along2 → tie.After-work-place
+abbrev at-place : tie.After-along → tie.After-work-place
 at-place c = c .before .before
 
 -- Where the strip starts in the work array.
@@ -48,7 +48,7 @@ edge-is : (c : tie.After-edge-start)
     c .edge-start .result ≡ edgeFirst (a .t1) (a .shape) (a .pass)
 edge-is c =
     let a = start (at-strip (needed (at-extent c) .before)) .args in
-    c .edge-start .ensures ∙ ap (edgeStart (directionOf (a .pass)) (orderOf (a .t1) (a .pass))) (at-extent c .along .ensures)
+    c .edge-start .ensures ∙ ap (edgeStart (directionOf (a .pass)) (orderOf (a .t1) (a .pass))) (at-extent c .extent .ensures)
 
 -- ---- needs
 
@@ -84,11 +84,11 @@ returns c =
     cleared-strip (start b .pre) (b .strip-start .ensures) (a .gain) (a .work .now) (a .strips .now)
     (failed (t .before .goes-on .ensures) (t .if1 .taken)) (d .clear-words .ensures)
 
-along-requires : tie.Need-along-requires
-along-requires c κs = search needs
+extent-requires : tie.Need-extent-requires
+extent-requires c κs = search needs
 
 edge-start-requires : tie.Need-edge-start-requires
-edge-start-requires c κs = edge-asked (start (at-strip (needed c .before)) .pre) (c .along .ensures)
+edge-start-requires c κs = edge-asked (start (at-strip (needed c .before)) .pre) (c .extent .ensures)
 
 across-requires : tie.Need-across-requires
 across-requires c κs = search needs
@@ -98,8 +98,8 @@ work-place-requires c κs =
     let e = at-edge c in
     omega (arith, edge-is e, edge-in-work (start (at-strip (needed (at-extent e) .before)) .pre))
 
-along-requires-2 : tie.Need-along-requires-2
-along-requires-2 c κs = search needs
+along-requires : tie.Need-along-requires
+along-requires c κs = search needs
 
 copy-rectangle-requires : tie.Need-copy-rectangle-requires
 copy-rectangle-requires c κs =
@@ -110,8 +110,8 @@ copy-rectangle-requires c κs =
     let starts = b .strip-start .ensures in
     let place = p .work-place .ensures in
     let wide = x .across .ensures in (
-      edge-fits (start b .pre) starts (edge-is e) place (c .along2 .ensures) wide,
-      strip-in-strips (start b .pre) starts (edge-is e) place (c .along2 .ensures) wide,
+      edge-fits (start b .pre) starts (edge-is e) place (c .along .ensures) wide,
+      strip-in-strips (start b .pre) starts (edge-is e) place (c .along .ensures) wide,
     )
 
 same-length-2 : tie.Need-same-length-2
@@ -126,7 +126,7 @@ returns-2 c =
     let t = needed (at-extent e) in
     let b = at-strip (t .before) in
     let a = start b .args in
-    copied-strip (start b .pre) (b .strip-start .ensures) (edge-is e) (p .work-place .ensures) (d .before .along2 .ensures)
+    copied-strip (start b .pre) (b .strip-start .ensures) (edge-is e) (p .work-place .ensures) (d .before .along .ensures)
     (x .across .ensures) (a .gain) (a .work .now) (a .strips .now) (passed (t .before .goes-on .ensures) (t .if1 .left))
     (d .copy-rectangle .ensures)
 
@@ -142,11 +142,11 @@ write-strip-spec =
     clear-words-requires
     same-length
     returns
-    along-requires
+    extent-requires
     edge-start-requires
     across-requires
     work-place-requires
-    along-requires-2
+    along-requires
     copy-rectangle-requires
     same-length-2
     returns-2)

@@ -4,21 +4,23 @@ use Prim.Native.Nat.{_-_, _≤_}
 use native.Mathlib.Omega.{arith}
 use borrow.Author.Needs.{needs}
 use lib.ListN.{length, length-set}
-use Rattle.filter.specs.Windows.{scaleRow}
-use Rattle.filter.proofs.Scaling.{scale-word}
+use Rattle.buffer.specs.Written.{rowWritten}
+use Rattle.buffer.specs.Copies.{scaledFrom}
+use Rattle.buffer.proofs.Copies.{row-none, row-scaled-more}
 use Rattle.filter.proofs.scale_row.Statement.{statement}
 use Rattle.filter.proofs.scale_row.Tie as tie
 
 abbrev Inv-loop : tie.InvT-loop
 Inv-loop buffer₀ start width gain column₀ buffer column =
-    (column ≤ width) × (length buffer ≡ length buffer₀) × (buffer ≡ scaleRow gain start column buffer₀)
+    (column ≤ width) × (length buffer ≡ length buffer₀) × (buffer ≡ rowWritten start (scaledFrom gain buffer₀ start 1) column buffer₀)
 
 abbrev μ-loop : tie.MeasureT-loop
 μ-loop buffer₀ start width gain column₀ buffer column = width - column
 
 loop-holds : tie.Need-loop-holds Inv-loop μ-loop
-unfolding scaleRow
-loop-holds c = (omega arith, refl, refl)
+loop-holds c =
+    let a = c .before .args in
+    (omega arith, refl, row-none _ (scaledFrom (a .gain) (a .buffer .now) (a .start) 1) _)
 
 add-place : tie.Need-add-place Inv-loop μ-loop
 add-place c = search needs
@@ -46,10 +48,11 @@ loop-less c = search needs
 
 loop-again : tie.Need-loop-again Inv-loop μ-loop
 loop-again c =
-    let l = c .before .before .before in (
+    let l = c .before .before .before in
+    let a = l .before .before .args in (
       omega arith,
       length-set (l .loop .buffer) _ _ ∙ l .loop .inv .1,
-      scale-word _ _ _ _ (l .loop .inv .2) (c .mul .ensures),
+      row-scaled-more _ _ _ (a .buffer .now) (l .loop .buffer) _ (l .loop .inv .2) (c .mul .ensures),
     )
 
 same-length : tie.Need-same-length Inv-loop μ-loop

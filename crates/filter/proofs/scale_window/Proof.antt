@@ -5,7 +5,8 @@ use native.Mathlib.Omega.{arith}
 use borrow.Author.Needs.{needs}
 use lib.ListN.{length}
 use Rattle.number.specs.Numbers.{rowMajor}
-use Rattle.filter.specs.Windows.{scaleRows}
+use Rattle.filter.specs.Windows.{windowScaled}
+use Rattle.buffer.proofs.Copies.{rectangle-none}
 use Rattle.filter.proofs.Scaling.{row-fits, scale-row, scale-unchanged}
 use Rattle.filter.proofs.scale_window.Statement.{statement}
 use Rattle.filter.proofs.scale_window.Tie as tie
@@ -14,7 +15,7 @@ abbrev Inv-loop : tie.InvT-loop
 Inv-loop buffer₀ window gain row₀ buffer row =
     (row ≤ window .height)
     × (length buffer ≡ length buffer₀)
-    × (buffer ≡ scaleRows gain window row buffer₀)
+    × (buffer ≡ windowScaled gain window row buffer₀)
 
 abbrev μ-loop : tie.MeasureT-loop
 μ-loop buffer₀ window gain row₀ buffer row = window .height - row
@@ -35,11 +36,10 @@ returns : tie.Need-returns Inv-loop μ-loop
 returns c =
     let k = c .before in
     rw (c .if1 .taken)
-    (sym (scale-unchanged _ _ (k .before .args .buffer .now) (λ i. omega (arith, k .slice-known .given i))))
+    (sym (scale-unchanged (k .before .args .window) _ (k .before .args .buffer .now) (λ i. omega (arith, k .slice-known .given i))))
 
 loop-holds : tie.Need-loop-holds Inv-loop μ-loop
-unfolding scaleRows
-loop-holds c = (omega arith, refl, refl)
+loop-holds c = (omega arith, refl, rectangle-none _ _ _ _)
 
 add-start : tie.Need-add-start Inv-loop μ-loop
 add-start c = omega (arith, this-row (c .before) .0)
@@ -62,10 +62,11 @@ loop-less c = search needs
 loop-again : tie.Need-loop-again Inv-loop μ-loop
 loop-again c =
     let r = c .before .before in
-    let l = r .before .before .before .before .before .before .before in (
+    let l = r .before .before .before .before .before .before .before in
+    let s = l .before .before .before in (
       omega arith,
       omega (arith, r .scale-row .kept, l .loop .inv .1),
-      scale-row _ _ (l .loop .row) _ (l .loop .buffer) (l .loop .inv .2) (r .scale-row .ensures),
+      scale-row _ (s .args .window) (s .pre) (l .loop .row) (s .args .buffer .now) (l .loop .buffer) (l .loop .inv .2) (r .scale-row .ensures),
     )
 
 same-length : tie.Need-same-length Inv-loop μ-loop

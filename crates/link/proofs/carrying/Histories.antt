@@ -1,10 +1,9 @@
 -- The histories of the lines, weighted by the squares and added to the responses. Assumes nothing.
 use mathlib.Core.Path.{_≡_, refl, ap, ap₂, sym, _∙_}
-use mathlib.Core.List.{List, []}
-use Prim.Native.Nat.{ℕ, zero, suc, _+_, _-_, _*_, _^_, _<_}
+use mathlib.Core.List.{List}
+use Prim.Native.Nat.{ℕ, zero, suc, _+_, _-_, _^_, _<_}
 use native.Mathlib.Omega.{arith}
 use native.Mathlib.Numerals.{add-one}
-use lib.ListN.{getD}
 use Rattle.word.proofs.Ring.{add-assoc, zero-right, reduced-small}
 use Rattle.word.specs.Word.{_⊕_, _⊗_}
 use Rattle.plan.specs.Rules.{orderLimit}
@@ -17,19 +16,23 @@ use Rattle.filter.specs.declared.FilterWords.{FilterWords}
 use Rattle.strips.specs.StripRecord.{stripBefore}
 use Rattle.strips.specs.declared.Strip.{Strip}
 use Rattle.squares.specs.LinePasses.{passSquare, withHistories, crossed, response}
-use Rattle.squares.specs.LineBuffers.{rowWords, rowsBefore, filterAt}
-use Rattle.link.specs.Courses.{gainsAfter, scaledEdges, indexAt, CourseFits}
+use Rattle.squares.specs.LineBuffers.{rowWords, rowsBefore, filterAt, squareAt}
+use Rattle.link.specs.Courses.{indexAt, CourseFits}
 use Rattle.link.specs.Crossing.{responsePlace, crossedWords, Held}
 use Rattle.link.specs.Carrying.{weightsAt, DistanceAdded, historyWord, HistoriesAdded, CarryFits, PassToCarry, Carried, responseOf}
 use Rattle.link.specs.declared.Course.{Course}
 use Rattle.link.proofs.Courses.{link-orders, scaled-edges}
+use Rattle.filter.specs.FilterWords.{gainsAfter}
+use Rattle.task_words.specs.ScaledEdges.{scaledEdges}
+use Rattle.passes.specs.Table.{sumOf}
+use Rattle.number.specs.Numbers.{rowMajor}
 
 -- ---- the histories of the lines
 
 -- No distance yet.
 pub histories-none : (lines places : ℕ) (H : ℕ → ℕ → ℕ) (square : List (List ℕ)) (before : List ℕ)
     → ((z : ℕ) → wordAt before z < 2 ^ 64) → HistoriesAdded lines places 0 H square before before
-unfolding weightedSum
+unfolding weightedSum sumOf
 histories-none lines places H square before small =
     record { length-kept = refl; at = λ line p h b. sym (zero-right _ ∙ reduced-small _ (small _)) }
 
@@ -38,7 +41,7 @@ pub histories-more : (lines places n : ℕ) (H : ℕ → ℕ → ℕ) (square : 
     {words : ℕ → ℕ} → HistoriesAdded lines places n H square before b → ((line : ℕ) → words line ≡ H line n)
     → DistanceAdded lines places words (weightsAt square n) b after
     → HistoriesAdded lines places (n + 1) H square before after
-unfolding weightedSum
+unfolding weightedSum sumOf
 histories-more lines places n H square before held e added =
     rw (add-one n)
     (record {
@@ -54,7 +57,7 @@ histories-more lines places n H square before held e added =
 -- What a weighted sum reads.
 sum-reads : (p q v w : ℕ → ℕ) (n : ℕ) → ((j : ℕ) → j < n → p j ≡ q j) → ((j : ℕ) → j < n → v j ≡ w j)
     → weightedSum n p v ≡ weightedSum n q w
-unfolding weightedSum
+unfolding weightedSum sumOf
 sum-reads p q v w zero e f = refl
 sum-reads p q v w (suc n) e f =
     ap₂ _⊕_ (sum-reads p q v w n (λ j h. e j (omega arith)) (λ j h. f j (omega arith)))
@@ -66,7 +69,7 @@ pub histories-carried : {plan : Plan} {k : ℕ} {course : Course} {filters : Lis
     → (strip : Strip) → strip ≡ stripBefore plan k pass → {gain : ℕ} → gain ≡ gainsAfter plan pass (course .pass) → {row : ℕ}
     → row ≡ rowsBefore (filterAt filters) pass → {square : List (List ℕ)} {before after : List ℕ}
     → ((p j : ℕ) → p < orderLimit → j < orderLimit
-    → wordAt (getD square p []) j ≡ wordAt lines ((row + j) * rowWords + (course .from + p)))
+    → squareAt square p j ≡ wordAt lines (rowMajor rowWords (row + j) (course .from + p)))
     → HistoriesAdded (course .lines) (course .order) (filterAt filters pass .order)
     (historyWord gain (directionOf pass) (filterAt filters pass .order) strip strips) square before after
     → Carried (filterAt filters) course pass (scaledEdges plan strips k (course .pass) pass) before after
@@ -85,7 +88,7 @@ histories-carried {plan} {k} {course} {filters} {strips} {lines} held pass here 
           let low = i .low in
           let high = i .high in
           q place j (omega (arith, i .below, fits .course-fits .order-limited)) (omega arith)
-          ∙ ap (λ z. wordAt lines ((z + j) * rowWords + (course .from + place))) r
+          ∙ ap (λ z. wordAt lines (rowMajor rowWords (z + j) (course .from + place))) r
           ∙ ap (wordAt lines) (omega arith)
           ∙ held .ready .squares pass j (indexAt course place) (here .from-first) (here .in-course) c (omega arith)));
     }

@@ -11,7 +11,7 @@ use Rattle.plan.specs.Rules.{orderLimit}
 use Rattle.buffer.specs.Lists.{wordAt}
 use Rattle.buffer.proofs.Written.{written-none, written-more, written-length, written-other, written-at}
 use Rattle.number.proofs.RowMajor.{same-row-column}
-use Rattle.strips.specs.StripRecord.{stripRead}
+use Rattle.strips.specs.StripRecord.{stripRead, addressIn}
 use Rattle.strips.specs.declared.Strip.{Strip}
 use Rattle.link.specs.Lines.{linesInside}
 use Rattle.link.specs.Crossing.{responseWords, responsePlace}
@@ -27,23 +27,27 @@ unfolding multipleAdded
 multiple-none place strips at step weight before = sym (written-none _ _ before)
 
 -- One line more.
-pub multiple-next : (place : ℕ) (strips : List ℕ) (at step weight n : ℕ) (before : List ℕ) {b : List ℕ} {m v : ℕ}
-    → b ≡ multipleAdded place strips at step weight n before → m ≡ wordAt strips (at + n * step) ⊗ weight
-    → v ≡ wordAt b (responsePlace n place) ⊕ m
-    → set b (responsePlace n place) v ≡ multipleAdded place strips at step weight (n + 1) before
+pub multiple-next : (place : ℕ) (strips : List ℕ) (at step weight n : ℕ) (before : List ℕ) {b : List ℕ} {to m v : ℕ}
+    → b ≡ multipleAdded place strips at step weight n before → to ≡ responsePlace n place
+    → m ≡ wordAt strips (at + n * step) ⊗ weight → v ≡ wordAt b to ⊕ m
+    → set b to v ≡ multipleAdded place strips at step weight (n + 1) before
 unfolding multipleAdded
-multiple-next place strips at step weight n before e f g =
-    written-more (λ l. responsePlace l place) _ n before _ _ e
-    (g
+multiple-next place strips at step weight n before e there f g =
+    rw there
+    (written-more (λ l. responsePlace l place) _ n before _ _ e
+    ((rw there at g)
     ∙ ap₂ _⊕_
     (ap (λ z. wordAt z (responsePlace n place)) e
     ∙ written-other (λ l. responsePlace l place) _ n before _ (λ i h q. omega arith))
-    f)
+    f))
 
 -- No place yet.
 pub multiples-none : (lines : ℕ) (words weights : ℕ → ℕ) (before : List ℕ) → MultiplesAdded lines 0 words weights before before
 multiples-none lines words weights before =
-    record { length-kept = refl; at = λ line place h b. absurd (omega arith); rest = λ line place h b. refl }
+    record {
+      added = record { length-kept = refl; at = λ line place h b. absurd (omega arith) };
+      rest = λ line place h b. refl;
+    }
 
 -- The gain of a word may go to its weight.
 gain-of-weight : (gain word weight : ℕ) → word ⊗ (gain ⊗ weight) ≡ (gain ⊗ word) ⊗ weight
@@ -56,21 +60,25 @@ pub multiples-next : (lines n : ℕ) (strips : List ℕ) (at step gain : ℕ) (w
     → after ≡ multipleAdded n strips at step weight lines b
     → MultiplesAdded lines (n + 1) (λ l. gain ⊗ wordAt strips (at + l * step)) weights before after
 unfolding multipleAdded
-multiples-next lines n strips at step gain weights before few here long {b} {after} {weight} added g f =
+multiples-next lines n strips at step gain weights before few here long {b} {after} {weight} held g f =
     record {
-      length-kept = ap length f ∙ written-length to word lines b ∙ added .length-kept;
-      at = λ line p h c.
-          elim (ℕ-discrete p n) [
-            | yes q ↦
-                rw q
-                (ap (λ z. wordAt z (responsePlace line n)) f
-                ∙ written-at to word lines b (λ i j x y z. omega arith) (λ i x. omega (arith, added .length-kept)) line h
-                ∙ ap₂ _⊕_ (added .rest line n here (λ x y. omega arith))
-                (ap (wordAt strips (at + line * step) ⊗_) g ∙ gain-of-weight gain _ (weights n)))
-            | no q ↦ elsewhere line p (omega arith) (λ x y. q y) ∙ added .at line p h (omega arith)
-          ];
+      added =
+          record {
+            length-kept = ap length f ∙ written-length to word lines b ∙ held .added .length-kept;
+            at = λ line p h c.
+                elim (ℕ-discrete p n) [
+                  | yes q ↦
+                      rw q
+                      (ap (λ z. wordAt z (responsePlace line n)) f
+                      ∙ written-at to word lines b (λ i j x y z. omega arith) (λ i x. omega (arith, held .added .length-kept)) line
+                      h
+                      ∙ ap₂ _⊕_ (held .rest line n here (λ x y. omega arith))
+                      (ap (wordAt strips (at + line * step) ⊗_) g ∙ gain-of-weight gain _ (weights n)))
+                  | no q ↦ elsewhere line p (omega arith) (λ x y. q y) ∙ held .added .at line p h (omega arith)
+                ];
+          };
       rest = λ line p c out.
-          elsewhere line p c (λ x y. out x (omega arith)) ∙ added .rest line p c (λ x y. out x (omega arith));
+          elsewhere line p c (λ x y. out x (omega arith)) ∙ held .rest line p c (λ x y. out x (omega arith));
     }
   where
     to : ℕ → ℕ
@@ -97,20 +105,20 @@ add-none a b c h e = sym (rw (e, zero-mul, zero-right) (reduced-small a h))
 -- The words of a place in the block.
 pub distance-some : (gain : ℕ) (strip : Strip) (place lines places : ℕ) (strips : List ℕ) (weights : ℕ → ℕ) (before : List ℕ)
     → ((z : ℕ) → wordAt before z < 2 ^ 64) → places ≤ orderLimit → {n : ℕ} {after : List ℕ} → n ≡ linesInside strip place lines
-    → MultiplesAdded n places (λ l. gain ⊗ wordAt strips (strip .start + place * strip .«place_step» + l * strip .«line_step»))
+    → MultiplesAdded n places (λ l. gain ⊗ wordAt strips (addressIn strip 0 place + l * strip .«line_step»))
     weights before after
     → DistanceAdded lines places (λ l. gain ⊗ stripRead strip strips l place) weights before after
-distance-some gain strip place lines places strips weights before small few {n} e added =
+distance-some gain strip place lines places strips weights before small few {n} e held =
     record {
-      length-kept = added .length-kept;
+      length-kept = held .added .length-kept;
       at = λ line p h b.
           elim (decLt line n) [
             | yes l ↦
-                added .at line p l b
+                held .added .at line p l b
                 ∙ ap (λ z. wordAt before (responsePlace line p) ⊕ (gain ⊗ z) ⊗ weights p)
                 (sym (read-inside strip place lines strips line (omega arith)))
             | no l ↦
-                added .rest line p (omega arith) (λ x y. l x)
+                held .rest line p (omega arith) (λ x y. l x)
                 ∙ add-none _ _ (weights p) (small _)
                 (ap (gain ⊗_) (read-outside strip place lines strips line (omega arith) h) ∙ mul-zero gain)
           ];

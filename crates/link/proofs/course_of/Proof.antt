@@ -9,8 +9,8 @@ use Rattle.link.proofs.course_of.Tie as tie
 abbrev start : tie.After-block-shape → tie.Start
 start c = c .before .before
 
-abbrev shaped : tie.After-along2 → tie.After-block-shape
-shaped c = c .before .before .before
+abbrev shaped : tie.After-extent → tie.After-block-shape
+shaped c = c .before .before
 
 block-shape-requires : tie.Need-block-shape-requires
 block-shape-requires c κs = let a = c .before in in-grid (a .args .t1) (a .pre .kept) (a .args .k) (a .pre .counted)
@@ -21,14 +21,11 @@ mul-filter c = search needs
 element-copy-out-filter : tie.Need-element-copy-out-filter
 element-copy-out-filter c = search needs
 
-along-requires : tie.Need-along-requires
-along-requires c κs = search needs
+extent-requires : tie.Need-extent-requires
+extent-requires c κs = search needs
 
-along-requires-2 : tie.Need-along-requires-2
-along-requires-2 c κs = search needs
-
-across-requires : tie.Need-across-requires
-across-requires c κs = search needs
+lines-requires : tie.Need-lines-requires
+lines-requires c κs = search needs
 
 course-along-requires : tie.Need-course-along-requires
 course-along-requires c κs =
@@ -38,16 +35,16 @@ course-along-requires c κs =
     record {
       limited = order-limited-at (a .args .t1) (a .pre .kept) (a .args .pass) (a .pre .pass-below);
       extent-small =
-          rw (places .along2 .ensures)
-          (few-places (a .args .t1) (a .pre .kept) (a .args .k) (a .args .pass) _ (shape .block-shape .ensures));
+          rw (places .extent .ensures)
+          (few-places (a .args .t1) (a .args .k) (a .args .pass) (a .pre .kept) (a .pre .counted) _ (shape .block-shape .ensures));
     }
 
 returns : tie.Need-returns
 returns c =
     let lines = c .before in
     let places = lines .before in
-    course-is _ _ _ (shaped places .block-shape .ensures) (places .before .along .ensures) (places .along2 .ensures)
-    (lines .across .ensures) (c .course-along .ensures)
+    course-is _ _ _ (shaped places .block-shape .ensures) (places .extent .ensures) (lines .lines .ensures)
+    (c .course-along .ensures)
 
 pub course-of-spec : {M : Type 1} → statement M
 course-of-spec =
@@ -56,8 +53,7 @@ course-of-spec =
     block-shape-requires
     mul-filter
     element-copy-out-filter
-    along-requires
-    along-requires-2
-    across-requires
+    extent-requires
+    lines-requires
     course-along-requires
     returns)

@@ -1,13 +1,15 @@
 -- The ends of the lines in the margins of the responses. Assumes nothing.
 use mathlib.Core.List.{List}
-use mathlib.Core.Path.{_≡_}
+use mathlib.Core.Path.{_≡_, refl, ap, _∙_}
 use Prim.Native.Nat.{ℕ, _+_, _*_, _<_, _≤_}
 use native.Mathlib.Omega.{arith}
 use lib.ListN.{length}
+use Rattle.number.specs.Numbers.{rowMajor}
 use Rattle.plan.specs.Rules.{orderLimit}
 use Rattle.buffer.specs.Lists.{wordAt}
 use Rattle.buffer.specs.Copies.{wordsFrom}
 use Rattle.buffer.specs.Written.{rowWritten}
+use Rattle.buffer.proofs.Written.{written-same}
 use Rattle.buffer.proofs.Copies.{rectangle-none, rectangle-more, rectangle-length, rectangle-at, rectangle-other}
 use Rattle.axis.specs.Axis.{Direction}
 use Rattle.number.proofs.RowMajor.{same-row-column}
@@ -21,10 +23,10 @@ use Rattle.link.specs.declared.Course.{Course}
 
 module _ (d : Direction) (course : Course) (row : ℕ) (lines before : List ℕ) where
   abbrev endPlace : ℕ → ℕ → ℕ
-  endPlace k p = beyond d orderLimit (course .lines) k * orderLimit + p
+  endPlace k p = rowMajor orderLimit (beyond d orderLimit (course .lines) k) p
 
   abbrev endWord : ℕ → ℕ → ℕ
-  endWord k p = wordAt lines ((row + k) * rowWords + course .from + p)
+  endWord k p = wordAt lines (rowMajor rowWords (row + k) (course .from + p))
 
   -- No row yet.
   pub ends-none : before ≡ endsCopied d course row lines 0 before
@@ -37,7 +39,9 @@ module _ (d : Direction) (course : Course) (row : ℕ) (lines before : List ℕ)
       → a ≡ rowWritten (to * orderLimit) (wordsFrom lines ((row + n) * rowWords + course .from)) (course .order) b
       → a ≡ endsCopied d course row lines (n + 1) before
   unfolding endsCopied rowWritten
-  ends-next n e f g = rectangle-more endPlace endWord (course .order) n before _ _ e (rw f at g)
+  ends-next n e f g =
+      rectangle-more endPlace endWord (course .order) n before _ _ e
+      ((rw f at g) ∙ written-same _ _ _ _ (course .order) _ (λ i h. refl) (λ i h. ap (wordAt lines) (omega arith)))
 
 module _ (course : Course) (fits : CourseFits course) (d : Direction) (row order : ℕ) (few-rows : order ≤ orderLimit)
     (lines before : List ℕ) (long : length before ≡ responseWords) where

@@ -24,6 +24,7 @@ use Rattle.link.specs.Lines.{LinesReady}
 use Rattle.link.specs.Crossing.{responseWords, responsePlace, Held, endsCopied, Crossed, CrossFits, crossedWords}
 use Rattle.link.specs.declared.Course.{Course}
 use Rattle.link.proofs.crossing.Ends.{ends-length, ends-at, ends-rest}
+use Rattle.number.specs.Numbers.{rowMajor}
 
 -- ---- a pass over the responses
 
@@ -79,10 +80,10 @@ cross-passed filters course lines before cross pass b {loaded} {after} {row} r l
           ∙ filterLine-reads (directionOf pass) (filters pass) (course .lines) _ _ _ _
           (λ k c.
           sym (beside-place place k)
-          ∙ ap (λ z. wordAt z (beyond (directionOf pass) orderLimit (course .lines) k * orderLimit + place)) l
+          ∙ ap (λ z. wordAt z (rowMajor orderLimit (beyond (directionOf pass) orderLimit (course .lines) k) place)) l
           ∙ ends-at course fits (directionOf pass) row (filters pass .order) few lines before (cross .responses-long) k place c
           (i .below)
-          ∙ ap (λ z. wordAt lines ((z + k) * rowWords + course .from + place)) r)
+          ∙ ap (λ z. wordAt lines (rowMajor rowWords (z + k) (course .from + place))) r)
           (λ y c.
           sym (at-place loaded y place)
           ∙ ap (λ z. wordAt z (responsePlace y place)) l

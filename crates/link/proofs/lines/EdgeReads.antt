@@ -11,12 +11,13 @@ use Rattle.word.specs.Word.{_⊗_}
 use Rattle.plan.specs.Rules.{orderLimit}
 use Rattle.buffer.specs.Lists.{wordAt}
 use Rattle.buffer.proofs.Written.{written-none, written-same}
-use Rattle.strips.specs.StripRecord.{placeHeld, stripRead, StripFits}
+use Rattle.strips.specs.StripRecord.{placeHeld, wordHeld, stripRead, StripFits, addressIn}
 use Rattle.strips.specs.declared.Strip.{Strip}
 use Rattle.squares.specs.LineBuffers.{rowWords}
 use Rattle.buffer.specs.Copies.{WordsFit, scaledFrom}
 use Rattle.buffer.specs.Written.{rowWritten}
 use Rattle.link.specs.Lines.{linesInside, stripLine}
+use Rattle.number.specs.Numbers.{rowMajor}
 
 -- Some of the first n lines of a strip have a word in the block at a place.
 pub record SomeInside (strip : Strip) (place n : ℕ) : Type 0 where
@@ -68,7 +69,7 @@ module _ (strip : Strip) (place n : ℕ) where
   -- The block's test of a place holds for those lines, and for no others.
   module _ (line word : ℕ) where
     pub chosen-inside : line < linesInside strip place n
-        → cond (ltb line (strip .lines) && placeHeld strip place) word 0 ≡ word
+        → cond (wordHeld strip line place) word 0 ≡ word
     chosen-inside h =
         let some = lines-some (omega arith) in
         rw (
@@ -78,7 +79,7 @@ module _ (strip : Strip) (place n : ℕ) where
         )
 
     pub chosen-outside : linesInside strip place n ≤ line → line < n
-        → cond (ltb line (strip .lines) && placeHeld strip place) word 0 ≡ 0
+        → cond (wordHeld strip line place) word 0 ≡ 0
     unfolding linesInside
     chosen-outside h b = by (ltb line (strip .lines)) (placeHeld strip place) refl h
       where
@@ -90,7 +91,7 @@ module _ (strip : Strip) (place n : ℕ) where
   -- Those lines are read, and the others are 0.
   pub read-inside : (strips : List ℕ) (line : ℕ) → line < linesInside strip place n
       → stripRead strip strips line place
-      ≡ wordAt strips (strip .start + place * strip .«place_step» + line * strip .«line_step»)
+      ≡ wordAt strips (addressIn strip 0 place + line * strip .«line_step»)
   unfolding stripRead
   read-inside strips line h = chosen-inside line _ h ∙ ap (wordAt strips) (omega arith)
 
@@ -100,7 +101,7 @@ module _ (strip : Strip) (place n : ℕ) where
   read-outside strips line h b = chosen-outside line _ h b
 
   pub words-fit : {m : ℕ} → StripFits m strip
-      → WordsFit m (strip .start + place * strip .«place_step») (strip .«line_step») (linesInside strip place n)
+      → WordsFit m (addressIn strip 0 place) (strip .«line_step») (linesInside strip place n)
   words-fit fits =
       record {
         inside = λ line h.
@@ -110,7 +111,7 @@ module _ (strip : Strip) (place n : ℕ) where
 
   -- The first of them is in the list.
   pub first-word : {m : ℕ} → StripFits m strip → 0 < linesInside strip place n
-      → strip .start + place * strip .«place_step» < m
+      → addressIn strip 0 place < m
   first-word fits h = omega (arith, words-fit fits .inside 0 h)
 
 -- ---- a row of them
@@ -118,8 +119,8 @@ module _ (strip : Strip) (place n : ℕ) where
 module _ (gain : ℕ) (strip : Strip) (strips : List ℕ) (place row places : ℕ) (before : List ℕ) where
   pub line-some : {n : ℕ} {after : List ℕ} → n ≡ linesInside strip place places
       → after
-      ≡ rowWritten (row * rowWords + orderLimit)
-      (scaledFrom gain strips (strip .start + place * strip .«place_step») (strip .«line_step»)) n before
+      ≡ rowWritten (rowMajor rowWords row orderLimit)
+      (scaledFrom gain strips (addressIn strip 0 place) (strip .«line_step»)) n before
       → after ≡ stripLine gain strip strips place row places before
   unfolding rowWritten stripLine
   line-some e f =

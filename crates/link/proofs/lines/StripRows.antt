@@ -42,7 +42,7 @@ module _ (gain : ℕ) (d : Direction) (order : ℕ) (strip : Strip) (strips : Li
 module _ (places row : ℕ) (few-places : places ≤ 32) (gain : ℕ) (d : Direction) (order : ℕ) (strip : Strip)
     (strips before : List ℕ) where
   abbrev lineStart : ℕ → ℕ
-  lineStart k = (row + k) * rowWords + orderLimit
+  lineStart k = rowMajor rowWords (row + k) orderLimit
 
   abbrev lineWord : ℕ → ℕ → ℕ
   lineWord k j = gain ⊗ stripRead strip strips j (fromEdge d order k)

@@ -41,14 +41,14 @@ unfolding responsesAdded
 responses-none at step responses place before = sym (written-none _ _ before)
 
 -- One line more.
-pub responses-next : (at step : ℕ) (responses : List ℕ) (place n : ℕ) (before : List ℕ) → 0 < step → {b : List ℕ} {v : ℕ}
-    → b ≡ responsesAdded at step responses place n before
-    → v ≡ wordAt b (at + n * step) ⊕ wordAt responses (responsePlace n place)
+pub responses-next : (at step : ℕ) (responses : List ℕ) (place n : ℕ) (before : List ℕ) → 0 < step → {b : List ℕ} {from v : ℕ}
+    → b ≡ responsesAdded at step responses place n before → from ≡ responsePlace n place
+    → v ≡ wordAt b (at + n * step) ⊕ wordAt responses from
     → set b (at + n * step) v ≡ responsesAdded at step responses place (n + 1) before
 unfolding responsesAdded
-responses-next at step responses place n before some e f =
+responses-next at step responses place n before some e there f =
     written-more (λ l. at + l * step) _ n before _ _ e
-    (f
+    ((rw there at f)
     ∙ ap (_⊕ wordAt responses (responsePlace n place))
     (ap (λ z. wordAt z (at + n * step)) e
     ∙ written-other (λ l. at + l * step) _ n before _ (λ i h. steps-apart at step n i some h)))
@@ -56,10 +56,7 @@ responses-next at step responses place n before some e f =
 -- ---- one place of the strip
 
 module _ (strip : Strip) (side place : ℕ) (responses before : List ℕ) {r : ℕ}
-    (laid : StripLaid (length before) strip (place + 1) side r) where
-  abbrev from : ℕ
-  from = strip .start + place * strip .«place_step»
-
+    (laid : StripLaid (length before) strip (place + 1) side r) {from : ℕ} (begins : from ≡ addressIn strip 0 place) where
   abbrev step : ℕ
   step = strip .«line_step»
 

@@ -7,7 +7,7 @@ use lib.ListN.{length, take, length-set}
 use Rattle.plan.specs.Rules.{orderLimit}
 use Rattle.buffer.specs.Lists.{listOf}
 use Rattle.buffer.proofs.Listed.{listed-none, filled-more, filled-all}
-use Rattle.plan_reader.specs.ReadPlan.{coefficientIn}
+use Rattle.plan_reader.specs.ReadPlan.{coefficientIn, passFrom}
 use Rattle.plan_reader.proofs.SignedPayload.{read-back}
 use Rattle.plan_reader.proofs.coefficients_from.Statement.{statement}
 use Rattle.plan_reader.proofs.coefficients_from.Tie as tie
@@ -45,6 +45,7 @@ loop-again c = (
 )
 
 returns : tie.Need-returns Inv-loop μ-loop
+unfolding passFrom
 returns c =
     let l = c .before .loop in
     let e : l .j ≡ orderLimit = omega arith in

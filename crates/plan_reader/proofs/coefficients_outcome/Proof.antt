@@ -5,7 +5,7 @@ use native.Mathlib.Omega.{arith}
 use borrow.Author.Needs.{needs}
 use Rattle.refusal.specs.Table.{firstDue, answerOf}
 use Rattle.plan_reader.specs.ReadPlan.{coefficientRows}
-use Rattle.plan_reader.proofs.RefusalRows.{coefficients-none, coefficients-more}
+use Rattle.plan_reader.proofs.RefusalRows.{joined-none, joined-more}
 use Rattle.plan_reader.proofs.coefficients_outcome.Statement.{statement}
 use Rattle.plan_reader.proofs.coefficients_outcome.Tie as tie
 
@@ -16,7 +16,8 @@ abbrev μ-loop : tie.MeasureT-loop
 μ-loop words place count outcome₀ j₀ outcome j = count - j
 
 loop-holds : tie.Need-loop-holds Inv-loop μ-loop
-loop-holds c = (omega arith, coefficients-none _ _)
+unfolding coefficientRows
+loop-holds c = (omega arith, joined-none _)
 
 add-word-outcome : tie.Need-add-word-outcome Inv-loop μ-loop
 add-word-outcome c = search needs
@@ -34,10 +35,11 @@ loop-less : tie.Need-loop-less Inv-loop μ-loop
 loop-less c = search needs
 
 loop-again : tie.Need-loop-again Inv-loop μ-loop
+unfolding coefficientRows
 loop-again c =
     let next = c .before in (
       omega arith,
-      coefficients-more _ (c .or-first .ensures) _ _ (next .before .before .loop .inv .1)
+      joined-more _ (c .or-first .ensures) _ (next .before .before .loop .inv .1)
           (next .word-outcome .ensures),
     )
 

@@ -12,14 +12,18 @@ cast-if1 c = search needs
 returns : tie.Need-returns
 returns c = first-fails _ (ne-eqb _ _ (c .if1 .taken))
 
-cast-if2 : tie.Need-cast-if2
-cast-if2 c = search needs
+order-in-requires : tie.Need-order-in-requires
+order-in-requires c κs = search needs
 
 returns-2 : tie.Need-returns-2
-returns-2 c = first-passes (eq-eqb _ _ (c .before .if1 .left)) (first-fails _ (lt-leb _ _ (c .if2 .taken)))
+returns-2 c =
+    first-passes (eq-eqb _ _ (c .before .before .if1 .left))
+    (first-fails _ (lt-leb _ _ (rw (c .before .order-in .ensures) at (c .if2 .taken))))
 
 returns-3 : tie.Need-returns-3
-returns-3 c = first-passes (eq-eqb _ _ (c .before .if1 .left)) (first-passes (le-leb _ _ (c .if2 .left)) refl)
+returns-3 c =
+    first-passes (eq-eqb _ _ (c .before .before .if1 .left))
+    (first-passes (le-leb _ _ (rw (c .before .order-in .ensures) at (c .if2 .left))) refl)
 
 pub pass-allowed-spec : {M : Type 1} → statement M
-pass-allowed-spec = tie.close (tie.spec cast-if1 returns cast-if2 returns-2 returns-3)
+pass-allowed-spec = tie.close (tie.spec cast-if1 returns order-in-requires returns-2 returns-3)

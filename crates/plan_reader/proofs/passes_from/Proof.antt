@@ -6,7 +6,7 @@ use borrow.Author.Needs.{needs}
 use lib.ListN.{length, take, length-set}
 use Rattle.buffer.specs.Lists.{listOf}
 use Rattle.buffer.proofs.Listed.{listed-none, filled-more, filled-all}
-use Rattle.plan_reader.specs.ReadPlan.{passPlace, passFrom}
+use Rattle.plan_reader.specs.ReadPlan.{passPlace, passFrom, planFrom}
 use Rattle.plan_reader.proofs.PassPlaces.{pass-place-bounded}
 use Rattle.plan_reader.proofs.passes_from.Statement.{statement}
 use Rattle.plan_reader.proofs.passes_from.Tie as tie
@@ -53,6 +53,7 @@ loop-again c = (
 )
 
 returns : tie.Need-returns Inv-loop μ-loop
+unfolding planFrom
 returns c =
     let l = c .before .loop in
     let e : l .i ≡ 4 = omega arith in

@@ -6,7 +6,7 @@ use borrow.Author.Needs.{needs}
 use Rattle.refusal.specs.Table.{firstDue, answerOf}
 use Rattle.plan_reader.specs.ReadPlan.{passesRows}
 use Rattle.plan_reader.proofs.PassPlaces.{pass-place-bounded}
-use Rattle.plan_reader.proofs.RefusalRows.{passes-none, passes-more}
+use Rattle.plan_reader.proofs.RefusalRows.{joined-none, joined-more}
 use Rattle.plan_reader.proofs.passes_outcome.Statement.{statement}
 use Rattle.plan_reader.proofs.passes_outcome.Tie as tie
 
@@ -17,7 +17,8 @@ abbrev μ-loop : tie.MeasureT-loop
 μ-loop words outcome₀ i₀ outcome i = 4 - i
 
 loop-holds : tie.Need-loop-holds Inv-loop μ-loop
-loop-holds c = (omega arith, passes-none _)
+unfolding passesRows
+loop-holds c = (omega arith, joined-none _)
 
 pass-place-requires : tie.Need-pass-place-requires Inv-loop μ-loop
 pass-place-requires c κs = search needs
@@ -36,11 +37,12 @@ loop-less : tie.Need-loop-less Inv-loop μ-loop
 loop-less c = search needs
 
 loop-again : tie.Need-loop-again Inv-loop μ-loop
+unfolding passesRows
 loop-again c =
     let pass = c .before in
     let place = pass .before in (
       omega arith,
-      passes-more _ (c .or-first .ensures) _ (place .before .before .loop .inv .1)
+      joined-more _ (c .or-first .ensures) _ (place .before .before .loop .inv .1)
           (rw (place .pass-place .ensures) at (pass .pass-outcome .ensures)),
     )
 

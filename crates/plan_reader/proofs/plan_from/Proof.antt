@@ -1,5 +1,5 @@
 -- `plan_reader::plan_from` meets its contract, field by field. Assumes nothing.
-use mathlib.Core.Path.{ap}
+use mathlib.Core.Path.{ap, _∙_}
 use borrow.Author.Needs.{needs}
 use Rattle.plan_reader.specs.PlanWords.{rowsIn, columnsIn}
 use Rattle.plan_reader.specs.ReadPlan.{planFrom}
@@ -16,20 +16,22 @@ payload-at-requires-2 c κs = search needs
 passes-from-requires : tie.Need-passes-from-requires
 passes-from-requires c κs = search needs
 
+rows-in-requires : tie.Need-rows-in-requires
+rows-in-requires c κs = search needs
+
+columns-in-requires : tie.Need-columns-in-requires
+columns-in-requires c κs = search needs
+
 cast-t8 : tie.Need-cast-t8
 cast-t8 c = search needs
-
-cast-t10 : tie.Need-cast-t10
-cast-t10 c = search needs
-
-cast-t11 : tie.Need-cast-t11
-cast-t11 c = search needs
 
 returns : tie.Need-returns
 unfolding planFrom
 returns c =
-    let s = c .before .before .payload-at .ensures in
-    same-plan (ap rowsIn s) (ap columnsIn s) (c .before .payload-at2 .ensures) (c .passes-from .ensures)
+    let passes = c .before .before in
+    let size = passes .before .before .payload-at .ensures in
+    same-plan (c .before .rows-in .ensures ∙ ap rowsIn size) (c .columns-in .ensures ∙ ap columnsIn size)
+    (passes .before .payload-at2 .ensures) (passes .passes-from .ensures)
 
 pub plan-from-spec : {M : Type 1} → statement M
 plan-from-spec =
@@ -38,7 +40,7 @@ plan-from-spec =
     payload-at-requires
     payload-at-requires-2
     passes-from-requires
+    rows-in-requires
+    columns-in-requires
     cast-t8
-    cast-t10
-    cast-t11
     returns)

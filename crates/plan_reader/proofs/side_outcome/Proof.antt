@@ -7,8 +7,8 @@ use borrow.Author.Needs.{needs}
 use borrow.Author.Tests.{le-leb}
 use Rattle.number.specs.Numbers.{allBelow}
 use Rattle.number.proofs.Tests.{all-none, all-more}
-use Rattle.plan_reader.specs.ReadPlan.{payloadAt, orderAt, passPlace}
-use Rattle.plan_reader.proofs.RefusalRows.{sideReaches, side-below, side-accepted}
+use Rattle.plan_reader.specs.ReadPlan.{payloadAt, orderAt, passPlace, sideReaches}
+use Rattle.plan_reader.proofs.RefusalRows.{side-below, side-accepted}
 use Rattle.plan_reader.proofs.side_outcome.Statement.{statement}
 use Rattle.plan_reader.proofs.side_outcome.Tie as tie
 

@@ -4,45 +4,55 @@ use mathlib.Core.Bool.{true}
 use borrow.Author.Needs.{needs}
 use Rattle.number.specs.Numbers.{within}
 use Rattle.number.proofs.Tests.{failed, passed}
-use Rattle.plan_reader.specs.PlanWords.{rowsIn}
+use Rattle.grid.specs.Grid.{sizeLimit}
+use Rattle.plan_reader.specs.PlanWords.{rowsIn, columnsIn}
 use Rattle.plan_reader.proofs.Conjunction.{first-fails, first-passes}
 use Rattle.plan_reader.proofs.size_allowed.Statement.{statement}
 use Rattle.plan_reader.proofs.size_allowed.Tie as tie
 
-cast-within : tie.Need-cast-within
-cast-within c = search needs
+rows-in-requires : tie.Need-rows-in-requires
+rows-in-requires c κs = search needs
 
 within-requires : tie.Need-within-requires
 within-requires c κs = search needs
 
-returns : tie.Need-returns
-returns c = first-fails _ (failed (c .before .within .ensures) (c .if1 .taken))
+rows-tested : (c : tie.After-within) → c .within .result ≡ within (rowsIn (c .before .before .args .payload)) sizeLimit
+rows-tested c = rw (c .before .rows-in .ensures) at (c .within .ensures)
 
-cast-within-2 : tie.Need-cast-within-2
-cast-within-2 c = search needs
+returns : tie.Need-returns
+returns c = first-fails _ (failed (rows-tested (c .before)) (c .if1 .taken))
+
+columns-in-requires : tie.Need-columns-in-requires
+columns-in-requires c κs = search needs
 
 within-requires-2 : tie.Need-within-requires-2
 within-requires-2 c κs = search needs
 
-rows-passed : (c : tie.Else1) → within (rowsIn (c .before .before .args .payload)) 4096 ≡ true
-rows-passed c = passed (c .before .within .ensures) (c .if1 .left)
+rows-passed : (c : tie.Else1) → within (rowsIn (c .before .before .before .args .payload)) sizeLimit ≡ true
+rows-passed c = passed (rows-tested (c .before)) (c .if1 .left)
+
+columns-tested : (c : tie.After-within2)
+    → c .within2 .result ≡ within (columnsIn (c .before .before .before .before .before .args .payload)) sizeLimit
+columns-tested c = rw (c .before .columns-in .ensures) at (c .within2 .ensures)
 
 returns-2 : tie.Need-returns-2
 returns-2 c =
-    first-passes (rows-passed (c .before .before)) (first-fails _ (failed (c .before .within2 .ensures) (c .if2 .taken)))
+    first-passes (rows-passed (c .before .before .before))
+    (first-fails _ (failed (columns-tested (c .before)) (c .if2 .taken)))
 
 returns-3 : tie.Need-returns-3
 returns-3 c =
-    first-passes (rows-passed (c .before .before)) (first-passes (passed (c .before .within2 .ensures) (c .if2 .left)) refl)
+    first-passes (rows-passed (c .before .before .before))
+    (first-passes (passed (columns-tested (c .before)) (c .if2 .left)) refl)
 
 pub size-allowed-spec : {M : Type 1} → statement M
 size-allowed-spec =
     tie.close
     (tie.spec
-    cast-within
+    rows-in-requires
     within-requires
     returns
-    cast-within-2
+    columns-in-requires
     within-requires-2
     returns-2
     returns-3)

@@ -6,9 +6,9 @@ use borrow.Author.Needs.{needs}
 use lib.ListN.{length, take, length-set}
 use Rattle.plan_reader.proofs.SignedPayload.{read-back}
 use Rattle.plan.specs.Rules.{orderLimit}
-use Rattle.buffer.specs.Lists.{listOf}
+use Rattle.buffer.specs.Lists.{listOf, numberAt}
 use Rattle.buffer.proofs.Listed.{listed-none, filled-more, filled-all}
-use Rattle.plan_record.specs.Records.{numberAt}
+use Rattle.plan_record.specs.Records.{passOfRecord}
 use Rattle.plan_record.proofs.coefficients_of_record.Statement.{statement}
 use Rattle.plan_record.proofs.coefficients_of_record.Tie as tie
 
@@ -55,6 +55,7 @@ loop-again c = (
 )
 
 returns : tie.Need-returns Inv-loop μ-loop
+unfolding passOfRecord
 returns c =
     let l = c .before .loop in
     let e : l .j ≡ orderLimit = omega arith in

@@ -4,9 +4,10 @@ use Prim.Native.Nat.{_+_}
 use borrow.Author.Needs.{needs}
 use Rattle.plan_reader.proofs.SignedPayload.{read-back}
 use Rattle.plan_reader.proofs.RecordParts.{same-pass}
-use Rattle.plan_record.specs.Records.{numberAt, sizeFrom, passOfRecord}
+use Rattle.plan_record.specs.Records.{sizeFrom, passOfRecord}
 use Rattle.plan_record.proofs.pass_of_record.Statement.{statement}
 use Rattle.plan_record.proofs.pass_of_record.Tie as tie
+use Rattle.buffer.specs.Lists.{numberAt}
 
 mul-size-from : tie.Need-mul-size-from
 mul-size-from c = search needs

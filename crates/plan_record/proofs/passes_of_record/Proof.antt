@@ -1,30 +1,30 @@
 -- `plan_record::passes_of_record` meets its contract: the first i passes are filled. Assumes nothing.
 use mathlib.Core.Path.{_≡_, sym}
-use Prim.Native.Nat.{ℕ, _+_, _*_, _-_, _≤_}
+use Prim.Native.Nat.{ℕ, _-_, _≤_}
 use native.Mathlib.Omega.{arith}
 use borrow.Author.Needs.{needs}
 use lib.ListN.{length, take, length-set}
 use Rattle.buffer.specs.Lists.{listOf}
 use Rattle.buffer.proofs.Listed.{listed-none, filled-more, filled-all}
-use Rattle.plan_record.specs.Records.{passLength, passOfRecord}
+use Rattle.plan_record.specs.Records.{passStart, passOfRecord, planOfRecord}
 use Rattle.plan_record.proofs.passes_of_record.Statement.{statement}
 use Rattle.plan_record.proofs.passes_of_record.Tie as tie
 
 abbrev Inv-loop : tie.InvT-loop
 Inv-loop words passes₀ i₀ passes i =
-    (i ≤ 4) × (length passes ≡ 4) × (take i passes ≡ listOf (λ (k : ℕ). passOfRecord words (3 + k * passLength)) i)
+    (i ≤ 4) × (length passes ≡ 4) × (take i passes ≡ listOf (λ (k : ℕ). passOfRecord words (passStart k)) i)
 
 abbrev μ-loop : tie.MeasureT-loop
 μ-loop words passes₀ i₀ passes i = 4 - i
 
+zero-pass-requires : tie.Need-zero-pass-requires Inv-loop μ-loop
+zero-pass-requires c κs = search needs
+
 loop-holds : tie.Need-loop-holds Inv-loop μ-loop
 loop-holds c = (omega arith, search needs, sym (listed-none _))
 
-mul-pass-of-record : tie.Need-mul-pass-of-record Inv-loop μ-loop
-mul-pass-of-record c = search needs
-
-add-pass-of-record : tie.Need-add-pass-of-record Inv-loop μ-loop
-add-pass-of-record c = search needs
+pass-start-requires : tie.Need-pass-start-requires Inv-loop μ-loop
+pass-start-requires c κs = search needs
 
 pass-of-record-requires : tie.Need-pass-of-record-requires Inv-loop μ-loop
 pass-of-record-requires c κs = search needs
@@ -42,13 +42,16 @@ loop-less : tie.Need-loop-less Inv-loop μ-loop
 loop-less c = search needs
 
 loop-again : tie.Need-loop-again Inv-loop μ-loop
-loop-again c = (
-  omega arith,
-  simp length-set (omega arith),
-  filled-more _ _ _ _ (omega arith) (c .pass-of-record .ensures) (c .before .before .loop .inv .2),
-)
+loop-again c =
+    let start = c .before in (
+      omega arith,
+      simp length-set (omega arith),
+      filled-more _ _ _ _ (omega arith) (rw (start .pass-start .ensures) at (c .pass-of-record .ensures))
+          (start .before .before .loop .inv .2),
+    )
 
 returns : tie.Need-returns Inv-loop μ-loop
+unfolding planOfRecord
 returns c =
     let l = c .before .loop in
     let e : l .i ≡ 4 = omega arith in
@@ -60,9 +63,9 @@ passes-of-record-spec =
     (tie.spec
     Inv-loop
     μ-loop
+    zero-pass-requires
     loop-holds
-    mul-pass-of-record
-    add-pass-of-record
+    pass-start-requires
     pass-of-record-requires
     mul-passes
     array-set-from-passes

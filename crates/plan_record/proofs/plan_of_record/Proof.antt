@@ -2,10 +2,11 @@
 use mathlib.Core.Path.{refl, ap, _∙_}
 use Rattle.plan_reader.proofs.SignedPayload.{read-back}
 use Rattle.plan_reader.proofs.RecordParts.{same-plan}
-use Rattle.plan_record.specs.Records.{numberAt, sizeFrom, planOfRecord}
+use Rattle.plan_record.specs.Records.{sizeFrom, planOfRecord}
 use borrow.Author.Needs.{needs}
 use Rattle.plan_record.proofs.plan_of_record.Statement.{statement}
 use Rattle.plan_record.proofs.plan_of_record.Tie as tie
+use Rattle.buffer.specs.Lists.{numberAt}
 
 element-copy-out-size-from : tie.Need-element-copy-out-size-from
 element-copy-out-size-from c = search needs

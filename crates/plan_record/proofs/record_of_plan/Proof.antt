@@ -1,10 +1,10 @@
 -- `plan_record::record_of_plan` meets its contract: the sizes and the first i passes stand in front. Assumes nothing.
 use native.Mathlib.Omega.{arith}
-use Prim.Native.Nat.{_+_, _-_, _*_, _≤_}
+use Prim.Native.Nat.{_-_, _≤_}
 use mathlib.Core.Path.{_≡_}
 use lib.ListN.{length, take}
 use Rattle.plan_reader.proofs.SignedPayload.{read-back}
-use Rattle.plan_record.specs.Records.{passLength, recordLength}
+use Rattle.plan_record.specs.Records.{passStart, recordLength}
 use Rattle.plan_record.proofs.RecordWords.{front, front-none, front-more, front-all}
 use borrow.Author.Needs.{needs}
 use Rattle.plan_record.proofs.record_of_plan.Statement.{statement}
@@ -12,7 +12,7 @@ use Rattle.plan_record.proofs.record_of_plan.Tie as tie
 
 abbrev Inv-loop : tie.InvT-loop
 Inv-loop plan words₀ i₀ words i =
-    (i ≤ 4) × (length words ≡ recordLength) × (take (3 + i * passLength) words ≡ front plan i)
+    (i ≤ 4) × (length words ≡ recordLength) × (take (passStart i) words ≡ front plan i)
 
 abbrev μ-loop : tie.MeasureT-loop
 μ-loop plan words₀ i₀ words i = 4 - i
@@ -50,11 +50,8 @@ mul-pass c = search needs
 element-copy-out-pass : tie.Need-element-copy-out-pass Inv-loop μ-loop
 element-copy-out-pass c = search needs
 
-mul-with-pass : tie.Need-mul-with-pass Inv-loop μ-loop
-mul-with-pass c = search needs
-
-add-with-pass : tie.Need-add-with-pass Inv-loop μ-loop
-add-with-pass c = search needs
+pass-start-requires : tie.Need-pass-start-requires Inv-loop μ-loop
+pass-start-requires c κs = search needs
 
 with-pass-requires : tie.Need-with-pass-requires Inv-loop μ-loop
 with-pass-requires c κs = search needs
@@ -66,11 +63,13 @@ loop-less : tie.Need-loop-less Inv-loop μ-loop
 loop-less c = search needs
 
 loop-again : tie.Need-loop-again Inv-loop μ-loop
-loop-again c = (
-  omega arith,
-  c .with-pass .ensures .0,
-  front-more _ _ _ _ (c .before .before .before .loop .inv .2) (c .with-pass .ensures .1),
-)
+loop-again c =
+    let start = c .before in (
+      omega arith,
+      c .with-pass .ensures .0,
+      front-more _ _ _ _ (start .before .before .before .loop .inv .2)
+          (rw (start .pass-start .ensures) at (c .with-pass .ensures .1)),
+    )
 
 returns : tie.Need-returns Inv-loop μ-loop
 returns c =
@@ -93,8 +92,7 @@ record-of-plan-spec =
     loop-holds
     mul-pass
     element-copy-out-pass
-    mul-with-pass
-    add-with-pass
+    pass-start-requires
     with-pass-requires
     add-i
     loop-less

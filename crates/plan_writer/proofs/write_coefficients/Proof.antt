@@ -10,10 +10,11 @@ use mir.Val.{toZ, ofZ}
 use mir.ValLaws.{toZ-ofZ}
 use borrow.Author.Needs.{needs, sfits-of}
 use Rattle.plan.specs.Rules.{inSigned28, coefficientAt}
-use Rattle.plan_writer.specs.WritePlan.{wordOf, payload28, coefficientWords}
+use Rattle.plan_writer.specs.WritePlan.{payload28, coefficientWords}
 use Rattle.plan_writer.proofs.WrittenWords.{coefficient-signed, no-coefficients, more-coefficients}
 use Rattle.plan_writer.proofs.write_coefficients.Statement.{statement}
 use Rattle.plan_writer.proofs.write_coefficients.Tie as tie
+use Rattle.number.specs.KindWords.{wordOf}
 
 abbrev Inv-loop : tie.InvT-loop
 Inv-loop words₀ place pass order j₀ words j = (j ≤ pass .order) × (words ≡ sets words₀ place (coefficientWords pass j))

@@ -9,10 +9,11 @@ use mir.ValLaws.{toZ-ofZ}
 use borrow.Author.Needs.{needs}
 use Rattle.plan.specs.Rules.{inSigned28}
 use Rattle.plan.proofs.Record.{pass-rules}
-use Rattle.plan_writer.specs.WritePlan.{wordOf, payload28}
+use Rattle.plan_writer.specs.WritePlan.{payload28}
 use Rattle.plan_writer.proofs.WrittenWords.{coefficients-kept, pass-parts}
 use Rattle.plan_writer.proofs.write_pass.Statement.{statement}
 use Rattle.plan_writer.proofs.write_pass.Tie as tie
+use Rattle.number.specs.KindWords.{wordOf}
 
 -- the gain is what the machine reads back of it
 back : (c : tie.Start) → toZ w64 (ofZ w64 (c .args .pass .gain)) ≡ c .args .pass .gain

@@ -22,6 +22,9 @@ write-word-requires-2 c κs = search needs
 write-passes-requires : tie.Need-write-passes-requires
 write-passes-requires c κs = search needs
 
+word-of-requires : tie.Need-word-of-requires
+word-of-requires c κs = search needs
+
 write-word-requires-3 : tie.Need-write-word-requires-3
 write-word-requires-3 c κs = search needs
 
@@ -30,13 +33,14 @@ same-length c = search needs
 
 returns : tie.Need-returns
 returns c =
-    let passed = c .before .before .before .before .before .before in
+    let ended = c .before .before in
+    let passed = ended .before .before .before .before .before in
     let blocked = passed .before .before .before .before in
     let sized = blocked .before .before .before .before .before in
     let s = sized .before .before .before .before in
     plan-parts (s .args .words .now) (s .args .plan) (sized .before .size-word .ensures) (blocked .before .block-word .ensures)
     (sized .write-word .ensures) (blocked .write-word2 .ensures) (passed .write-passes .ensures)
-    (c .before .before .write-word3 .ensures .1)
+    (rw (ended .before .word-of .ensures) at (ended .write-word3 .ensures .1))
 
 pub write-words-spec : {M : Type 1} → statement M
 write-words-spec =
@@ -47,6 +51,7 @@ write-words-spec =
     block-word-requires
     write-word-requires-2
     write-passes-requires
+    word-of-requires
     write-word-requires-3
     same-length
     returns)

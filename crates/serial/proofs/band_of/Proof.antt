@@ -1,24 +1,19 @@
 -- `band_of` is the block of the map's rows: a counted block starts inside the map.
 use native.Mathlib.Omega.{arith}
 use borrow.Author.Needs.{needs}
-use Rattle.grid.specs.Grid.{blockExtent}
 use Rattle.grid.proofs.Extents.{counted-start}
 use Rattle.serial.specs.Stages.{bandRows}
 use Rattle.serial.proofs.band_of.Statement.{statement}
 use Rattle.serial.proofs.band_of.Tie as tie
 
-mul-top : tie.Need-mul-top
-mul-top c = omega (arith, counted-start _ bandRows _ (c .pre))
+mul-t3 : tie.Need-mul-t3
+mul-t3 c = omega (arith, counted-start _ bandRows _ (c .pre))
 
-sub-lesser : tie.Need-sub-lesser
-sub-lesser c = omega (arith, counted-start _ bandRows _ (c .pre))
-
-lesser-requires : tie.Need-lesser-requires
-lesser-requires c κs = search needs
+counted-extent-requires : tie.Need-counted-extent-requires
+counted-extent-requires c κs = search needs
 
 returns : tie.Need-returns
-unfolding blockExtent
-returns c = rw (c .lesser .ensures)
+returns c = rw (c .counted-extent .ensures)
 
 pub band-of-spec : {M : Type 1} → statement M
-band-of-spec = tie.close (tie.spec mul-top sub-lesser lesser-requires returns)
+band-of-spec = tie.close (tie.spec mul-t3 counted-extent-requires returns)

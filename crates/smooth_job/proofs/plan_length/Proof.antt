@@ -25,13 +25,18 @@ loop-holds c = (omega arith, omega (arith, c .lesser .ensures), search-start _ _
 word-at-requires : tie.Need-word-at-requires Inv-loop μ-loop
 word-at-requires c κs = search needs
 
+kind-of-requires : tie.Need-kind-of-requires Inv-loop μ-loop
+kind-of-requires c κs = search needs
+
 add-result : tie.Need-add-result Inv-loop μ-loop
 add-result c = search needs
 
 returns : tie.Need-returns Inv-loop μ-loop
 returns c =
-    let l = c .before .before in
-    search-found _ _ _ (l .before .loop .inv .2) (l .loop-test .taken) _ (c .before .word-at .ensures) (c .if1 .taken)
+    let k = c .before in
+    let l = k .before .before in
+    search-found _ _ _ (l .before .loop .inv .2) (l .loop-test .taken) _ (k .before .word-at .ensures)
+    (rw (k .kind-of .ensures) at (c .if1 .taken))
 
 add-i : tie.Need-add-i Inv-loop μ-loop
 add-i c = search needs
@@ -41,10 +46,12 @@ loop-less c = search needs
 
 loop-again : tie.Need-loop-again Inv-loop μ-loop
 loop-again c =
-    let l = c .before .before in (
+    let k = c .before in
+    let l = k .before .before in (
       omega arith,
       l .before .loop .inv .1,
-      search-on _ _ _ (l .before .loop .inv .2) (l .loop-test .taken) _ (c .before .word-at .ensures) (c .if1 .left),
+      search-on _ _ _ (l .before .loop .inv .2) (l .loop-test .taken) _ (k .before .word-at .ensures)
+          (rw (k .kind-of .ensures) at (c .if1 .left)),
     )
 
 returns-2 : tie.Need-returns-2 Inv-loop μ-loop
@@ -61,6 +68,7 @@ plan-length-spec =
     lesser-requires
     loop-holds
     word-at-requires
+    kind-of-requires
     add-result
     returns
     add-i

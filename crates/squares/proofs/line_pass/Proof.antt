@@ -4,6 +4,7 @@ use native.Mathlib.Omega.{arith}
 use borrow.Author.Needs.{needs}
 use Rattle.squares.specs.LineBuffers.{filterAt}
 use Rattle.squares.proofs.Lines.{lines-fit, pass-some, pass-none}
+use Rattle.squares.proofs.LinePasses.{passes-in-axis}
 use Rattle.squares.proofs.LineRows.{rows-few}
 use Rattle.squares.proofs.line_pass.Statement.{statement}
 use Rattle.squares.proofs.line_pass.Tie as tie
@@ -20,14 +21,20 @@ mul-filter c = search needs
 array-copy-out-filter : tie.Need-array-copy-out-filter
 array-copy-out-filter c = search needs
 
-add-run-pass : tie.Need-add-run-pass
-add-run-pass c = search needs
+axis-passes-requires : tie.Need-axis-passes-requires
+axis-passes-requires c κs = search needs
+
+add-along-rows : tie.Need-add-along-rows
+add-along-rows c =
+    omega (arith, c .axis-passes .ensures, passes-in-axis (c .before .before .before .before .before .args .pass))
 
 run-pass-requires : tie.Need-run-pass-requires
 run-pass-requires c κs =
-    let r = c .before .before .before in
+    let p = c .before in
+    let r = p .before .before .before in
     let a = r .before .before in
-    let f = a .pre in (
+    let f = a .pre in
+    rw (p .axis-passes .ensures) (
       f .orders .order-limited (a .args .pass) (omega (arith, f .passes)),
       lines-fit _ (r .rows-before .result) (a .args .places) (a .args .pass) (omega arith)
           (rw (r .rows-before .ensures)
@@ -44,11 +51,12 @@ same-length c = search needs
 
 returns : tie.Need-returns
 returns c =
-    let p = c .before .before in
-    let r = p .before .before .before .before in
+    let d = c .before .before in
+    let p = d .before .before in
+    let r = p .before .before .before in
     let a = r .before .before .args in
     pass-some (filterAt (a .t3)) (a .places) (a .pass) (a .lines .now) (r .rows-before .ensures) (omega arith)
-    (p .run-pass .ensures)
+    (rw (p .axis-passes .ensures) at (d .run-pass .ensures))
 
 returns-2 : tie.Need-returns-2
 returns-2 c =
@@ -64,7 +72,8 @@ line-pass-spec =
     rows-before-requires
     mul-filter
     array-copy-out-filter
-    add-run-pass
+    axis-passes-requires
+    add-along-rows
     run-pass-requires
     same-length
     returns

@@ -1,23 +1,23 @@
 -- `square_from` has the rows of the columns passed so far.
 use mathlib.Core.Path.{_≡_, refl, _∙_}
-use mathlib.Core.List.{[]}
-use Prim.Native.Nat.{ℕ, _+_, _-_, _*_, _<_, _≤_}
+use Prim.Native.Nat.{ℕ, _+_, _-_, _<_, _≤_}
 use native.Mathlib.Omega.{arith}
 use borrow.Author.Needs.{needs}
-use lib.ListN.{getD, length, length-set}
+use lib.ListN.{length, length-set}
 use Rattle.plan.specs.Rules.{orderLimit}
 use Rattle.buffer.specs.Lists.{wordAt}
-use Rattle.squares.specs.LineBuffers.{rowWords}
+use Rattle.squares.specs.LineBuffers.{rowWords, squareAt}
 use Rattle.squares.proofs.Units.{square-next}
 use Rattle.squares.proofs.square_from.Statement.{statement}
 use Rattle.squares.proofs.square_from.Tie as tie
+use Rattle.number.specs.Numbers.{rowMajor}
 
 abbrev Inv-loop : tie.InvT-loop
 Inv-loop lines row from square₀ place₀ square place =
     (place ≤ orderLimit)
     × (length square ≡ orderLimit)
     × ((p j : ℕ) → p < place → j < orderLimit
-    → wordAt (getD square p []) j ≡ wordAt lines ((row + j) * rowWords + (from + p)))
+    → squareAt square p j ≡ wordAt lines (rowMajor rowWords (row + j) (from + p)))
 
 abbrev μ-loop : tie.MeasureT-loop
 μ-loop lines row from square₀ place₀ square place = orderLimit - place
@@ -49,7 +49,7 @@ loop-again c =
     let a = l .before .before .args in (
       omega arith,
       length-set (l .loop .square) _ _ ∙ l .loop .inv .1,
-      square-next (λ p j. wordAt (a .lines .now) ((a .row + j) * rowWords + (a .from + p))) (l .loop .place) (l .loop .square) _
+      square-next (λ p j. wordAt (a .lines .now) (rowMajor rowWords (a .row + j) (a .from + p))) (l .loop .place) (l .loop .square) _
           (omega (arith, l .loop .inv .1)) (λ j h. c .square-row .ensures j h) (l .loop .inv .2),
     )
 

@@ -1,6 +1,6 @@
 -- `square_row` has the words of the lines passed so far.
 use mathlib.Core.Path.{_≡_, refl, _∙_}
-use Prim.Native.Nat.{_+_, _-_, _*_, _≤_}
+use Prim.Native.Nat.{_+_, _-_, _≤_}
 use native.Mathlib.Omega.{arith}
 use borrow.Author.Needs.{needs}
 use lib.ListN.{length, length-set}
@@ -10,12 +10,13 @@ use Rattle.filter.proofs.Buffers.{HoldsBelow, holds-more}
 use Rattle.squares.specs.LineBuffers.{rowWords}
 use Rattle.squares.proofs.square_row.Statement.{statement}
 use Rattle.squares.proofs.square_row.Tie as tie
+use Rattle.number.specs.Numbers.{rowMajor}
 
 abbrev Inv-loop : tie.InvT-loop
 Inv-loop lines row column words₀ line₀ words line =
     (line ≤ orderLimit)
     × (length words ≡ orderLimit)
-    × HoldsBelow line (λ j. wordAt lines ((row + j) * rowWords + column)) words
+    × HoldsBelow line (λ j. wordAt lines (rowMajor rowWords (row + j) column)) words
 
 abbrev μ-loop : tie.MeasureT-loop
 μ-loop lines row column words₀ line₀ words line = orderLimit - line
@@ -56,7 +57,7 @@ loop-again c =
     let a = l .before .args in (
       omega arith,
       length-set (l .loop .words) _ _ ∙ l .loop .inv .1,
-      holds-more (l .loop .line) (λ j. wordAt (a .lines .now) ((a .row + j) * rowWords + a .column)) (l .loop .words) _
+      holds-more (l .loop .line) (λ j. wordAt (a .lines .now) (rowMajor rowWords (a .row + j) (a .column))) (l .loop .words) _
           (omega arith) refl
           (l .loop .inv .2),
     )

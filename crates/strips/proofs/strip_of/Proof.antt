@@ -17,17 +17,17 @@ mul-filter c = search needs
 element-copy-out-filter : tie.Need-element-copy-out-filter
 element-copy-out-filter c = search needs
 
+extent-requires : tie.Need-extent-requires
+extent-requires c κs = search needs
+
 along-requires : tie.Need-along-requires
 along-requires c κs = search needs
 
 along-requires-2 : tie.Need-along-requires-2
 along-requires-2 c κs = search needs
 
-along-requires-3 : tie.Need-along-requires-3
-along-requires-3 c κs = search needs
-
-across-requires : tie.Need-across-requires
-across-requires c κs = search needs
+lines-requires : tie.Need-lines-requires
+lines-requires c κs = search needs
 
 strip-with-requires : tie.Need-strip-with-requires
 strip-with-requires c κs = search needs
@@ -37,8 +37,8 @@ returns c =
     let l = c .before in
     let e = l .before .before .before in
     let s = e .before .before in
-    strip-of-is _ _ _ (s .before .block-shape .ensures) (s .strip-start .ensures) (e .along .ensures)
-    (l .before .before .along2 .ensures) (l .before .along3 .ensures) (l .across .ensures) (c .strip-with .ensures)
+    strip-of-is _ _ _ (s .before .block-shape .ensures) (s .strip-start .ensures) (e .extent .ensures)
+    (l .before .before .along .ensures) (l .before .along2 .ensures) (l .lines .ensures) (c .strip-with .ensures)
 
 pub strip-of-spec : {M : Type 1} → statement M
 strip-of-spec =
@@ -48,9 +48,9 @@ strip-of-spec =
     strip-start-requires
     mul-filter
     element-copy-out-filter
+    extent-requires
     along-requires
     along-requires-2
-    along-requires-3
-    across-requires
+    lines-requires
     strip-with-requires
     returns)

@@ -1,50 +1,32 @@
 -- Both extents are at most the side.
 use native.Mathlib.Omega.{arith}
-use mathlib.Core.Path.{ap₂, ap, _∙_}
+use mathlib.Core.Path.{ap}
 use Prim.Native.Nat.{_*_, _≤_}
 use native.Mathlib.Nat.{mul-le-mul}
-use Rattle.grid.specs.Grid.{blockHeight, blockWidth, blockArea}
+use Rattle.grid.specs.Grid.{blockArea}
+use Rattle.grid.specs.Shapes.{shapeOf}
 use Rattle.grid.proofs.Extents.{extent-in-side}
 use Rattle.grid.proofs.Blocks.{ranges}
 use borrow.Author.Needs.{needs}
 use Rattle.grid.proofs.Grid.block_area.Statement.{statement}
 use Rattle.grid.proofs.Grid.block_area.Tie as tie
 
-block-row-requires : tie.Need-block-row-requires
-block-row-requires c κs = search needs
-
-block-height-requires : tie.Need-block-height-requires
-block-height-requires c κs = search needs
-
-block-column-requires : tie.Need-block-column-requires
-block-column-requires c κs = search needs
-
-block-width-requires : tie.Need-block-width-requires
-block-width-requires c κs = search needs
+block-shape-requires : tie.Need-block-shape-requires
+block-shape-requires c κs = search needs
 
 mul-result : tie.Need-mul-result
+unfolding shapeOf
 mul-result c =
-    let s = c .before .before .before .before in
-    let known = ranges (s .args .self) (s .pre) in
-    let side = s .args .self .side in
-    let tall : c .before .before .block-height .result ≤ side = rw (c .before .before .block-height .ensures) (extent-in-side _ side _) in
-    let wide : c .block-width .result ≤ side = rw (c .block-width .ensures) (extent-in-side _ side _) in
+    let s = c .before .before in
+    let self = s .args .self in
+    let known = ranges self (s .pre .kept) in
+    let tall : c .before .block-shape .result .rows ≤ self .side = rw (c .before .block-shape .ensures) (extent-in-side _ (self .side) _) in
+    let wide : c .before .block-shape .result .columns ≤ self .side = rw (c .before .block-shape .ensures) (extent-in-side _ (self .side) _) in
     omega (arith, mul-le-mul tall wide, mul-le-mul (known .side-high) (known .side-high))
 
 returns : tie.Need-returns
-unfolding blockArea
-returns c =
-    let self = c .before .before .before .before .args .self in
-    ap₂ _*_ (c .before .before .block-height .ensures ∙ ap (blockHeight self) (c .before .before .before .block-row .ensures))
-    (c .block-width .ensures ∙ ap (blockWidth self) (c .before .block-column .ensures))
+unfolding blockArea shapeOf
+returns c = ap (λ shape. shape .rows * shape .columns) (c .before .block-shape .ensures)
 
 pub block-area-spec : {M : Type 1} → statement M
-block-area-spec =
-    tie.close
-    (tie.spec
-    block-row-requires
-    block-height-requires
-    block-column-requires
-    block-width-requires
-    mul-result
-    returns)
+block-area-spec = tie.close (tie.spec block-shape-requires mul-result returns)

@@ -1,9 +1,8 @@
 -- `goes_on` is the test of a block after, by direction.
-use native.Mathlib.Omega.{arith}
 use mathlib.Core.Path.{sym, _∙_}
 use Rattle.axis.specs.Axis.{forward, backward}
 use Rattle.axis.proofs.Passes.{runs-forward, runs-backward}
-use Rattle.grid.proofs.Shapes.{LineFits, line-fits, goes-on}
+use Rattle.grid.proofs.Shapes.{goes-on}
 use borrow.Author.Needs.{needs}
 use Rattle.grid.proofs.Grid.goes_on.Statement.{statement}
 use Rattle.grid.proofs.Grid.goes_on.Tie as tie
@@ -14,15 +13,6 @@ block-line-requires c κs = search needs
 is-backward-requires : tie.Need-is-backward-requires
 is-backward-requires c κs = search needs
 
--- The bounds of the line of blocks.
-fits : (c : tie.After-block-line) → LineFits (c .before .args .k) (c .block-line .result)
-fits c =
-    rw (c .block-line .ensures)
-    (line-fits (c .before .args .self) (c .before .args .k) (c .before .args .pass) (c .before .pre .kept) (c .before .pre .inside))
-
-add-result : tie.Need-add-result
-add-result c = let f = fits (c .before .before .before) in omega (arith, f .counted, f .count-high)
-
 returns : tie.Need-returns
 returns c =
     let turned = c .before .before in
@@ -31,10 +21,10 @@ returns c =
 
 returns-2 : tie.Need-returns-2
 returns-2 c =
-    let turned = c .before .before .before in
+    let turned = c .before in
     let line = turned .before in
-    goes-on _ _ _ _ (line .block-line .ensures) forward (runs-forward _ (sym (turned .is-backward .ensures) ∙ c .before .before .if1 .left))
+    goes-on _ _ _ _ (line .block-line .ensures) forward (runs-forward _ (sym (turned .is-backward .ensures) ∙ c .if1 .left))
 
 pub goes-on-spec : {M : Type 1} → statement M
 goes-on-spec =
-    tie.close (tie.spec block-line-requires is-backward-requires add-result returns returns-2)
+    tie.close (tie.spec block-line-requires is-backward-requires returns returns-2)

@@ -21,28 +21,25 @@ fits c =
     rw (c .block-line .ensures)
     (line-fits (c .before .args .self) (c .before .args .k) (c .before .args .pass) (c .before .pre .kept) (c .before .pre .inside))
 
-add-if2 : tie.Need-add-if2
-add-if2 c = let f = fits (c .before .before .before) in omega (arith, f .counted, f .count-high)
+add-t9 : tie.Need-add-t9
+add-t9 c = let f = fits (c .before .before .before .before) in omega (arith, f .step-high, f .number-high)
 
-add-t10 : tie.Need-add-t10
-add-t10 c = let f = fits (c .before .before .before .before .before .before) in omega (arith, f .step-high, f .number-high)
-
-sub-t13 : tie.Need-sub-t13
-sub-t13 c = fits (c .before .before .before .before .before) .step-below (c .before .if3 .taken)
+sub-t12 : tie.Need-sub-t12
+sub-t12 c = fits (c .before .before .before .before .before) .step-below (c .before .if3 .taken)
 
 returns : tie.Need-returns
 returns c =
-    let turned = c .before .before .before .before .before in
+    let turned = c .before .before .before in
     found-before _ _ _ _ (turned .before .block-line .ensures) backward
-    (runs-backward _ (sym (turned .is-backward .ensures) ∙ c .before .before .before .before .if1 .taken))
-    (lt-ltb _ _ (c .before .if2 .taken))
+    (runs-backward _ (sym (turned .is-backward .ensures) ∙ c .before .before .if1 .taken))
+    (c .before .if2 .taken)
 
 returns-2 : tie.Need-returns-2
 returns-2 c =
-    let turned = c .before .before .before .before in
+    let turned = c .before .before in
     none-before _ _ _ _ (turned .before .block-line .ensures) backward
-    (runs-backward _ (sym (turned .is-backward .ensures) ∙ c .before .before .before .if1 .taken))
-    (le-ltb _ _ (c .if2 .left))
+    (runs-backward _ (sym (turned .is-backward .ensures) ∙ c .before .if1 .taken))
+    (c .if2 .left)
 
 returns-3 : tie.Need-returns-3
 returns-3 c =
@@ -64,9 +61,8 @@ neighbour-spec =
     (tie.spec
     block-line-requires
     is-backward-requires
-    add-if2
-    add-t10
-    sub-t13
+    add-t9
+    sub-t12
     returns
     returns-2
     returns-3

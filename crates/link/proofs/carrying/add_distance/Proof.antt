@@ -1,8 +1,7 @@
 -- `add_distance` adds the words of one place of a strip, which are 0 outside the block.
-use Prim.Native.Nat.{ℕ, _+_, _*_, _^_, _<_}
+use Prim.Native.Nat.{ℕ, _^_, _<_}
 use native.Mathlib.Omega.{arith}
 use borrow.Author.Needs.{needs}
-use lib.ListN.{length}
 use Rattle.buffer.specs.Lists.{wordAt}
 use Rattle.link.proofs.carrying.Multiples.{distance-some, distance-none}
 use Rattle.link.proofs.lines.EdgeReads.{lines-few, words-fit, first-word}
@@ -13,17 +12,8 @@ use Rattle.link.proofs.carrying.add_distance.Tie as tie
 abbrev start : tie.After-lines-inside → tie.Start
 start c = c .before .before .before
 
-abbrev counted : tie.After-struct-known2 → tie.After-lines-inside
-counted c = c .before .before .before .before
-
--- The first word of the place is in the strips.
-first : (c : tie.Then1)
-    → let a = start (c .before) .args in
-    a .strip .start + a .place * a .strip .«place_step» < length (a .strips .now)
-first c =
-    let a = start (c .before) in
-    first-word (a .args .strip) (a .args .place) (a .args .course .lines) (a .pre .strip-fits)
-    (omega (arith, c .before .lines-inside .ensures))
+abbrev counted : tie.After-first-at → tie.After-lines-inside
+counted c = c .before .before .before
 
 -- The responses are words.
 small : (c : tie.After-lines-inside) (z : ℕ) → wordAt (start c .args .responses .now) z < 2 ^ 64
@@ -32,11 +22,15 @@ small c z = omega (arith, c .before .before .slice-known .given z)
 lines-inside-requires : tie.Need-lines-inside-requires
 lines-inside-requires c κs = search needs
 
-mul-add-multiples : tie.Need-mul-add-multiples
-mul-add-multiples c = let h = first (c .before .before) in omega arith
-
-add-add-multiples : tie.Need-add-add-multiples
-add-add-multiples c = let h = first (c .before .before .before) in omega arith
+first-at-requires : tie.Need-first-at-requires
+first-at-requires c κs =
+    let n = c .before .before in
+    let a = start n in
+    omega (
+      arith,
+      first-word (a .args .strip) (a .args .place) (a .args .course .lines) (a .pre .strip-fits)
+          (omega (arith, n .lines-inside .ensures)),
+    )
 
 add-multiples-requires : tie.Need-add-multiples-requires
 add-multiples-requires c κs =
@@ -56,7 +50,7 @@ add-multiples-requires c κs =
                 );
             responses-long = a .pre .responses-long;
             words-fit =
-                rw (n .lines-inside .ensures)
+                rw (c .first-at .ensures, n .lines-inside .ensures)
                 (words-fit (a .args .strip) (a .args .place) (a .args .course .lines) (a .pre .strip-fits));
           };
     }
@@ -67,11 +61,12 @@ same-length c = search needs
 returns : tie.Need-returns
 returns c =
     let p = c .before .before in
-    let n = counted (p .before) in
+    let f = p .before in
+    let n = counted f in
     let a = start n in
     distance-some (a .args .gain) (a .args .strip) (a .args .place) (a .args .course .lines) (a .args .course .order)
     (a .args .strips .now) _ (a .args .responses .now) (small n) (a .pre .course-fits .order-limited) (n .lines-inside .ensures)
-    (p .add-multiples .ensures)
+    (rw (f .first-at .ensures) at (p .add-multiples .ensures))
 
 returns-2 : tie.Need-returns-2
 returns-2 c =
@@ -85,8 +80,7 @@ add-distance-spec =
     tie.close
     (tie.spec
     lines-inside-requires
-    mul-add-multiples
-    add-add-multiples
+    first-at-requires
     add-multiples-requires
     same-length
     returns

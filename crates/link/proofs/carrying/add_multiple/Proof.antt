@@ -21,8 +21,11 @@ abbrev μ-loop : tie.MeasureT-loop
 abbrev start : tie.At-loop Inv-loop μ-loop → tie.Start Inv-loop μ-loop
 start c = c .before .before .before
 
-abbrev turn : tie.After-mul Inv-loop μ-loop → tie.At-loop Inv-loop μ-loop
-turn c = c .before .before .before
+abbrev placed : tie.After-mul Inv-loop μ-loop → tie.After-response-place Inv-loop μ-loop
+placed c = c .before .before
+
+abbrev turn : tie.After-response-place Inv-loop μ-loop → tie.At-loop Inv-loop μ-loop
+turn c = c .before .before
 
 -- The word of this turn is in the strips.
 here : (c : tie.In-loop Inv-loop μ-loop)
@@ -33,26 +36,20 @@ here c = start (c .before) .pre .1 .words-fit .inside (c .before .loop .line) (o
 loop-holds : tie.Need-loop-holds Inv-loop μ-loop
 loop-holds c = record { counted = omega arith; length-kept = refl; as-made = multiple-none _ _ _ _ _ _ }
 
-add-to : tie.Need-add-to Inv-loop μ-loop
-add-to c = search needs
-
-mul-to : tie.Need-mul-to Inv-loop μ-loop
-mul-to c = search needs
-
-add-to-2 : tie.Need-add-to-2 Inv-loop μ-loop
-add-to-2 c = search needs
+response-place-requires : tie.Need-response-place-requires Inv-loop μ-loop
+response-place-requires c κs = search needs
 
 mul-mul : tie.Need-mul-mul Inv-loop μ-loop
-mul-mul c = let h = here c in omega arith
+mul-mul c = let h = here (c .before) in omega arith
 
 add-mul : tie.Need-add-mul Inv-loop μ-loop
-add-mul c = let h = here c in omega arith
+add-mul c = let h = here (c .before) in omega arith
 
 mul-mul-2 : tie.Need-mul-mul-2 Inv-loop μ-loop
-mul-mul-2 c = let h = here c in search needs
+mul-mul-2 c = let h = here (c .before) in search needs
 
 shared-slice-read-mul : tie.Need-shared-slice-read-mul Inv-loop μ-loop
-shared-slice-read-mul c = let h = here (c .before) in omega arith
+shared-slice-read-mul c = let h = here (c .before .before) in omega arith
 
 mul-requires : tie.Need-mul-requires Inv-loop μ-loop
 mul-requires c κs = search needs
@@ -81,14 +78,15 @@ loop-less c = search needs
 loop-again : tie.Need-loop-again Inv-loop μ-loop
 loop-again c =
     let m = c .before .before in
-    let l = turn m in
+    let p = placed m in
+    let l = turn p in
     let a = start l .args in
     record {
       counted = omega arith;
       length-kept = length-set (l .loop .responses) _ _ ∙ l .loop .inv .length-kept;
       as-made =
           multiple-next (a .place) (a .strips .now) (a .at) (a .step) (a .weight) (l .loop .line) (a .responses .now)
-          (l .loop .inv .as-made) (m .mul .ensures) (c .add .ensures);
+          (l .loop .inv .as-made) (p .response-place .ensures) (m .mul .ensures) (c .add .ensures);
     }
 
 same-length : tie.Need-same-length Inv-loop μ-loop
@@ -107,9 +105,7 @@ add-multiple-spec =
     Inv-loop
     μ-loop
     loop-holds
-    add-to
-    mul-to
-    add-to-2
+    response-place-requires
     mul-mul
     add-mul
     mul-mul-2

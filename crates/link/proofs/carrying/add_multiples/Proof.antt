@@ -50,7 +50,7 @@ add-multiple-requires c κs =
       omega arith,
       record {
         few-lines = words .few-lines;
-        responses-long = omega (arith, l .loop .inv .1 .length-kept, words .responses-long);
+        responses-long = omega (arith, l .loop .inv .1 .added .length-kept, words .responses-long);
         words-fit = words .words-fit;
       },
     )

@@ -3,11 +3,11 @@ use Prim.Native.Nat.{_-_, _≤_}
 use native.Mathlib.Omega.{arith}
 use borrow.Author.Needs.{needs}
 use Rattle.squares.specs.LineBuffers.{filterAt}
-use Rattle.link.specs.Courses.{scaledEdges}
 use Rattle.link.specs.Crossing.{Held}
 use Rattle.link.proofs.carrying.Histories.{carriedTo, carry-none, carry-next, carry-all}
 use Rattle.link.proofs.carrying.carry.Statement.{statement}
 use Rattle.link.proofs.carrying.carry.Tie as tie
+use Rattle.task_words.specs.ScaledEdges.{scaledEdges}
 
 abbrev Inv-loop : tie.InvT-loop
 Inv-loop responses₀ lines strips plan k course filters done₀ responses done =

@@ -4,11 +4,11 @@ use Prim.Native.Nat.{_+_, _-_, _≤_}
 use native.Mathlib.Omega.{arith}
 use borrow.Author.Needs.{needs}
 use Rattle.squares.specs.LineBuffers.{filterAt}
-use Rattle.link.specs.Courses.{scaledEdges}
 use Rattle.link.specs.Lines.{LinesFilled}
 use Rattle.link.proofs.lines.Filling.{filled-none, filled-more}
 use Rattle.link.proofs.lines.fill_lines.Statement.{statement}
 use Rattle.link.proofs.lines.fill_lines.Tie as tie
+use Rattle.task_words.specs.ScaledEdges.{scaledEdges}
 
 abbrev Inv-loop : tie.InvT-loop
 Inv-loop lines₀ strips plan k course filters count filled₀ lines filled =

@@ -2,11 +2,11 @@
 use native.Mathlib.Omega.{arith}
 use borrow.Author.Needs.{needs}
 use Rattle.squares.specs.LineBuffers.{filterAt}
-use Rattle.link.specs.Courses.{scaledEdges}
 use Rattle.link.proofs.Courses.{link-orders}
 use Rattle.link.proofs.lines.Filling.{lines-ready}
 use Rattle.link.proofs.lines.link_lines.Statement.{statement}
 use Rattle.link.proofs.lines.link_lines.Tie as tie
+use Rattle.task_words.specs.ScaledEdges.{scaledEdges}
 
 -- The stations, each from a later one.
 abbrev start : tie.After-fill-lines → tie.Start

@@ -21,8 +21,11 @@ abbrev μ-loop : tie.MeasureT-loop
 abbrev start : tie.At-loop Inv-loop μ-loop → tie.Start Inv-loop μ-loop
 start c = c .before .before .before
 
+abbrev placed : tie.After-slice-known2 Inv-loop μ-loop → tie.After-response-place Inv-loop μ-loop
+placed c = c .before .before
+
 abbrev turn : tie.After-slice-known2 Inv-loop μ-loop → tie.In-loop Inv-loop μ-loop
-turn c = c .before .before
+turn c = placed c .before
 
 -- The word of this turn is in the strips.
 here : (c : tie.In-loop Inv-loop μ-loop)
@@ -39,23 +42,17 @@ mul-to c = let h = here c in search needs
 add-to : tie.Need-add-to Inv-loop μ-loop
 add-to c = let h = here c in search needs
 
-add-response : tie.Need-add-response Inv-loop μ-loop
-add-response c = search needs
+response-place-requires : tie.Need-response-place-requires Inv-loop μ-loop
+response-place-requires c κs = search needs
 
 mul-response : tie.Need-mul-response Inv-loop μ-loop
 mul-response c = search needs
-
-add-response-2 : tie.Need-add-response-2 Inv-loop μ-loop
-add-response-2 c = search needs
-
-mul-response-2 : tie.Need-mul-response-2 Inv-loop μ-loop
-mul-response-2 c = search needs
 
 shared-slice-read-response : tie.Need-shared-slice-read-response Inv-loop μ-loop
 shared-slice-read-response c = search needs
 
 mul-add : tie.Need-mul-add Inv-loop μ-loop
-mul-add c = let h = here (c .before) in search needs
+mul-add c = let h = here (c .before .before) in search needs
 
 slice-read-add : tie.Need-slice-read-add Inv-loop μ-loop
 slice-read-add c = let h = here (turn c) in search needs
@@ -77,6 +74,7 @@ loop-less c = search needs
 
 loop-again : tie.Need-loop-again Inv-loop μ-loop
 loop-again c =
+    let p = placed (c .before) in
     let l = turn (c .before) .before in
     let a = start l in
     record {
@@ -84,7 +82,7 @@ loop-again c =
       length-kept = length-set (l .loop .strips) _ _ ∙ l .loop .inv .length-kept;
       as-made =
           responses-next (a .args .at) (a .args .step) (a .args .responses .now) (a .args .place) (l .loop .line)
-          (a .args .strips .now) (a .pre .some-step) (l .loop .inv .as-made) (c .add .ensures);
+          (a .args .strips .now) (a .pre .some-step) (l .loop .inv .as-made) (p .response-place .ensures) (c .add .ensures);
     }
 
 same-length : tie.Need-same-length Inv-loop μ-loop
@@ -105,10 +103,8 @@ add-responses-spec =
     loop-holds
     mul-to
     add-to
-    add-response
+    response-place-requires
     mul-response
-    add-response-2
-    mul-response-2
     shared-slice-read-response
     mul-add
     slice-read-add

@@ -9,28 +9,29 @@ use Rattle.link.proofs.writing.write_place.Statement.{statement}
 use Rattle.link.proofs.writing.write_place.Tie as tie
 
 -- The stations, each from a later one.
-abbrev start : tie.After-struct-known → tie.Start
+abbrev start : tie.After-first-at → tie.Start
 start c = c .before .before .before
 
 abbrev counted : tie.After-add-responses → tie.After-lines-inside
 counted c = c .before .before
 
 abbrev begun : tie.After-lines-inside → tie.Start
-begun c = start (c .before .before)
+begun c = start (c .before)
 
 abbrev added : tie.After-slice-known2 → tie.After-add-responses
 added c = c .before .before
 
-abbrev tested : tie.After-struct-known3 → tie.Then1
+abbrev tested : tie.After-struct-known → tie.Then1
 tested c = c .before .before
 
 -- The word of a line is in the strips.
-there : (c : tie.Start) (line : ℕ) → line < c .args .side
-    → c .args .strip .start + c .args .place * c .args .strip .«place_step» + line * c .args .strip .«line_step»
-    < length (c .args .strips .now)
+there : (c : tie.After-lines-inside) (line : ℕ) → line < begun c .args .side
+    → c .before .first-at .result + line * begun c .args .strip .«line_step» < length (begun c .args .strips .now)
 there c line h =
-    let a = c .args in
-    word-inside (a .strip) (a .side) (a .place) (a .responses .now) (a .strips .now) (c .pre) line h
+    let s = begun c in
+    let a = s .args in
+    word-inside (a .strip) (a .side) (a .place) (a .responses .now) (a .strips .now) (s .pre) (c .before .first-at .ensures)
+    line h
 
 -- The lines of the place are in the strip.
 few : (c : tie.After-lines-inside) → c .lines-inside .result ≤ begun c .args .side
@@ -38,11 +39,10 @@ few c =
     let a = begun c .args in
     omega (arith, c .lines-inside .ensures, lines-few (a .strip) (a .place) (a .side))
 
-mul-at : tie.Need-mul-at
-mul-at c = let a = start c in let h = there a 0 (a .pre .some-lines) in omega arith
-
-add-at : tie.Need-add-at
-add-at c = let a = start (c .before) in let h = there a 0 (a .pre .some-lines) in omega arith
+first-at-requires : tie.Need-first-at-requires
+first-at-requires c κs =
+    let pre = c .before .before .pre in
+    omega (arith, pre .inside 0 (c .before .before .args .place) (pre .some-lines) (omega arith))
 
 lines-inside-requires : tie.Need-lines-inside-requires
 lines-inside-requires c κs = search needs
@@ -58,7 +58,7 @@ add-responses-requires c κs =
           record {
             few-lines = omega (arith, few n, a .pre .few-lines);
             responses-long = a .pre .responses-long;
-            words-fit = record { inside = λ line h. there a line (omega (arith, few n)) };
+            words-fit = record { inside = λ line h. there n line (omega (arith, few n)) };
           };
     }
 
@@ -66,14 +66,14 @@ mul-clear-words : tie.Need-mul-clear-words
 mul-clear-words c =
     let t = tested c in
     let n = counted (added (t .before)) in
-    let h = there (begun n) (n .lines-inside .result) (omega arith) in
+    let h = there n (n .lines-inside .result) (omega arith) in
     omega arith
 
 add-clear-words : tie.Need-add-clear-words
 add-clear-words c =
     let t = tested c in
     let n = counted (added (t .before)) in
-    let h = there (begun n) (n .lines-inside .result) (omega arith) in
+    let h = there n (n .lines-inside .result) (omega arith) in
     omega arith
 
 sub-clear-words : tie.Need-sub-clear-words
@@ -85,7 +85,7 @@ clear-words-requires c κs =
     let n = counted r in
     record {
       inside = λ line h.
-          omega (arith, there (begun n) (n .lines-inside .result + line) (omega (arith, few n)), r .add-responses .kept);
+          omega (arith, there n (n .lines-inside .result + line) (omega (arith, few n)), r .add-responses .kept);
     }
 
 same-length : tie.Need-same-length
@@ -98,7 +98,7 @@ returns c =
     let n = counted r in
     let a = begun n in
     place-written (a .args .strip) (a .args .side) (a .args .place) (a .args .responses .now) (a .args .strips .now) (a .pre)
-    (n .lines-inside .ensures) (r .add-responses .ensures) (w .clear-words .ensures)
+    (n .before .first-at .ensures) (n .lines-inside .ensures) (r .add-responses .ensures) (w .clear-words .ensures)
 
 same-length-2 : tie.Need-same-length-2
 same-length-2 c = search needs
@@ -109,14 +109,13 @@ returns-2 c =
     let n = counted r in
     let a = begun n in
     place-full (a .args .strip) (a .args .side) (a .args .place) (a .args .responses .now) (a .args .strips .now) (a .pre)
-    (n .lines-inside .ensures) (omega arith) (r .add-responses .ensures)
+    (n .before .first-at .ensures) (n .lines-inside .ensures) (omega arith) (r .add-responses .ensures)
 
 pub write-place-spec : {M : Type 1} → statement M
 write-place-spec =
     tie.close
     (tie.spec
-    mul-at
-    add-at
+    first-at-requires
     lines-inside-requires
     add-responses-requires
     mul-clear-words

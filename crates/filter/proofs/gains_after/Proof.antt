@@ -4,10 +4,10 @@ use Prim.Native.Nat.{_-_}
 use native.Mathlib.Numerals.{add-one}
 use borrow.Author.Needs.{needs}
 use Rattle.passes.specs.Gains.{gainsFrom}
 use Rattle.filter.specs.PlanFilters.{filtersOf}
-use Rattle.link.specs.Courses.{gainsAfter}
-use Rattle.link.proofs.gains_after.Statement.{statement}
-use Rattle.link.proofs.gains_after.Tie as tie
+use Rattle.filter.specs.FilterWords.{gainsAfter}
+use Rattle.filter.proofs.gains_after.Statement.{statement}
+use Rattle.filter.proofs.gains_after.Tie as tie
 
 add-gains-from : tie.Need-add-gains-from
 add-gains-from c = search needs
