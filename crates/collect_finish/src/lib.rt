@@ -298,11 +298,12 @@ fn write_strip(
     ensures { λ _. ⌜ now (strips .exit) ≡ stripWritten plan k pass (workEdge plan k pass gain (now (work .entry))) (now (strips .entry)) ⌝ }
 {
     let grid = plan.grid;
+    let needed = grid.goes_on(grid.position(k), pass);
     let side = grid.side;
     let described = plan.passes[pass];
     let order = described.order;
     let start = strips::strip_start(plan, k, pass);
-    if !grid.goes_on(k, pass) {
+    if !needed {
         buffer::clear_words(strips, start, 1, side * order);
         return;
     }

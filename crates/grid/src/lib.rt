@@ -3,8 +3,9 @@
 ghost use mathlib.Core.Path.{_≡_};
 ghost use Prim.Native.Nat.{_<_};
 ghost use mathlib.Core.Bool.{true};
-ghost use Rattle.grid.specs.Grid.{blockCount, blockExtent, gridKept, blockRows, blockColumns, blockTotal, blockRow, blockColumn, blockHeight, blockWidth, blockArea, neighbour, goesOn};
-ghost use Rattle.grid.specs.Shapes.{InGrid, shapeOf, shapeExtent, shapeLines, lineOfBlocks, foundNeighbour};
+ghost use Rattle.axis.specs.Axis.{directionOf};
+ghost use Rattle.grid.specs.Grid.{blockCount, blockExtent, gridKept, blockRows, blockColumns, blockTotal, blockHeight, blockWidth, blockArea, lineCount, hasAfter, neighbour};
+ghost use Rattle.grid.specs.Shapes.{InGrid, InBlocks, positionOf, indexAlong, shapeOf, shapeExtent, shapeLines, lineOfBlocks, foundNeighbour};
 
 // The most rows and columns of a map, and the longest side of a block: `sizeLimit` and `sideLimit` of specs/Grid.antt are the same
 // numbers.
@@ -17,6 +18,12 @@ pub struct Grid {
     pub rows: usize,
     pub columns: usize,
     pub side: usize,
+}
+
+// Where a block stands among the blocks: its row and its column of blocks.
+pub struct Position {
+    pub row: usize,
+    pub column: usize,
 }
 
 // Where a block's first pixel stands in a row-major map, and the block's extent.
@@ -35,7 +42,7 @@ pub enum Neighbour {
 // A block among the blocks in line with it, along a pass: its number, whether another follows it in map order, and how far
 // apart their block numbers lie.
 struct BlockLine {
-    at: usize,
+    index: usize,
     followed: bool,
     step: usize,
 }
@@ -76,21 +83,17 @@ impl Grid {
         self.block_rows() * self.block_columns()
     }
 
-    // The row of blocks that block k stands in,
-    pub fn block_row(self, k: usize) -> usize
+    // Where block k stands among the blocks: one division gives both.
+    pub fn position(self, k: usize) -> Position
         requires { ⌜ gridKept self ≡ true ⌝ }
-        ensures { λ r. ⌜ r ≡ blockRow self k ⌝ }
-    {
-        k / self.block_columns()
-    }
-
-    // and its column of blocks: the rest of the same division.
-    pub fn block_column(self, k: usize) -> usize
-        requires { ⌜ gridKept self ≡ true ⌝ }
-        ensures { λ r. ⌜ r ≡ blockColumn self k ⌝ }
+        ensures { λ r. ⌜ r ≡ positionOf self k ⌝ }
     {
         let block_columns = self.block_columns();
-        k - k / block_columns * block_columns
+        let row = k / block_columns;
+        Position {
+            row: row,
+            column: k - row * block_columns,
+        }
     }
 
     // The rows of the blocks in a row of blocks: the last may have fewer than the side; there are none past it.
@@ -112,12 +115,11 @@ impl Grid {
         requires { ⌜ InGrid self k ⌝ }
         ensures { λ r. ⌜ r ≡ shapeOf self k ⌝ }
     {
-        let row = self.block_row(k);
-        let column = self.block_column(k);
+        let at = self.position(k);
         BlockShape {
-            start: row * self.side * self.columns + column * self.side,
-            rows: counted_extent(self.rows, self.side, row),
-            columns: counted_extent(self.columns, self.side, column),
+            start: at.row * self.side * self.columns + at.column * self.side,
+            rows: counted_extent(self.rows, self.side, at.row),
+            columns: counted_extent(self.columns, self.side, at.column),
         }
     }
 
@@ -131,15 +133,15 @@ impl Grid {
     }
 
     // A block follows where the map goes on: that takes no division, as the number of blocks would.
-    fn block_line(self, k: usize, pass: usize) -> BlockLine
-        requires { ⌜ InGrid self k ⌝ }
-        ensures { λ r. ⌜ r ≡ lineOfBlocks self k pass ⌝ }
+    fn block_line(self, at: Position, pass: usize) -> BlockLine
+        requires { ⌜ InBlocks self at ⌝ }
+        ensures { λ r. ⌜ r ≡ lineOfBlocks self at pass ⌝ }
     {
-        let at = axis::along(pass, self.block_row(k), self.block_column(k));
+        let index = axis::along(pass, at.row, at.column);
         let length = axis::along(pass, self.rows, self.columns);
         BlockLine {
-            at: at,
-            followed: (at + 1) * self.side < length,
+            index: index,
+            followed: (index + 1) * self.side < length,
             step: axis::along(pass, self.block_columns(), 1),
         }
     }
@@ -149,7 +151,7 @@ impl Grid {
         requires { ⌜ InGrid self k ⌝ }
         ensures { λ r. ⌜ r ≡ foundNeighbour (neighbour self k pass) ⌝ }
     {
-        let line = self.block_line(k, pass);
+        let line = self.block_line(self.position(k), pass);
         if axis::is_backward(pass) {
             if line.followed {
                 Neighbour::Block(k + line.step)
@@ -157,7 +159,7 @@ impl Grid {
                 Neighbour::Beyond
             }
         } else {
-            if 0 < line.at {
+            if 0 < line.index {
                 Neighbour::Block(k - line.step)
             } else {
                 Neighbour::Beyond
@@ -165,14 +167,14 @@ impl Grid {
         }
     }
 
-    // Whether a pass goes on from block k to another block, which then needs block k's strip of the pass.
-    pub fn goes_on(self, k: usize, pass: usize) -> bool
-        requires { ⌜ InGrid self k ⌝ }
-        ensures { λ r. ⌜ r ≡ goesOn self k pass ⌝ }
+    // Whether a pass goes on from a block to another, which then needs the block's strip of the pass.
+    pub fn goes_on(self, at: Position, pass: usize) -> bool
+        requires { ⌜ InBlocks self at ⌝ }
+        ensures { λ r. ⌜ r ≡ hasAfter (directionOf pass) (lineCount self pass) (indexAlong at pass) ⌝ }
     {
-        let line = self.block_line(k, pass);
+        let line = self.block_line(at, pass);
         if axis::is_backward(pass) {
-            0 < line.at
+            0 < line.index
         } else {
             line.followed
         }

@@ -1,8 +1,8 @@
 -- The steps of the serial passes. Assumes nothing.
-use mathlib.Core.Path.{_≡_, refl, ap, _∙_}
+use mathlib.Core.Path.{_≡_, ap, _∙_}
 use mathlib.Core.Bool.{true}
 use mathlib.Core.List.{List}
-use Prim.Native.Nat.{ℕ, zero, suc, _+_, _-_, _*_, _<_, _≤_}
+use Prim.Native.Nat.{ℕ, suc, _+_, _-_, _*_, _<_, _≤_}
 use native.Mathlib.Nat.{add-mul, mul-le-mul-right}
 use native.Mathlib.Numerals.{add-one}
 use native.Mathlib.Omega.{arith}
@@ -78,13 +78,6 @@ band-in-map plan n e counted =
     rw e (rows-in-map plan _ _ (extent-inside (plan .grid .rows) bandRows n counted))
 
 -- ---- passes over rows
-
--- A pass that is neither down nor up runs along rows.
-pub no-history-rows : (pass mapHeight top height : ℕ) → 2 ≤ pass
-    → historyRows (axisOf pass) (directionOf pass) mapHeight top height ≡ 0
-no-history-rows zero mapHeight top height h = absurd (omega arith)
-no-history-rows (suc zero) mapHeight top height h = absurd (omega arith)
-no-history-rows (suc (suc pass)) mapHeight top height h = refl
 
 module _ (plan : Plan) (kept : keepsRules plan ≡ true) (n top height : ℕ) (tall : 0 < height)
     (inside : top + height ≤ plan .grid .rows) (long : neededPixels plan ≤ n) where

@@ -105,13 +105,10 @@ fn history_rows(rows: usize, top: usize, height: usize, pass: usize) -> usize
     requires { ⌜ top + height ≤ rows ⌝ }
     ensures { λ r. ⌜ r ≡ historyRows (axisOf pass) (directionOf pass) rows top height ⌝ }
 {
-    if pass == 0 {
-        return top;
+    if axis::is_backward(pass) {
+        return axis::along(pass, rows - top - height, 0);
     }
-    if pass == 1 {
-        return rows - top - height;
-    }
-    0
+    axis::along(pass, top, 0)
 }
 
 // A pass of the plan over some rows of the map, with the rows that it has done before them for history.

@@ -9,7 +9,11 @@ use lib.Dec.{ltb, eqb}
 use borrow.Author.Tests.{lt-ltb, ltb-true, ltb-false, ne-eqb}
 use Rattle.number.proofs.Tests.{and-left, and-right}
 use Rattle.grid.specs.declared.Grid.{Grid}
-use Rattle.grid.specs.Grid.{blockRows, blockColumns, blockTotal, blockNumber, blockRow, blockColumn, neighbour, goesOn}
+use Rattle.grid.specs.Grid.{blockRows, blockColumns, blockTotal, blockNumber, blockRow, blockColumn, lineCount, hasAfter, neighbour}
+use Rattle.grid.specs.declared.Position.{Position}
+use Rattle.grid.specs.Shapes.{positionOf, indexAlong}
+use Rattle.grid.proofs.Shapes.{goes-on-at}
+use Rattle.axis.specs.Axis.{directionOf}
 use Rattle.grid.proofs.Blocks.{number-below, row-of-number, column-of-number}
 use Rattle.grid.proofs.Neighbours.{nextBlock, neighbour-below, neighbour-goes-on, next-below, next-neighbour}
 use Rattle.tasks.specs.Neighbours.{LinkExists}
@@ -59,20 +63,25 @@ module _ (grid : Grid) (t k : ℕ) (e : exists grid t k ≡ true) where
       by false q = absurd (true≢false (sym exists-has ∙ has-none grid t _ _ (ltb-false t 6 q)))
 
 -- The table of tasks by the geometry of blocks: a block has the link of a pass where the pass goes on from it.
+link-at : (grid : Grid) (at : Position) (pass : ℕ) → pass < 4
+    → hasTask grid (suc pass) (at .row) (at .column) ≡ hasAfter (directionOf pass) (lineCount grid pass) (indexAlong at pass)
+unfolding hasTask
+link-at grid at zero h = refl
+link-at grid at (suc zero) h = refl
+link-at grid at (suc (suc zero)) h = refl
+link-at grid at (suc (suc (suc zero))) h = refl
+link-at grid at (suc (suc (suc (suc pass)))) h = absurd (omega arith)
+
 pub link-exists : LinkExists
-unfolding hasTask goesOn
-link-exists grid k zero h = refl
-link-exists grid k (suc zero) h = refl
-link-exists grid k (suc (suc zero)) h = refl
-link-exists grid k (suc (suc (suc zero))) h = refl
-link-exists grid k (suc (suc (suc (suc pass)))) h = absurd (omega arith)
+unfolding positionOf
+link-exists grid k pass h = link-at grid (positionOf grid k) pass h ∙ goes-on-at grid k pass refl
 
 -- The same by the number of the task, as the code has it.
-pub link-has : (grid : Grid) (k t : ℕ) → 1 ≤ t → t ≤ 4
-    → goesOn grid k (t - 1) ≡ hasTask grid t (blockRow grid k) (blockColumn grid k)
-link-has grid k zero h l = absurd (omega arith)
-link-has grid k (suc pass) h l =
-    let e : suc pass - 1 ≡ pass = omega arith in rw e (sym (link-exists grid k pass (omega arith)))
+pub link-has : (grid : Grid) (at : Position) (t : ℕ) → 1 ≤ t → t ≤ 4
+    → hasAfter (directionOf (t - 1)) (lineCount grid (t - 1)) (indexAlong at (t - 1)) ≡ hasTask grid t (at .row) (at .column)
+link-has grid at zero h l = absurd (omega arith)
+link-has grid at (suc pass) h l =
+    let e : suc pass - 1 ≡ pass = omega arith in rw e (sym (link-at grid at pass (omega arith)))
 
 -- So a link exists exactly where a neighbour needs it: at the neighbour that a pass comes from,
 pub neighbour-linked : (grid : Grid) (k pass j : ℕ) → k < blockTotal grid → pass < 4 → neighbour grid k pass ≡ some j

@@ -2,6 +2,7 @@
 // An inner crate: what its functions require, their callers in this repository show.
 use grid::Grid;
 use grid::Neighbour;
+use grid::Position;
 use refusal::Outcome;
 use refusal::Refusal;
 ghost use mathlib.Core.Path.{_≡_};
@@ -11,8 +12,8 @@ ghost use lib.ListN.{length};
 ghost use Rattle.refusal.specs.Table.{firstDue, answerOf};
 ghost use Rattle.number.specs.Numbers.{allBelow};
 ghost use Rattle.buffer.specs.Lists.{wordAt};
-ghost use Rattle.grid.specs.Grid.{gridKept, blockRow, blockColumn};
-ghost use Rattle.grid.specs.Shapes.{InGrid};
+ghost use Rattle.grid.specs.Grid.{gridKept};
+ghost use Rattle.grid.specs.Shapes.{InGrid, InBlocks};
 ghost use Rattle.tasks.specs.Tasks.{hasTask, exists, needsOf, allDone, ready};
 ghost use Rattle.tasks.specs.Marks.{hasBit, isMarked, spareClear, markValid, withBit};
 ghost use Rattle.tasks.specs.Verdict.{brokenAt, leastBroken, verdictRows};
@@ -31,15 +32,15 @@ pub const UNMARKED: u32 = MARK_KIND * number::PAYLOAD_LIMIT;
 const PASSES: usize = 4;
 
 // A block of the map has a task: collect and finish always, a link where its pass goes on from the block.
-fn has_task(grid: Grid, task: usize, block: usize) -> bool
-    requires { ⌜ InGrid grid block ⌝ }
-    ensures { λ r. ⌜ r ≡ hasTask grid task (blockRow grid block) (blockColumn grid block) ⌝ }
+fn has_task(grid: Grid, task: usize, at: Position) -> bool
+    requires { ⌜ InBlocks grid at ⌝ }
+    ensures { λ r. ⌜ r ≡ hasTask grid task (at .row) (at .column) ⌝ }
 {
     if task == 0 {
         return true;
     }
     if task <= PASSES {
-        return grid.goes_on(block, task - 1);
+        return grid.goes_on(at, task - 1);
     }
     task == 5
 }
@@ -52,7 +53,7 @@ pub fn exists(grid: Grid, task: usize, block: usize) -> bool
     if grid.blocks() <= block {
         return false;
     }
-    has_task(grid, task, block)
+    has_task(grid, task, grid.position(block))
 }
 
 fn has_bit(mark: u32, task: usize) -> bool
@@ -81,17 +82,17 @@ pub fn mark_valid(grid: Grid, block: usize, mark: u32) -> bool
     if number::payload_of(mark) >= 64 {
         return false;
     }
-    spares_clear(grid, block, mark)
+    spares_clear(grid, grid.position(block), mark)
 }
 
 // Bits 0 to 5 of a mark are clear where the block has no such task.
-fn spares_clear(grid: Grid, block: usize, mark: u32) -> bool
-    requires { ⌜ InGrid grid block ⌝ }
-    ensures { λ r. ⌜ r ≡ allBelow (spareClear grid (blockRow grid block) (blockColumn grid block) mark) 6 ⌝ }
+fn spares_clear(grid: Grid, at: Position, mark: u32) -> bool
+    requires { ⌜ InBlocks grid at ⌝ }
+    ensures { λ r. ⌜ r ≡ allBelow (spareClear grid (at .row) (at .column) mark) 6 ⌝ }
 {
     let mut task = 0;
     while task < TASKS {
-        if !spare_clear(grid, block, mark, task) {
+        if !spare_clear(grid, at, mark, task) {
             return false;
         }
         task += 1;
@@ -99,11 +100,11 @@ fn spares_clear(grid: Grid, block: usize, mark: u32) -> bool
     true
 }
 
-fn spare_clear(grid: Grid, block: usize, mark: u32, task: usize) -> bool
-    requires { ⌜ InGrid grid block × (task < 6) ⌝ }
-    ensures { λ r. ⌜ r ≡ spareClear grid (blockRow grid block) (blockColumn grid block) mark task ⌝ }
+fn spare_clear(grid: Grid, at: Position, mark: u32, task: usize) -> bool
+    requires { ⌜ InBlocks grid at × (task < 6) ⌝ }
+    ensures { λ r. ⌜ r ≡ spareClear grid (at .row) (at .column) mark task ⌝ }
 {
-    if has_task(grid, task, block) {
+    if has_task(grid, task, at) {
         return true;
     }
     !has_bit(mark, task)

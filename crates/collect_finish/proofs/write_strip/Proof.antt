@@ -1,26 +1,29 @@
 -- `write_strip` writes the strip whole: the edge of the block times the gain, or zeros.
 use mathlib.Core.Path.{_≡_, ap, _∙_}
 use native.Mathlib.Omega.{arith}
+use native.Mathlib.Nat.{mul-le-mul}
 use borrow.Author.Needs.{needs}
 use Rattle.number.proofs.Tests.{failed, passed}
 use Rattle.axis.specs.Axis.{directionOf}
 use Rattle.plan.specs.Sizes.{orderOf}
-use Rattle.plan.proofs.Record.{in-grid}
+use Rattle.plan.proofs.Record.{rules, in-grid}
+use Rattle.grid.specs.Grid.{goesOn}
+use Rattle.grid.proofs.Shapes.{in-blocks, goes-on-at}
 use Rattle.buffer.proofs.Copies.{words-fit}
 use Rattle.strips.specs.StripRecord.{edgeStart}
 use Rattle.collect_finish.specs.Work.{edgeFirst}
-use Rattle.collect_finish.proofs.WorkPlaces.{edge-asked}
+use Rattle.collect_finish.proofs.WorkPlaces.{move-limited, edge-asked}
 use Rattle.collect_finish.proofs.WorkEdges.{edge-in-work, edge-fits, words-in-strips, strip-in-strips, cleared-strip, copied-strip}
 use Rattle.collect_finish.proofs.write_strip.Statement.{statement}
 use Rattle.collect_finish.proofs.write_strip.Tie as tie
 
 -- ---- stations
 
-abbrev start : tie.After-strip-start → tie.Start
+abbrev start : tie.After-goes-on → tie.Start
 start c = c .before .before .before .before .before
 
-abbrev at-strip : tie.After-goes-on → tie.After-strip-start
-at-strip c = c .before
+abbrev at-test : tie.After-strip-start → tie.After-goes-on
+at-test c = c .before .before
 
 -- Where no neighbour needs the strip,
 abbrev unneeded : tie.After-clear-words-arg → tie.Then1
@@ -44,13 +47,30 @@ at-place c = c .before .before
 
 -- Where the strip starts in the work array.
 edge-is : (c : tie.After-edge-start)
-    → let a = start (at-strip (needed (at-extent c) .before)) .args in
+    → let a = start (at-test (needed (at-extent c) .before)) .args in
     c .edge-start .result ≡ edgeFirst (a .t1) (a .shape) (a .pass)
 edge-is c =
-    let a = start (at-strip (needed (at-extent c) .before)) .args in
+    let a = start (at-test (needed (at-extent c) .before)) .args in
     c .edge-start .ensures ∙ ap (edgeStart (directionOf (a .pass)) (orderOf (a .t1) (a .pass))) (at-extent c .extent .ensures)
 
+-- Whether a neighbour needs it.
+goes-on-is : (c : tie.After-goes-on)
+    → let a = start c .args in
+    c .goes-on .result ≡ goesOn (a .t1 .grid) (a .k) (a .pass)
+goes-on-is c =
+    let a = start c .args in
+    c .goes-on .ensures ∙ goes-on-at (a .t1 .grid) (a .k) (a .pass) (c .before .position .ensures)
+
 -- ---- needs
+
+position-requires : tie.Need-position-requires
+position-requires c κs = let block = c .before .before .before .pre .placed .block in in-grid _ (block .kept) _ (block .counted) .kept
+
+goes-on-requires : tie.Need-goes-on-requires
+goes-on-requires c κs =
+    let block = c .before .before .before .before .pre .placed .block in
+    let inside = in-grid _ (block .kept) _ (block .counted) in
+    in-blocks _ _ (c .position .ensures) (inside .kept) (inside .inside)
 
 mul-described : tie.Need-mul-described
 mul-described c = search needs
@@ -61,16 +81,14 @@ element-copy-out-described c = search needs
 strip-start-requires : tie.Need-strip-start-requires
 strip-start-requires c κs = search needs
 
-goes-on-requires : tie.Need-goes-on-requires
-goes-on-requires c κs = let block = start c .pre .placed .block in in-grid _ (block .kept) _ (block .counted)
-
 mul-clear-words : tie.Need-mul-clear-words
 mul-clear-words c =
-    let b = at-strip (unneeded c .before) in omega (arith, words-in-strips (start b .pre) (b .strip-start .ensures))
+    let s = start (at-test (unneeded c .before)) in
+    omega (arith, mul-le-mul (rules (s .args .t1) (s .pre .placed .block .kept) .side-high) (move-limited (s .pre)))
 
 clear-words-requires : tie.Need-clear-words-requires
 clear-words-requires c κs =
-    let b = at-strip (unneeded c .before) in words-fit _ _ _ (words-in-strips (start b .pre) (b .strip-start .ensures))
+    let b = unneeded c .before in words-fit _ _ _ (words-in-strips (start (at-test b) .pre) (b .strip-start .ensures))
 
 same-length : tie.Need-same-length
 same-length c = search needs
@@ -79,16 +97,16 @@ returns : tie.Need-returns
 returns c =
     let d = c .before .before in
     let t = unneeded (d .before) in
-    let b = at-strip (t .before) in
-    let a = start b .args in
-    cleared-strip (start b .pre) (b .strip-start .ensures) (a .gain) (a .work .now) (a .strips .now)
-    (failed (t .before .goes-on .ensures) (t .if1 .taken)) (d .clear-words .ensures)
+    let b = t .before in
+    let a = start (at-test b) .args in
+    cleared-strip (start (at-test b) .pre) (b .strip-start .ensures) (a .gain) (a .work .now) (a .strips .now)
+    (failed (goes-on-is (at-test (t .before))) (t .if1 .taken)) (d .clear-words .ensures)
 
 extent-requires : tie.Need-extent-requires
 extent-requires c κs = search needs
 
 edge-start-requires : tie.Need-edge-start-requires
-edge-start-requires c κs = edge-asked (start (at-strip (needed c .before)) .pre) (c .extent .ensures)
+edge-start-requires c κs = edge-asked (start (at-test (needed c .before)) .pre) (c .extent .ensures)
 
 across-requires : tie.Need-across-requires
 across-requires c κs = search needs
@@ -96,7 +114,7 @@ across-requires c κs = search needs
 work-place-requires : tie.Need-work-place-requires
 work-place-requires c κs =
     let e = at-edge c in
-    omega (arith, edge-is e, edge-in-work (start (at-strip (needed (at-extent e) .before)) .pre))
+    omega (arith, edge-is e, edge-in-work (start (at-test (needed (at-extent e) .before)) .pre))
 
 along-requires : tie.Need-along-requires
 along-requires c κs = search needs
@@ -106,12 +124,12 @@ copy-rectangle-requires c κs =
     let p = at-place c in
     let x = at-width p in
     let e = at-edge x in
-    let b = at-strip (needed (at-extent e) .before) in
+    let b = needed (at-extent e) .before in
     let starts = b .strip-start .ensures in
     let place = p .work-place .ensures in
     let wide = x .across .ensures in (
-      edge-fits (start b .pre) starts (edge-is e) place (c .along .ensures) wide,
-      strip-in-strips (start b .pre) starts (edge-is e) place (c .along .ensures) wide,
+      edge-fits (start (at-test b) .pre) starts (edge-is e) place (c .along .ensures) wide,
+      strip-in-strips (start (at-test b) .pre) starts (edge-is e) place (c .along .ensures) wide,
     )
 
 same-length-2 : tie.Need-same-length-2
@@ -124,20 +142,21 @@ returns-2 c =
     let x = at-width p in
     let e = at-edge x in
     let t = needed (at-extent e) in
-    let b = at-strip (t .before) in
-    let a = start b .args in
-    copied-strip (start b .pre) (b .strip-start .ensures) (edge-is e) (p .work-place .ensures) (d .before .along .ensures)
-    (x .across .ensures) (a .gain) (a .work .now) (a .strips .now) (passed (t .before .goes-on .ensures) (t .if1 .left))
+    let b = t .before in
+    let a = start (at-test b) .args in
+    copied-strip (start (at-test b) .pre) (b .strip-start .ensures) (edge-is e) (p .work-place .ensures) (d .before .along .ensures)
+    (x .across .ensures) (a .gain) (a .work .now) (a .strips .now) (passed (goes-on-is (at-test (t .before))) (t .if1 .left))
     (d .copy-rectangle .ensures)
 
 pub write-strip-spec : {M : Type 1} → statement M
 write-strip-spec =
     tie.close
     (tie.spec
+    position-requires
+    goes-on-requires
     mul-described
     element-copy-out-described
     strip-start-requires
-    goes-on-requires
     mul-clear-words
     clear-words-requires
     same-length

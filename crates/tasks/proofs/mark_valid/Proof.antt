@@ -1,7 +1,11 @@
 -- The kind, bits 6 to 27, and bits 0 to 5, in turn.
+use mathlib.Core.Path.{ap, _∙_}
 use borrow.Author.Needs.{needs}
 use borrow.Author.Tests.{eq-eqb, le-ltb, lt-ltb, ne-eqb}
-use Rattle.tasks.specs.Marks.{markKind, markValid}
+use Rattle.number.specs.Numbers.{allBelow}
+use Rattle.grid.specs.Shapes.{positionOf}
+use Rattle.grid.proofs.Shapes.{in-blocks}
+use Rattle.tasks.specs.Marks.{markKind, spareClear, markValid}
 use Rattle.tasks.proofs.mark_valid.Statement.{statement}
 use Rattle.tasks.proofs.mark_valid.Tie as tie
 
@@ -24,21 +28,37 @@ returns-2 c =
       le-ltb _ 64 (rw (c .before .payload-of .ensures) at (c .if2 .taken)),
     )
 
+position-requires : tie.Need-position-requires
+position-requires c κs = search needs
+
+abbrev start : tie.After-position → tie.Start
+start c = c .before .before .before .before .before
+
 spares-clear-requires : tie.Need-spares-clear-requires
-spares-clear-requires c κs = search needs
+spares-clear-requires c κs =
+    let s = start c in in-blocks (s .args .grid) (s .args .block) (c .position .ensures) (s .pre .kept) (s .pre .inside)
 
 returns-3 : tie.Need-returns-3
-unfolding markValid
+unfolding markValid positionOf
 returns-3 c =
-    let p = c .before in
+    let p = c .before .before in
     let k = p .before .before in
+    let a = start (c .before) .args in
     rw (
       eq-eqb _ markKind (rw (k .before .kind-of .ensures) at (k .if1 .left)),
       lt-ltb _ 64 (rw (p .before .payload-of .ensures) at (p .if2 .left)),
     )
-    (c .spares-clear .ensures)
+    (c .spares-clear .ensures
+    ∙ ap (λ at. allBelow (spareClear (a .grid) (at .row) (at .column) (a .mark)) 6) (c .before .position .ensures))
 
 pub mark-valid-spec : {M : Type 1} → statement M
 mark-valid-spec =
     tie.close
-    (tie.spec kind-of-requires returns payload-of-requires returns-2 spares-clear-requires returns-3)
+    (tie.spec
+    kind-of-requires
+    returns
+    payload-of-requires
+    returns-2
+    position-requires
+    spares-clear-requires
+    returns-3)

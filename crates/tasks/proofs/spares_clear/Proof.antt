@@ -6,17 +6,15 @@ use native.Mathlib.Omega.{arith}
 use borrow.Author.Needs.{needs}
 use Rattle.number.proofs.Tests.{all-fails, all-more, all-none, failed, passed}
 use Rattle.number.specs.Numbers.{allBelow}
-use Rattle.grid.specs.Grid.{blockRow, blockColumn}
 use Rattle.tasks.specs.Marks.{spareClear}
 use Rattle.tasks.proofs.spares_clear.Statement.{statement}
 use Rattle.tasks.proofs.spares_clear.Tie as tie
 
 abbrev Inv-loop : tie.InvT-loop
-Inv-loop grid block mark task₀ task =
-    (task ≤ 6) × (allBelow (spareClear grid (blockRow grid block) (blockColumn grid block) mark) task ≡ true)
+Inv-loop grid at mark task₀ task = (task ≤ 6) × (allBelow (spareClear grid (at .row) (at .column) mark) task ≡ true)
 
 abbrev μ-loop : tie.MeasureT-loop
-μ-loop grid block mark task₀ task = 6 - task
+μ-loop grid at mark task₀ task = 6 - task
 
 loop-holds : tie.Need-loop-holds Inv-loop μ-loop
 loop-holds c = (omega arith, all-none _)

@@ -17,13 +17,13 @@ returns : tie.Need-returns
 returns c =
     let turned = c .before .before in
     let line = turned .before in
-    goes-on _ _ _ _ (line .block-line .ensures) backward (runs-backward _ (sym (turned .is-backward .ensures) ∙ c .before .if1 .taken))
+    goes-on _ _ _ backward (runs-backward _ (sym (turned .is-backward .ensures) ∙ c .before .if1 .taken)) _ (line .block-line .ensures)
 
 returns-2 : tie.Need-returns-2
 returns-2 c =
     let turned = c .before in
     let line = turned .before in
-    goes-on _ _ _ _ (line .block-line .ensures) forward (runs-forward _ (sym (turned .is-backward .ensures) ∙ c .if1 .left))
+    goes-on _ _ _ forward (runs-forward _ (sym (turned .is-backward .ensures) ∙ c .if1 .left)) _ (line .block-line .ensures)
 
 pub goes-on-spec : {M : Type 1} → statement M
 goes-on-spec =
