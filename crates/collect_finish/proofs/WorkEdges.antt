@@ -1,5 +1,5 @@
 -- The edge of the block in the work array, times its gain, as the strip that collect writes. Assumes nothing.
-use mathlib.Core.Path.{_≡_, refl, ap, ap₂, _∙_}
+use mathlib.Core.Path.{_≡_, refl, ap, _∙_}
 use mathlib.Core.Bool.{true, false}
 use mathlib.Core.List.{List}
 use Prim.Native.Nat.{ℕ, _+_, _*_, _/_, _%_, _≤_}
@@ -14,7 +14,7 @@ use Rattle.plan.proofs.Record.{rules}
 use Rattle.axis.specs.Axis.{Axis, columns, rows, Direction, forward, backward, axisOf, directionOf, along, across}
 use Rattle.grid.specs.Grid.{goesOn}
 use Rattle.grid.specs.declared.BlockShape.{BlockShape}
-use Rattle.task_words.specs.Strips.{stripWords, stripStart, lineInStrip, placeInLine, stripWrittenTo, stripWritten}
+use Rattle.task_words.specs.Strips.{stripWords, stripStart, stripWrittenTo, stripWritten}
 use Rattle.task_words.proofs.Strips.{strip-in-list}
 use Rattle.strips.specs.StripRecord.{edgeStart}
 use Rattle.buffer.specs.Written.{cleared, rowWritten}
@@ -26,19 +26,10 @@ use Rattle.collect_finish.specs.WorkFits.{StripMoves}
 use Rattle.collect_finish.proofs.WorkPlaces.{shape-in-work, line-place, lines-fit, extent-small, move-limited}
 use Rattle.grid.specs.Shapes.{shapeExtent}
 
--- ---- a strip as a rectangle
-
--- Its words,
+-- The words of a strip as a rectangle.
 strip-count : (a : Axis) (side order : ℕ) → along a order side * across a order side ≡ side * order
 strip-count columns side order = omega arith
 strip-count rows side order = refl
-
--- and the line and the place of each.
-strip-cell : (a : Axis) (side order q : ℕ)
-    → let w = across a order side in
-    (across a (q / w) (q % w) ≡ lineInStrip a side order q) × (along a (q / w) (q % w) ≡ placeInLine a side order q)
-strip-cell columns side order q = (refl, refl)
-strip-cell rows side order q = (refl, refl)
 
 -- ---- places of the edge
 
@@ -113,7 +104,5 @@ module _ {plan : Plan} {k pass : ℕ} {shape : BlockShape} {n m : ℕ} (moves : 
           (rw (at, indexed, tall, wide) at copied)
           ∙ rectangle-same (stridePlace start w) _ w (along a r side) (λ q. stripStart plan k pass + q) _ strips
           (λ q c. let e = div-add-mod' q w in rw (← starts) (omega arith))
-          (λ q c.
-          let cell = strip-cell a side r q in
-          edge-cell gain work needed (q / w) (q % w) ∙ ap₂ (workEdge plan k pass gain work) (cell .0) (cell .1))
+          (λ q c. edge-cell gain work needed (q / w) (q % w))
           ∙ ap (λ z. stripWrittenTo plan k pass (workEdge plan k pass gain work) z strips) (strip-count a side r)

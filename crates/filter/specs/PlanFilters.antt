@@ -1,13 +1,39 @@
--- A plan's filters, and its passes over a whole map: document 01, 'The four passes'.
-use mathlib.Core.List.{List}
-use Prim.Native.Nat.{ℕ}
-use lib.IntN.{ℤ}
+-- Passes, a plan's filters, and its passes over a whole map: document 01, 'The four passes'.
+use mathlib.Core.List.{List, [], _∷_, _++_}
+use Prim.Native.Nat.{ℕ, _-_}
+use lib.IntN.{ℤ, pos, negsuc}
+use lib.ListN.{length, replicate}
 use Rattle.plan.specs.declared.Pass.{Pass}
 use Rattle.plan.specs.declared.Plan.{Plan}
-use Rattle.plan.specs.Rules.{passAt}
+use Rattle.plan.specs.Rules.{orderLimit, passAt}
 use Rattle.buffer.specs.Pixel.{heightMap}
 use Rattle.passes.specs.Filter.{Filter, filterOfNumbers}
 use Rattle.passes.specs.Passes.{serialPasses}
+
+-- ---- passes
+
+-- A pass with a gain and the coefficients d1 to dr.
+abbrev pub passOf : ℤ → List ℤ → Pass
+passOf gain coefficients =
+    record {
+      order = length coefficients;
+      gain = gain;
+      coefficients = coefficients ++ replicate (orderLimit - length coefficients) (pos 0);
+    }
+
+-- Order 0, gain 1: what it is handed stays.
+abbrev pub unchangedPass : Pass
+unchangedPass = passOf (pos 1) []
+
+-- Order 1, gain 1, coefficient -1: what it is handed is summed up.
+abbrev pub runningSumPass : Pass
+runningSumPass = passOf (pos 1) (negsuc 0 ∷ [])
+
+-- The passes of the summed-area table: down and right sum up, up and left leave as it is.
+abbrev pub summedAreaPasses : List Pass
+summedAreaPasses = runningSumPass ∷ unchangedPass ∷ runningSumPass ∷ unchangedPass ∷ []
+
+-- ---- filters
 
 -- The filter of a pass.
 unfoldable pub filterOf : Pass → Filter

@@ -92,13 +92,13 @@ extentAlong grid k pass = along (axisOf pass) (rowsOf grid k) (columnsOf grid k)
 abbrev pub linesAcross : Grid → (k pass : ℕ) → ℕ
 linesAcross grid k pass = across (axisOf pass) (rowsOf grid k) (columnsOf grid k)
 
--- Where pixel (y, x) of block k stands in a row-major list of h×w words.
-unfoldable pub blockPixelPlace : Grid → ℕ → ℕ → ℕ → ℕ
-blockPixelPlace grid k y x = rowMajor (grid .columns) (firstRow grid k + y) (firstColumn grid k + x)
-
 -- The part of a map that is block k.
 abbrev pub partOf : Grid → ℕ → (ℕ → ℕ → ℕ) → ℕ → ℕ → ℕ
 partOf grid k X y x = X (firstRow grid k + y) (firstColumn grid k + x)
+
+-- Where pixel (y, x) of block k stands in a row-major list of h×w words.
+unfoldable pub blockPixelPlace : Grid → ℕ → ℕ → ℕ → ℕ
+blockPixelPlace grid k y x = partOf grid k (rowMajor (grid .columns)) y x
 
 -- ---- neighbours along a pass
 

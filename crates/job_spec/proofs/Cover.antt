@@ -6,22 +6,18 @@ use Prim.Native.Nat.{ℕ, zero, suc, _+_, _-_, _*_, _/_, _%_, _≤_, _<_}
 use native.Mathlib.Nat.{div-add-mod'}
 use native.Mathlib.Omega.{arith}
 use Rattle.plan.specs.declared.Plan.{Plan}
-use Rattle.plan.specs.Sizes.{orderSum, neededMarks, neededPixels, orderOf}
+use Rattle.plan.specs.Sizes.{orderSum, neededMarks, slotWords, neededPixels, orderOf}
 use Rattle.number.specs.Numbers.{total}
 use Rattle.number.proofs.Tests.{lt-or-ge}
 use Rattle.grid.proofs.Extents.{place-counted, place-in-extent}
-use Rattle.axis.specs.Axis.{Axis, columns, rows, axisOf}
+use Rattle.axis.specs.Axis.{axisOf}
 use Rattle.grid.specs.Grid.{blockNumber, firstRow, firstColumn, rowsOf, columnsOf, blockPixelPlace}
-use Rattle.task_words.specs.Strips.{slotWords, slotStart, stripStart, placeInStrip, lineInStrip, placeInLine, stripPlace}
+use Rattle.task_words.specs.Strips.{slotStart, stripStart, stripPlace}
 use Rattle.number.proofs.RowMajor.{row-below, column-below}
 use Rattle.grid.proofs.Blocks.{number-below, row-of-number, column-of-number}
-use Rattle.task_words.proofs.Strips.{line-below, line-place-below}
+use Rattle.task_words.proofs.Strips.{cell-of}
 
 -- ---- words of a slot
-
-place-back : (a : Axis) (b r q : ℕ) → placeInStrip a b r (lineInStrip a b r q) (placeInLine a b r q) ≡ q
-place-back columns b r q = div-add-mod' q b
-place-back rows b r q = div-add-mod' q r
 
 -- A word that stands in no strip of block k stands outside its slot.
 module _ (plan : Plan) (k q : ℕ)
@@ -30,11 +26,8 @@ module _ (plan : Plan) (k q : ℕ)
   no-strip : (pass p : ℕ) → pass < 4 → p < plan .grid .side * orderOf plan pass → q ≢ stripStart plan k pass + p
   unfolding stripPlace
   no-strip pass p h l e =
-      let a = axisOf pass in
-      let b = plan .grid .side in
-      let r = orderOf plan pass in
-      out pass _ _ h (line-below b r a p l) (line-place-below b r a p l)
-      (e ∙ ap (stripStart plan k pass +_) (sym (place-back a b r p)))
+      let c = cell-of (plan .grid .side) (orderOf plan pass) (axisOf pass) p l in
+      out pass (c .line) (c .place) h (c .in-lines) (c .in-places) (e ∙ ap (stripStart plan k pass +_) (sym (c .stands)))
 
   first-strips : (n i : ℕ) → n ≤ 4 → i < plan .grid .side * orderSum plan n → q ≢ slotStart plan k + i
   unfolding total

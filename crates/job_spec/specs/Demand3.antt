@@ -4,14 +4,14 @@ use mathlib.Core.Path.{_≡_}
 use mathlib.Core.Bool.{Bool, true, false, cond}
 use mathlib.Core.Logic.{_≢_, _⊎_}
 use mathlib.Core.List.{List, [], _∷_, map}
-use Prim.Native.Nat.{ℕ, suc, _+_, _≤_, _<_}
+use Prim.Native.Nat.{ℕ, suc, _≤_, _<_}
 use lib.IntN.{ℤ}
 use lib.ListN.{length, getD}
 use Rattle.refusal.specs.Refusals.{Answer, accepted, refused}
 use Rattle.refusal.specs.Table.{firstDue}
 use Rattle.plan.specs.declared.Plan.{Plan}
 use Rattle.plan.specs.Rules.{keepsRules}
-use Rattle.grid.specs.Grid.{firstRow, firstColumn, rowsOf, columnsOf, blockPixelPlace}
+use Rattle.grid.specs.Grid.{rowsOf, columnsOf, partOf, blockPixelPlace}
 use Rattle.plan.specs.Sizes.{neededMarks, neededStrips, neededPixels, taskCount, orderOf}
 use Rattle.buffer.specs.Lists.{wordAt}
 use Rattle.tasks.specs.Tasks.{BlockTask, ready, nothingDone, alsoDone}
@@ -104,7 +104,7 @@ pub record Claim (plan : Plan) (heights : List ℤ) (lent : Buffers) (calls : Li
   -- Each word of a finished block is the result of left over the whole map.
   pub finished-blocks : (k y x : ℕ) → Finished (doneAfter plan calls) k → y < rowsOf (plan .grid) k → x < columnsOf (plan .grid) k
       → wordAt (after .output) (blockPixelPlace (plan .grid) k y x)
-      ≡ serialResult plan (mapOf plan heights) 4 (firstRow (plan .grid) k + y) (firstColumn (plan .grid) k + x)
+      ≡ partOf (plan .grid) k (serialResult plan (mapOf plan heights) 4) y x
   -- All output words outside finished blocks, those past h×w included, are as they were.
   pub other-output : (q : ℕ) → OutsideFinished plan (doneAfter plan calls) q
       → wordAt (after .output) q ≡ wordAt (lent .output) q

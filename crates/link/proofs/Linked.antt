@@ -26,7 +26,7 @@ use Rattle.axis.specs.Axis.{axisOf, directionOf, along, lineOf}
 use Rattle.passes.specs.Passes.{filterLines, passesOver}
 use Rattle.filter.specs.PlanFilters.{filtersOf}
 use Rattle.filter.specs.declared.FilterWords.{FilterWords}
-use Rattle.task_words.proofs.Strips.{in-strip, line-below, line-place-below}
+use Rattle.task_words.proofs.Strips.{in-strip, cell-of}
 use Rattle.task_words.proofs.Tasks.{linked-length, linked-holds}
 use Rattle.grid.specs.Grid.{rowsOf, columnsOf}
 use Rattle.task_words.specs.Strips.{stripStart, stripWords, placeInStrip, stripPlace, placeInside, indexOfPlace, insideBlock, edgeWord, stripWord, pastEdges, stripWrittenTo}
@@ -43,7 +43,7 @@ use Rattle.link.specs.Carrying.{responseOf}
 use Rattle.link.specs.Writing.{linkedWord, StripLaid, PlacesWritten}
 use Rattle.link.specs.declared.Course.{Course}
 use Rattle.link.proofs.Courses.{filter-is, course-fits}
-use Rattle.link.proofs.OwnStrip.{places, lines, number-is, strip-laid}
+use Rattle.link.proofs.OwnStrip.{places, lines, strip-laid}
 use Rattle.filter.specs.FilterWords.{gainsAfter}
 use Rattle.task_words.specs.ScaledEdges.{scaledEdges}
 use Rattle.strips.proofs.Edges.{edge-index}
@@ -133,10 +133,10 @@ module _ (plan : Plan) (k pass : ℕ) {n : ℕ} (at : LinkAt plan k pass n) (str
 
     inside : (q : ℕ) → q < stripWords plan pass
         → wordAt after (stripStart plan k pass + q) ≡ wordAt (linked plan k pass strips) (stripStart plan k pass + q)
+    unfolding stripPlace
     inside q h =
-        rw (number-is plan k pass q) at
-        (at-place _ _ (line-below (plan .grid .side) (orderOf plan pass) (axisOf pass) q h)
-        (line-place-below (plan .grid .side) (orderOf plan pass) (axisOf pass) q h))
+        let c = cell-of (plan .grid .side) (orderOf plan pass) (axisOf pass) q h in
+        rw (c .stands) at (at-place (c .line) (c .place) (c .in-lines) (c .in-places))
 
     outside : (z : ℕ) → ((q : ℕ) → q < stripWords plan pass → z ≢ stripStart plan k pass + q)
         → wordAt after z ≡ wordAt (linked plan k pass strips) z

@@ -1,27 +1,20 @@
 -- Where the words of a link's own strip stand, and which of them lie in the block. Assumes nothing.
 use mathlib.Core.Path.{_≡_, ap, sym, _∙_}
-use Prim.Native.Nat.{ℕ, _+_, _-_, _<_}
+use Prim.Native.Nat.{ℕ, _-_, _<_}
 use native.Mathlib.Omega.{arith}
-use native.Mathlib.Nat.{div-add-mod'}
 use Rattle.plan.proofs.Record.{rules, order-limited-at}
 use Rattle.plan.specs.Sizes.{orderOf}
 use Rattle.plan.specs.declared.Plan.{Plan}
 use Rattle.axis.specs.Axis.{Axis, columns, rows, axisOf, along}
-use Rattle.task_words.proofs.Strips.{place-of-place, strip-place-below}
+use Rattle.task_words.proofs.Strips.{word-laid, strip-place-below}
 use Rattle.grid.specs.Grid.{extentAlong, linesAcross}
-use Rattle.task_words.specs.Strips.{stripStart, placeInStrip, lineInStrip, placeInLine, stripPlace}
+use Rattle.task_words.specs.Strips.{stripPlace, laidInRows}
 use Rattle.strips.proofs.StripRecords.{address-is}
 use Rattle.strips.specs.StripRecord.{stripWith, stripOf}
 use Rattle.strips.specs.declared.Strip.{Strip}
 use Rattle.link.specs.Courses.{LinkAt}
 use Rattle.link.specs.Crossing.{responseWords}
 use Rattle.link.specs.Writing.{StripLaid}
-
--- A strip's word stands at its line and place.
-same-place : (a : Axis) (side order q : ℕ)
-    → placeInStrip a side order (lineInStrip a side order q) (placeInLine a side order q) ≡ q
-same-place columns side order q = div-add-mod' q side
-same-place rows side order q = div-add-mod' q order
 
 -- ---- block k's strip
 
@@ -41,13 +34,6 @@ module _ (plan : Plan) (k pass : ℕ) where
 
   abbrev pub lines : ℕ
   lines = linesAcross (plan .grid) k pass
-
-  -- The word of a number stands so far from the start of the strip.
-  pub number-is : (q : ℕ)
-      → stripPlace plan k pass (lineInStrip (axisOf pass) side order q) (placeInLine (axisOf pass) side order q)
-      ≡ stripStart plan k pass + q
-  unfolding stripPlace
-  number-is q = ap (stripStart plan k pass +_) (same-place (axisOf pass) side order q)
 
   some-step : 0 < order → 0 < strip .«line_step»
   unfolding stripOf stripWith
@@ -77,7 +63,8 @@ module _ (plan : Plan) (k pass : ℕ) where
             ));
         apart = λ line place l p h b c d e.
             let q = sym (address-is plan k pass line place) ∙ e ∙ address-is plan k pass l p in
-            sym (place-of-place side order (axisOf pass) line place h b)
-            ∙ ap (placeInLine (axisOf pass) side order) (omega arith)
-            ∙ place-of-place side order (axisOf pass) l p c d;
+            let place-there : ℕ → ℕ → ℕ = λ line place. place in
+            sym (word-laid side order (axisOf pass) place-there line place h b)
+            ∙ ap (laidInRows (axisOf pass) side order place-there) (omega arith)
+            ∙ word-laid side order (axisOf pass) place-there l p c d;
       }

@@ -1,14 +1,14 @@
 -- Laws of sums over the numbers below a bound, and of a test of each of them. Assumes nothing.
 use mathlib.Core.Path.{_≡_, refl, ap, ap₂, _∙_}
 use mathlib.Core.Logic.{⊎-elim, _≢_}
-use mathlib.Core.Bool.{Bool, true, false}
+use mathlib.Core.Bool.{Bool, true, false, cond}
 use Prim.Native.Nat.{ℕ, zero, suc, _+_, _-_, _*_, _<_, _≤_, min}
 use native.Mathlib.Omega.{arith}
 use native.Mathlib.Nat.{eq-or-lt-of-le, add-suc, add-zero, min-eq-left, min-eq-right}
 use native.Mathlib.Numerals.{add-one}
 use lib.Dec.{ltb}
 use borrow.Author.Tests.{lt-ltb, le-ltb, ltb-true, ltb-false}
-use Rattle.number.specs.Numbers.{ifBelow, allBelow, total, one}
+use Rattle.number.specs.Numbers.{allBelow, total, one}
 use Rattle.number.proofs.Tests.{lt-or-ge}
 
 pub all-below : (test : ℕ → Bool) (n : ℕ) → ((i : ℕ) → i < n → test i ≡ true) → allBelow test n ≡ true
@@ -30,7 +30,7 @@ unfolding total
 sum-on f i s v p q = rw (add-one i) (ap₂ _+_ p q)
 
 -- The same where the loop goes on past the last of them.
-pub sum-below : (f : ℕ → ℕ) (i count : ℕ) → total f (min i count) + ifBelow i count (f i) ≡ total f (min (i + 1) count)
+pub sum-below : (f : ℕ → ℕ) (i count : ℕ) → total f (min i count) + cond (ltb i count) (f i) 0 ≡ total f (min (i + 1) count)
 unfolding total
 sum-below f i count =
     ⊎-elim

@@ -1,15 +1,11 @@
 -- Tests and sums over the numbers below a bound, and places in rows of equal width.
-use mathlib.Core.Bool.{Bool, true, false, _&&_, cond}
+use mathlib.Core.Bool.{Bool, true, false, _&&_}
 use Prim.Native.Nat.{ℕ, zero, suc, _+_, _*_}
-use lib.Dec.{ltb, leb}
+use lib.Dec.{leb}
 
 -- From 1 to `most`.
 abbrev pub within : ℕ → ℕ → Bool
 within number most = leb 1 number && leb number most
-
--- A number where i is below a bound, and 0 where not.
-abbrev pub ifBelow : (i bound number : ℕ) → ℕ
-ifBelow i bound number = cond (ltb i bound) number 0
 
 -- A test holds of every number below n.
 unfoldable pub allBelow : (ℕ → Bool) → ℕ → Bool

@@ -1,7 +1,9 @@
 // Numbers: the lesser of two, one or none below a bound, a range from 1 on, and words of a kind and a payload.
 ghost use mathlib.Core.Path.{_≡_};
+ghost use mathlib.Core.Bool.{cond};
+ghost use lib.Dec.{ltb};
 ghost use Prim.Native.Nat.{_<_, min};
-ghost use Rattle.number.specs.Numbers.{ifBelow, within};
+ghost use Rattle.number.specs.Numbers.{within};
 ghost use Rattle.number.specs.KindWords.{payloadLimit, kindOf, payloadOf, wordOf};
 
 // The lesser of two numbers.
@@ -13,7 +15,7 @@ pub fn lesser(a: usize, b: usize) -> usize
 
 // A number where i is below a bound, and 0 where not.
 pub fn if_below(i: usize, bound: usize, number: usize) -> usize
-    ensures { λ r. ⌜ r ≡ ifBelow i bound number ⌝ }
+    ensures { λ r. ⌜ r ≡ cond (ltb i bound) number 0 ⌝ }
 {
     if i < bound { number } else { 0 }
 }

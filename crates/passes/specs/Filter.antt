@@ -11,7 +11,8 @@ pub record Filter : Type 0 where
   pub order : ℕ
   pub coefficient : ℕ → ℕ
 
--- The filter of a gain, an order and a list of coefficients, signed numbers that enter as residues modulo 2^64.
+-- The filter of a gain, an order and a list of coefficients: gain and coefficients, which are signed, enter as residues
+-- modulo 2^64.
 abbrev pub filterOfNumbers : (gain : ℤ) → (order : ℕ) → (coefficients : List ℤ) → Filter
 filterOfNumbers gain order coefficients =
     record { gain = residue gain; order = order; coefficient = λ k. residue (numberAt coefficients k) }

@@ -6,6 +6,7 @@ use lib.IntN.{ℤ, pos, negsuc}
 use lib.Dec.{ltb, leb, eqb}
 use lib.ListN.{getD}
 use Rattle.number.specs.Numbers.{allBelow}
+use Rattle.buffer.specs.Lists.{numberAt}
 use Rattle.grid.specs.Grid.{gridKept}
 use Rattle.plan.specs.declared.Pass.{Pass}
 use Rattle.plan.specs.declared.Plan.{Plan}
@@ -26,7 +27,7 @@ isZero (negsuc n) = false
 
 -- Coefficient d(j+1) of a pass.
 abbrev pub coefficientAt : Pass → ℕ → ℤ
-coefficientAt pass j = getD (pass .coefficients) j (pos 0)
+coefficientAt pass j = numberAt (pass .coefficients) j
 
 -- A coefficient place holds a number of signed 28 bits below the order, and 0 from there on.
 abbrev pub coefficientKept : ℕ → ℕ → ℤ → Bool

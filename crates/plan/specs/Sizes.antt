@@ -21,25 +21,33 @@ orderOf plan pass = passAt plan pass .order
 abbrev pub orderSum : Plan → ℕ → ℕ
 orderSum plan count = total (orderOf plan) count
 
--- The words that every plan has: size, block, pass and gain of four passes, and the end.
+-- The most that the orders of the four passes can sum up to.
+abbrev pub orderSumLimit : ℕ
+orderSumLimit = 4 * orderLimit
+
+-- How many words every plan has: size, block, pass and gain of four passes, and the end.
 abbrev pub fixedWords : ℕ
 fixedWords = 11
 
--- Those, and the coefficients.
+-- How many words a plan has: those, and one for each coefficient.
 abbrev pub wordCount : Plan → ℕ
 wordCount plan = fixedWords + orderSum plan 4
 
 -- The most words that a plan can have: 27.
 abbrev pub wordLimit : ℕ
-wordLimit = fixedWords + 4 * orderLimit
+wordLimit = fixedWords + orderSumLimit
 
 -- M×N marks.
 abbrev pub neededMarks : Plan → ℕ
 neededMarks plan = blockTotal (plan .grid)
 
--- M×N×b×R words of strips, R the sum of the four orders.
+-- The words of a slot: b×R, R the sum of the four orders.
+abbrev pub slotWords : Plan → ℕ
+slotWords plan = plan .grid .side * orderSum plan 4
+
+-- M×N slots: M×N×b×R words of strips.
 abbrev pub neededStrips : Plan → ℕ
-neededStrips plan = blockTotal (plan .grid) * plan .grid .side * orderSum plan 4
+neededStrips plan = blockTotal (plan .grid) * slotWords plan
 
 -- h×w words of map, output or table.
 abbrev pub neededPixels : Plan → ℕ

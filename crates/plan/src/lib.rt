@@ -9,16 +9,19 @@ ghost use lib.Dec.{ltb};
 ghost use Prim.Native.Nat.{_≤_};
 ghost use Rattle.refusal.specs.Table.{_at_when_, firstDue, answerOf};
 ghost use Rattle.plan.specs.Rules.{inSigned28, isZero, coefficientKept, coefficientsKept, passKept, passesKept, keepsRules};
-ghost use Rattle.plan.specs.Sizes.{orderSum, sizesOf, planSizes, sizesGiven, lengthRows};
+ghost use Rattle.plan.specs.Sizes.{orderSum, slotWords, sizesOf, planSizes, sizesGiven, lengthRows};
 
 // The largest order of a pass: `orderLimit` of specs/Rules.antt is the same number.
 pub const ORDER_LIMIT: usize = 4;
+
+// The most that the orders of the four passes can sum up to: `orderSumLimit` of specs/Sizes.antt is the same number.
+pub const ORDER_SUM_LIMIT: usize = 4 * ORDER_LIMIT;
 
 // The words that every plan has, and the most that one can have: `fixedWords` and `wordLimit` of specs/Sizes.antt are the same
 // numbers.
 const FIXED_WORDS: usize = 11;
 
-pub const WORD_LIMIT: usize = FIXED_WORDS + 4 * ORDER_LIMIT;
+pub const WORD_LIMIT: usize = FIXED_WORDS + ORDER_SUM_LIMIT;
 
 // The longest line of a block, with a margin of ORDER_LIMIT places at both ends: `paddedLine` of specs/PaddedLine.antt is
 // the same number.
@@ -89,10 +92,18 @@ impl Plan {
             block_rows: block_rows,
             block_columns: block_columns,
             marks: marks,
-            strips: marks * grid.side * orders,
+            strips: marks * self.slot_words(),
             pixels: grid.rows * grid.columns,
             tasks: 6 * marks - 2 * block_rows - 2 * block_columns,
         }
+    }
+
+    // The words of the slot that each block has in the list of strips.
+    pub fn slot_words(self) -> usize
+        requires { ⌜ keepsRules self ≡ true ⌝ }
+        ensures { λ r. ⌜ r ≡ slotWords self ⌝ }
+    {
+        self.grid.side * self.order_sum(4)
     }
 
     // The sum of the orders of the first `count` passes. The loop goes over all four: the compiler unrolls it, and copies no

@@ -37,6 +37,10 @@ abbrev pub passAllowed : ℕ → ℕ → Bool
 passAllowed pass payload =
     eqb (passIn payload) pass && (leb (orderIn payload) orderLimit && eqb (payload / 64) 0)
 
+-- The kind of the end word.
+abbrev pub endKind : ℕ
+endKind = 6
+
 -- End, kind 6: zero.
 abbrev pub endAllowed : ℕ → Bool
 endAllowed payload = eqb payload 0

@@ -13,7 +13,7 @@ use Rattle.plan.specs.Rules.{orderLimit}
 use Rattle.number.specs.Numbers.{allBelow}
 use Rattle.buffer.specs.Lists.{wordAt, listOf, joined}
 use Rattle.plan_reader.specs.declared.PlanRead.{PlanRead}
-use Rattle.plan_reader.specs.PlanWords.{rowsIn, columnsIn, sizeAllowed, sideAllowed, orderIn, passAllowed, endAllowed, signed28}
+use Rattle.plan_reader.specs.PlanWords.{rowsIn, columnsIn, sizeAllowed, sideAllowed, orderIn, passAllowed, endAllowed, signed28, endKind}
 use Rattle.number.specs.KindWords.{kindOf, payloadOf}
 
 -- The payload of the word at a place.
@@ -66,7 +66,7 @@ passesRows words count = joined (λ i. passRows words i (passPlace words i)) cou
 -- The end word stands at a place, and then: 5 if a word follows it.
 unfoldable pub endRows : List ℕ → (place : ℕ) → List Row
 endRows words place =
-    wordRows words place 6 (endAllowed (payloadAt words place))
+    wordRows words place endKind (endAllowed (payloadAt words place))
     ++ (5 at place + 1 when ltb (place + 1) (length words) ∷ [])
 
 -- The block side is at least the order of pass i.

@@ -13,6 +13,9 @@ ghost use Rattle.plan_reader.specs.PlanWords.{rowsIn, columnsIn, sizeAll
 ghost use Rattle.plan_reader.specs.ReadPlan.{payloadAt, orderAt, passPlace, wordRows, headRows, coefficientRows, passRows, passesRows, endRows, sideRows, planRows, coefficientIn, passFrom, planFrom, zeroPass, zeroPlan, readPlan, readGiven};
 ghost use Rattle.number.specs.KindWords.{payloadLimit};
 
+// The kind of the end word; `endKind` of specs/PlanWords.antt is the same number.
+pub const END_KIND: u32 = 6;
+
 // The plan that was read, or a plan of zeros beside a refusal.
 pub struct PlanRead {
     pub outcome: Outcome,
@@ -197,7 +200,7 @@ fn end_outcome(words: &[u32], place: usize) -> Outcome
     requires { ⌜ place ≤ 1000 ⌝ }
     ensures { λ r. ⌜ answerOf r ≡ firstDue (endRows (now (words .entry)) place) ⌝ }
 {
-    let end = word_outcome(words, place, 6, payload_at(words, place) == 0);
+    let end = word_outcome(words, place, END_KIND, payload_at(words, place) == 0);
     if place + 1 < words.len() {
         return end.or_first(Outcome::Refused(Refusal::WordsAfterEnd(place + 1)));
     }

@@ -1,5 +1,5 @@
--- Demand 2 for plans (docs/PROOF.md): writing an accepted plan gives the same words. How words are laid out is in plan_reader's
--- PlanWords and ReadPlan.
+-- Demand 2 for plans (docs/PROOF.md): writing an accepted plan gives the same words. How words are laid out is in
+-- number/KindWords and in plan_reader's PlanWords and ReadPlan.
 use mathlib.Core.Path.{_≡_}
 use mathlib.Core.Bool.{true}
 use mathlib.Core.List.{List, _++_}

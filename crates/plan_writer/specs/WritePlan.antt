@@ -15,6 +15,7 @@ use Rattle.buffer.specs.Lists.{listOf, joined}
 use Rattle.plan_writer.specs.declared.PlanWritten.{PlanWritten}
 use Rattle.plan_writer.specs.declared.PlanWritten.the-variants.{Words, Refused}
 use Rattle.number.specs.KindWords.{payloadLimit, wordOf}
+use Rattle.plan_reader.specs.PlanWords.{endKind}
 
 -- The payload of a number of signed 28 bits, two's complement: `negsuc n` is -(n + 1).
 unfoldable pub payload28 : ℤ → ℕ
@@ -49,7 +50,7 @@ sizeWord plan = wordOf 1 (sizePayload (plan .grid .rows) (plan .grid .columns))
 -- The words of a plan: size, block, the four passes, end.
 unfoldable pub wordsOf : Plan → List ℕ
 wordsOf plan =
-    sizeWord plan ∷ wordOf 2 (plan .grid .side) ∷ (passesWords plan 4 ++ (wordOf 6 0 ∷ []))
+    sizeWord plan ∷ wordOf 2 (plan .grid .side) ∷ (passesWords plan 4 ++ (wordOf endKind 0 ∷ []))
 
 -- How many words are written into so much room; 0 beside a refusal.
 unfoldable pub writePlan : Plan → (room : ℕ) → Given ℕ

@@ -51,7 +51,11 @@ fn write_words(plan: Plan, words: &mut [u32])
     let after_size = write_word(words, 0, size_word(plan.grid.rows, plan.grid.columns));
     let after_block = write_word(words, after_size, block_word(plan.grid.side));
     let after_passes = write_passes(plan, words, after_block);
-    write_word(words, after_passes, number::word_of(6, 0));
+    write_word(
+        words,
+        after_passes,
+        number::word_of(plan_reader::END_KIND, 0),
+    );
 }
 
 // The words of all passes, from a place on; gives the place after them.

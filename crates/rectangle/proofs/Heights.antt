@@ -19,13 +19,13 @@ use Rattle.passes.specs.Passes.{passesOver, serialPasses}
 use Rattle.buffer.specs.Pixel.{heightAt, heightMap}
 use Rattle.passes.specs.Table.{runningSum, unchanged, firstAlone, summedAreaTable}
 use Rattle.passes.proofs.Table.{rectangle-heights}
-use Rattle.filter.specs.PlanFilters.{filterOf, filtersOf, mapOf, serialResult}
+use Rattle.filter.specs.PlanFilters.{filterOf, filtersOf, mapOf, serialResult, runningSumPass, unchangedPass, summedAreaPasses}
 use Rattle.number.specs.Numbers.{rowMajor}
 use Rattle.number.proofs.RowMajor.{row-of, column-of, place-below}
 use Rattle.serial.specs.Serial.{serialWords, serialOutput}
 use Rattle.serial.proofs.SerialAnswers.{long-enough, output-of-accepted}
 use Rattle.rectangle.specs.Rectangle.{tableOf}
-use Rattle.rectangle.specs.Heights.{runningSumPass, unchangedPass, summedAreaPasses, SumsHeights}
+use Rattle.rectangle.specs.Heights.{SumsHeights}
 use Rattle.rectangle.proofs.SumAnswers.{accepted-when, given-accepted}
 
 -- ---- the filters

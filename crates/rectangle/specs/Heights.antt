@@ -2,33 +2,20 @@
 -- rectangle sum.
 use mathlib.Core.Path.{_≡_}
 use mathlib.Core.Bool.{true}
-use mathlib.Core.List.{List, [], _∷_}
-use Prim.Native.Nat.{ℕ, _-_, _≤_}
-use lib.IntN.{ℤ, pos, negsuc}
-use lib.ListN.{length, replicate}
+use mathlib.Core.List.{List}
+use Prim.Native.Nat.{ℕ, _≤_}
+use lib.IntN.{ℤ}
+use lib.ListN.{length}
 use Rattle.word.specs.Word.{residue}
 use Rattle.refusal.specs.Refusals.{accepted}
-use Rattle.plan.specs.declared.Pass.{Pass}
 use Rattle.plan.specs.declared.Plan.{Plan}
-use Rattle.plan.specs.Rules.{orderLimit, keepsRules}
+use Rattle.plan.specs.Rules.{keepsRules}
 use Rattle.plan.specs.Sizes.{neededPixels}
 use Rattle.buffer.specs.Pixel.{heightAt}
 use Rattle.passes.specs.Table.{heightsInside}
 use Rattle.serial.specs.Serial.{serialOutput}
 use Rattle.rectangle.specs.Rectangle.{Inside, rectangleCall}
-
--- Order 1, gain 1, coefficient -1.
-abbrev pub runningSumPass : Pass
-runningSumPass = record { order = 1; gain = pos 1; coefficients = negsuc 0 ∷ replicate (orderLimit - 1) (pos 0) }
-
--- Order 0, gain 1.
-abbrev pub unchangedPass : Pass
-unchangedPass = record { order = 0; gain = pos 1; coefficients = replicate orderLimit (pos 0) }
-
--- The passes of the summed-area table: down and right with order 1, gain 1, coefficient -1; up and left with order 0,
--- gain 1.
-abbrev pub summedAreaPasses : List Pass
-summedAreaPasses = runningSumPass ∷ unchangedPass ∷ runningSumPass ∷ unchangedPass ∷ []
+use Rattle.filter.specs.PlanFilters.{summedAreaPasses}
 
 -- Over every rectangle of the map that is not empty, the call gives the sum of the heights in it from this table,
 -- modulo 2^64.

@@ -17,17 +17,18 @@ use Rattle.plan.proofs.Record.{rules}
 use Rattle.plan.proofs.Needed.{bounds}
 use Rattle.tasks.specs.Tasks.{ready}
 use Rattle.tasks.specs.Counts.{doneCount}
-use Rattle.tasks.specs.Marks.{isMarked, markValidAt, Shows}
+use Rattle.tasks.specs.Marks.{isMarked, Shows}
 use Rattle.tasks.proofs.Needs.{All, all-done, ready-same, ready-exists, ready-undone}
 use Rattle.tasks.proofs.Counting.{Only, task-count, count-all, all-of-count, count-most, count-same}
 use Rattle.tasks.proofs.Marking.{shows-marked, shows-valid}
+use Rattle.tasks.proofs.Verdicts.{all-valid}
 use Rattle.report.specs.declared.Next.{Next}
 use Rattle.report.specs.declared.Next.the-variants.{Ready, Nothing}
 use Rattle.report.specs.declared.Progress.{Progress}
 use Rattle.report.specs.Tally.{tally}
 use Rattle.report.specs.Values.{valuesOf}
 use Rattle.report.specs.Report.{firstReady, firstBroken, progressOf, marksRows, report}
-use Rattle.report.proofs.Search.{First, task-found, task-none, task-same, least-none}
+use Rattle.report.proofs.Search.{First, task-found, task-none, task-same}
 use Rattle.report.proofs.Tallies.{tally-whole, tally-same}
 
 module _ (grid : Grid) (done : ℕ → ℕ → Bool) where
@@ -112,7 +113,7 @@ module _ (plan : Plan) (kept : keepsRules plan ≡ true) (done : ℕ → ℕ →
   reported marks enough shows =
       let same = shows-marked (plan .grid) done marks shows in
       let valid = shows-valid (plan .grid) done marks shows only in
-      let none = least-none (markValidAt (plan .grid) marks) (neededMarks plan) 0 (λ k h l. valid k (omega arith)) in
+      let whole = all-valid (plan .grid) marks valid in
       rw (
         kept,
         le-ltb (length marks) (neededMarks plan) enough,

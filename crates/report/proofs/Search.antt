@@ -8,7 +8,7 @@ use native.Mathlib.Numerals.{add-one}
 use native.Mathlib.Omega.{arith}
 use Rattle.report.specs.declared.Next.{Next}
 use Rattle.report.specs.declared.Next.the-variants.{Ready, Nothing}
-use Rattle.report.specs.Report.{orElse, firstBlock, firstTask, leastFailing}
+use Rattle.report.specs.Report.{orElse, firstBlock, firstTask}
 
 -- A step of the search for a ready task.
 module _ (p : ℕ → ℕ → Bool) where
@@ -150,25 +150,3 @@ module _ (p q : ℕ → ℕ → Bool) where
         row-same t 0 m (λ i l h. e t i (omega arith) (omega arith) (omega arith)),
         task-same m (suc t) n (λ s i l h b. e s i (omega arith) (omega arith) b),
       )
-
--- The search for the least number that fails a test.
-module _ (f : ℕ → Bool) where
-  pub least-pass : (i n : ℕ) → i < n → f i ≡ true → leastFailing f i (n - i) ≡ leastFailing f (i + 1) (n - (i + 1))
-  unfolding leastFailing
-  least-pass i n h e = let q : n - i ≡ suc (n - (i + 1)) = omega arith in rw (q, e, add-one)
-
-  pub least-fail : (i n : ℕ) → i < n → f i ≡ false → leastFailing f i (n - i) ≡ i
-  unfolding leastFailing
-  least-fail i n h e = let q : n - i ≡ suc (n - (i + 1)) = omega arith in rw (q, e)
-
-  pub least-end : (i n : ℕ) → n ≤ i → leastFailing f i (n - i) ≡ i
-  unfolding leastFailing
-  least-end i n h = let q : n - i ≡ 0 = omega arith in rw q
-
-  -- Where all pass, none is found.
-  pub least-none : (n i : ℕ) → ((j : ℕ) → i ≤ j → j < i + n → f j ≡ true) → leastFailing f i n ≡ i + n
-  unfolding leastFailing
-  least-none zero i all = omega arith
-  least-none (suc n) i all =
-      rw (all i (omega arith) (omega arith))
-      (least-none n (suc i) (λ j h l. all j (omega arith) (omega arith)) ∙ omega arith)

@@ -11,7 +11,8 @@ use Rattle.grid.specs.declared.Grid.{Grid}
 use Rattle.grid.specs.Grid.{blockTotal}
 use Rattle.tasks.specs.Tasks.{ready}
 use Rattle.tasks.specs.Counts.{doneCount}
-use Rattle.tasks.specs.Marks.{isMarked, markValidAt}
+use Rattle.tasks.specs.Marks.{isMarked}
+use Rattle.tasks.specs.Verdict.{allBlocks, leastBrokenOf, brokenRow}
 use Rattle.report.specs.declared.Next.{Next}
 use Rattle.report.specs.declared.Next.the-variants.{Ready, Nothing}
 use Rattle.report.specs.declared.Progress.{Progress}
@@ -37,14 +38,9 @@ firstTask test blocks t (suc n) = orElse (firstBlock test t 0 blocks) (firstTask
 unfoldable pub firstReady : Grid → (ℕ → ℕ → Bool) → Next
 firstReady grid done = firstTask (ready grid done) (blockTotal grid) 0 6
 
--- The least of the n numbers from k on that fails a test; k + n where all pass.
-unfoldable pub leastFailing : (ℕ → Bool) → ℕ → ℕ → ℕ
-leastFailing test k zero = k
-leastFailing test k (suc n) = cond (test k) (leastFailing test (suc k) n) k
-
--- The least block whose mark has a wrong kind or a spare bit; M×N where there is none.
+-- The least of all blocks whose mark has a wrong kind or a spare bit; M×N where there is none.
 unfoldable pub firstBroken : Grid → List ℕ → ℕ
-firstBroken grid marks = leastFailing (markValidAt grid marks) 0 (blockTotal grid)
+firstBroken grid marks = leastBrokenOf grid marks (allBlocks grid)
 
 -- What the report says where `done` tells what is done.
 unfoldable pub progressOf : Grid → (ℕ → ℕ → Bool) → Progress
@@ -54,7 +50,7 @@ progressOf grid done = record { marked = doneCount grid done; tally = tally grid
 unfoldable pub marksRows : Grid → List ℕ → List Row
 marksRows grid marks =
     7 at 0 when ltb (length marks) (blockTotal grid)
-    ∷ 9 at firstBroken grid marks when ltb (firstBroken grid marks) (blockTotal grid)
+    ∷ brokenRow grid (firstBroken grid marks)
     ∷ []
 
 -- The report on the marks of a plan; zeros beside a refusal.

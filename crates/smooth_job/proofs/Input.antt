@@ -12,20 +12,21 @@ use borrow.Author.Tests.{eq-eqb, ne-eqb, le-leb, lt-leb}
 use Rattle.plan.specs.Sizes.{wordLimit}
 use Rattle.smooth_job.specs.Program.{wordIn, afterEnd, planLength, inputLimit, cutLength}
 use Rattle.number.specs.KindWords.{kindOf}
+use Rattle.plan_reader.specs.PlanWords.{endKind}
 
 module _ (word : ℕ → ℕ) where
   -- One word is looked at.
   end-step : (i n : ℕ) → i < n
-      → afterEnd word i (n - i) ≡ cond (eqb (kindOf (word i)) 6) (i + 1) (afterEnd word (i + 1) (n - (i + 1)))
+      → afterEnd word i (n - i) ≡ cond (eqb (kindOf (word i)) endKind) (i + 1) (afterEnd word (i + 1) (n - (i + 1)))
   unfolding afterEnd
   end-step i n h = let e : n - i ≡ suc (n - (i + 1)) = omega arith in rw (e, add-one i)
 
-  end-found : (i n : ℕ) → i < n → kindOf (word i) ≡ 6 → i + 1 ≡ afterEnd word i (n - i)
-  end-found i n h k = sym (end-step i n h ∙ rw (eq-eqb (kindOf (word i)) 6 k))
+  end-found : (i n : ℕ) → i < n → kindOf (word i) ≡ endKind → i + 1 ≡ afterEnd word i (n - i)
+  end-found i n h k = sym (end-step i n h ∙ rw (eq-eqb (kindOf (word i)) endKind k))
 
-  end-other : (i n : ℕ) → i < n → (kindOf (word i) ≡ 6 → ⊥)
+  end-other : (i n : ℕ) → i < n → (kindOf (word i) ≡ endKind → ⊥)
       → afterEnd word i (n - i) ≡ afterEnd word (i + 1) (n - (i + 1))
-  end-other i n h k = end-step i n h ∙ rw (ne-eqb (kindOf (word i)) 6 k)
+  end-other i n h k = end-step i n h ∙ rw (ne-eqb (kindOf (word i)) endKind k)
 
   end-none : (i n : ℕ) → n ≤ i → i ≡ afterEnd word i (n - i)
   unfolding afterEnd
@@ -34,7 +35,7 @@ module _ (word : ℕ → ℕ) where
   end-within : (i n : ℕ) → afterEnd word i n ≤ i + n
   unfolding afterEnd
   end-within i zero = omega arith
-  end-within i (suc n) = by (eqb (kindOf (word i)) 6) (end-within (suc i) n)
+  end-within i (suc n) = by (eqb (kindOf (word i)) endKind) (end-within (suc i) n)
     where
       by : (test : Bool) → afterEnd word (suc i) n ≤ suc i + n → cond test (suc i) (afterEnd word (suc i) n) ≤ i + suc n
       by true later = omega arith
@@ -56,10 +57,10 @@ module _ (input : List ℕ) where
 
   module _ (most i : ℕ) (left : planLength input ≡ afterEnd (wordIn input) i (most - i)) where
     module _ (below : i < most) (word : ℕ) (here : word ≡ wordIn input i) where
-      pub search-found : kindOf word ≡ 6 → i + 1 ≡ planLength input
+      pub search-found : kindOf word ≡ endKind → i + 1 ≡ planLength input
       search-found k = end-found (wordIn input) i most below (rw here at k) ∙ sym left
 
-      pub search-on : (kindOf word ≡ 6 → ⊥) → planLength input ≡ afterEnd (wordIn input) (i + 1) (most - (i + 1))
+      pub search-on : (kindOf word ≡ endKind → ⊥) → planLength input ≡ afterEnd (wordIn input) (i + 1) (most - (i + 1))
       search-on k = left ∙ end-other (wordIn input) i most below (rw here at k)
 
     pub search-none : i ≤ most → most ≤ i → most ≡ planLength input

@@ -29,7 +29,7 @@ use Rattle.whole_job.specs.WholeJob.{wholeAnswer}
 use Rattle.whole_job.proofs.Steps.{whole-job-done}
 use Rattle.smooth_job.specs.declared.Smoothed.{Smoothed}
 use Rattle.smooth_job.specs.Promises.{Smooths, SmoothDone, SmoothTable}
-use Rattle.smooth_job.specs.Program.{pixelLimit, stripLimit, planWords, heightsIn, planIn, countRows, inputRows, Asked, refusedInput, job, askedBy, mapIn, asked, jobLists, jobAfter, Line, reportedWith, afterAnswer, answerTo, smoothGiven, outputOf}
+use Rattle.smooth_job.specs.Program.{pixelLimit, stripLimit, planWords, heightsIn, planIn, countRows, inputRows, Asked, refusedInput, job, askedBy, mapIn, asked, jobLists, jobAfter, Line, reportedAfter, answerTo, smoothGiven, outputOf}
 
 -- ---- a job that is asked for
 
@@ -75,8 +75,7 @@ module _ (plan : Plan) (heights : List ℤ) (given : AsksJob plan heights) where
       omega (arith, given .few)
 
   few-strips : neededStrips plan ≤ stripLimit
-  few-strips =
-      mul-le-mul (mul-le-mul few-blocks (rules plan (given .rules) .side-high)) (bounds plan (given .rules) .orders-high)
+  few-strips = mul-le-mul few-blocks (bounds plan (given .rules) .slot-high)
 
   -- Marks, strips and map are long enough: the output decides.
   job-answer : (output : List ℕ)
@@ -147,7 +146,7 @@ few-pixels input output r e =
     rw (← ap (λ (g : Given Line). g .value .rows) e, ← ap (λ (g : Given Line). g .value .columns) e) at (by (asked input) refl)
   where
     by-report : (plan : Plan) → neededPixels plan ≤ pixelLimit → (whole reported : Answer) (values : Values)
-        → let given = afterAnswer whole (reportedWith plan (record { answer = reported; value = values })) in
+        → let given = reportedAfter whole plan (record { answer = reported; value = values }) in
         given .value .rows * given .value .columns ≤ pixelLimit
     by-report plan few (refused number place) reported values = omega arith
     by-report plan few accepted (refused number place) values = omega arith

@@ -6,13 +6,12 @@ use lib.IntN.{ℤ}
 use lib.Dec.{ltb, leb, eqb}
 use lib.ListN.{length, replicate}
 use Rattle.refusal.specs.Refusals.{Answer, accepted, refused}
-use Rattle.refusal.specs.Table.{Row, _at_when_, firstDue, answerOf, Given, given}
+use Rattle.refusal.specs.Table.{Row, _at_when_, firstOf, firstDue, answerOf, Given, given}
 use Rattle.plan.specs.declared.Plan.{Plan}
-use Rattle.plan.specs.Rules.{orderLimit}
 use Rattle.grid.specs.Grid.{sideLimit}
-use Rattle.plan.specs.Sizes.{wordLimit, neededPixels}
+use Rattle.plan.specs.Sizes.{wordLimit, neededPixels, orderSumLimit}
 use Rattle.buffer.specs.Lists.{wordAt, listOf}
-use Rattle.plan_reader.specs.PlanWords.{twosComplement}
+use Rattle.plan_reader.specs.PlanWords.{endKind, twosComplement}
 use Rattle.plan_reader.specs.ReadPlan.{planRows, planFrom}
 use Rattle.report.specs.Values.{Values}
 use Rattle.report.specs.Report.{report}
@@ -37,10 +36,11 @@ wordIn input i =
     byteAt input (4 * i) + 256 * byteAt input (4 * i + 1) + 65536 * byteAt input (4 * i + 2)
     + 16777216 * byteAt input (4 * i + 3)
 
--- The place after the first word of kind 6 among the n from place i on; the place after them where there is none.
+-- The place after the first word of kind 6, the end word's, among the n from place i on; the place after them where
+-- there is none.
 unfoldable pub afterEnd : (ℕ → ℕ) → ℕ → ℕ → ℕ
 afterEnd word i zero = i
-afterEnd word i (suc n) = cond (eqb (kindOf (word i)) 6) (suc i) (afterEnd word (suc i) n)
+afterEnd word i (suc n) = cond (eqb (kindOf (word i)) endKind) (suc i) (afterEnd word (suc i) n)
 
 -- How many words the plan has: up to its first word of kind 6, looking at the limit at most.
 unfoldable pub planLength : List ℕ → ℕ
@@ -102,7 +102,7 @@ askedWith input plan = askedBy (firstDue (countRows input plan)) plan (mapIn inp
 
 -- Room for the strips of any job of so many pixels: a slot of the largest side and the largest orders for each.
 abbrev pub stripLimit : ℕ
-stripLimit = pixelLimit * (sideLimit * (4 * orderLimit))
+stripLimit = pixelLimit * (sideLimit * orderSumLimit)
 
 -- The lists of the program's job: marks and strips of zeros, and an output of any words.
 unfoldable pub jobLists : List ℕ → Buffers
@@ -128,25 +128,24 @@ abbrev pub lineOf : Plan → Values → Line
 lineOf plan values =
     record { rows = plan .grid .rows; columns = plan .grid .columns; tasks = values .count; tally = values .tally }
 
--- The line of a report on a plan's marks; zeros beside a refusal.
+-- The line of a report on a plan's marks after another answer; zeros beside the first refusal of the two.
+abbrev pub reportedAfter : Answer → Plan → Given Values → Given Line
+reportedAfter earlier plan reported =
+    given (firstOf earlier (reported .answer)) (lineOf plan (reported .value)) zeroLine
+
+-- The line of a report alone.
 abbrev pub reportedWith : Plan → Given Values → Given Line
-reportedWith plan reported = given (reported .answer) (lineOf plan (reported .value)) zeroLine
+reportedWith plan reported = reportedAfter accepted plan reported
 
--- What is answered where all is zeros but a refusal's number and place.
+-- What is answered beside a refusal's number and place: all zeros.
 abbrev pub refusedWith : (number place : ℕ) → Given Line
-refusedWith number place = record { answer = refused number place; value = zeroLine }
-
--- What is answered with an answer first: where it refuses, it decides.
-abbrev pub afterAnswer : Answer → Given Line → Given Line
-afterAnswer accepted later = later
-afterAnswer (refused number place) later = refusedWith number place
+refusedWith number place = given (refused number place) zeroLine zeroLine
 
 -- What is answered: to a job 7 where the output is too short for it, else after the job what the report says of its marks.
 unfoldable pub answerTo : Asked → List ℕ → Given Line
 answerTo (refusedInput number place) output = refusedWith number place
 answerTo (job plan heights) output =
-    afterAnswer (wholeAnswer plan heights (jobLists output))
-    (reportedWith plan (report plan (jobAfter plan heights output .marks)))
+    reportedAfter (wholeAnswer plan heights (jobLists output)) plan (report plan (jobAfter plan heights output .marks))
 
 -- Document 01's number and place, and the line, that `smooth` answers.
 abbrev pub smoothGiven : Smoothed → Given Line

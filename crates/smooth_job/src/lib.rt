@@ -21,7 +21,7 @@ ghost use Rattle.smooth_job.specs.Program.{pixelLimit, stripLimit, byteA
 // numbers.
 pub const PIXEL_LIMIT: usize = 64;
 
-pub const STRIP_LIMIT: usize = PIXEL_LIMIT * grid::SIDE_LIMIT * 4 * plan::ORDER_LIMIT;
+pub const STRIP_LIMIT: usize = PIXEL_LIMIT * grid::SIDE_LIMIT * plan::ORDER_SUM_LIMIT;
 
 // The most bytes of an input that asks for a job, and of what stands for any input.
 pub const INPUT_LIMIT: usize = 4 * (plan::WORD_LIMIT + PIXEL_LIMIT);
@@ -108,7 +108,7 @@ pub fn plan_length(input: &[u8]) -> usize
     let most = number::lesser(input.len() / 4, plan::WORD_LIMIT);
     let mut i = 0;
     while i < most {
-        if number::kind_of(word_at(input, i)) == 6 {
+        if number::kind_of(word_at(input, i)) == plan_reader::END_KIND {
             return i + 1;
         }
         i += 1;

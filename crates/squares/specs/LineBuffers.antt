@@ -17,6 +17,7 @@ use Rattle.buffer.specs.Written.{written}
 use Rattle.filter.specs.declared.FilterWords.{FilterWords}
 use Rattle.filter.specs.declared.Window.{Window}
 use Rattle.squares.specs.LinePasses.{axisPasses}
+use Rattle.plan.specs.Sizes.{orderSumLimit}
 
 -- The words of a row: the longest line, and a history at both ends.
 abbrev pub rowWords : ℕ
@@ -24,7 +25,7 @@ rowWords = paddedLine
 
 -- The rows of a buffer: one for each place of the histories of four passes.
 abbrev pub lineRows : ℕ
-lineRows = 4 * orderLimit
+lineRows = orderSumLimit
 
 -- The words of a buffer.
 abbrev pub lineWords : ℕ

@@ -19,7 +19,7 @@ ghost use Rattle.squares.specs.Rows.{LinesPassed};
 pub const ROW: usize = plan::PADDED_LINE;
 
 // The words of a buffer of lines: a row for each place of the histories of four passes.
-pub const LINES: usize = 4 * plan::ORDER_LIMIT * ROW;
+pub const LINES: usize = plan::ORDER_SUM_LIMIT * ROW;
 
 // The index, from the start of a margin of ORDER_LIMIT places on, of the place at a distance past an extent, on the side
 // where a pass comes from.

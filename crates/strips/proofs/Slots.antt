@@ -7,12 +7,11 @@ use Rattle.plan.specs.declared.Plan.{Plan}
 use Rattle.plan.specs.Rules.{keepsRules}
 use Rattle.plan.specs.Sizes.{orderSum, neededMarks}
 use Rattle.plan.proofs.Needed.{bounds}
-use Rattle.task_words.specs.Strips.{slotWords, slotStart, stripStart}
+use Rattle.task_words.specs.Strips.{slotStart, stripStart}
 use Rattle.task_words.proofs.Strips.{slot-in-list, strip-in-list}
 
 -- What the arithmetic on the start of a strip wants.
 pub record StartFits (plan : Plan) (k pass : ℕ) : Type 0 where
-  pub slot-high : slotWords plan < 2 ^ 63
   pub slot-start-high : slotStart plan k < 2 ^ 63
   pub before-high : plan .grid .side * orderSum plan pass < 2 ^ 63
   pub start-high : stripStart plan k pass < 2 ^ 63
@@ -24,7 +23,6 @@ start-fits plan k pass kept here h =
     let slot = slot-in-list plan k here in
     let strip = strip-in-list plan k pass here h in
     record {
-      slot-high = omega arith;
       slot-start-high = omega arith;
       before-high = omega arith;
       start-high = omega arith;

@@ -34,9 +34,7 @@ pub fn strip_start(plan: Plan, k: usize, pass: usize) -> usize
     requires { ⌜ StripAt plan k pass ⌝ }
     ensures { λ r. ⌜ r ≡ stripStart plan k pass ⌝ }
 {
-    let side = plan.grid.side;
-    let slot = side * plan.order_sum(4);
-    k * slot + side * plan.order_sum(pass)
+    k * plan.slot_words() + plan.grid.side * plan.order_sum(pass)
 }
 
 // A strip of `lines` lines, in a block of `extent` places along the pass: its last places where the pass runs forward, its

@@ -1,21 +1,21 @@
 -- Strips in the list of strips: they lie apart, a strip reads as it was written, and no other word changes.
 -- Assumes nothing.
-use mathlib.Core.Path.{_≡_, refl, ap₂, sym, _∙_}
+use mathlib.Core.Path.{_≡_, refl, ap, ap₂, sym, _∙_}
 use mathlib.Core.List.{List}
 use mathlib.Core.Logic.{_≢_, ⊎-elim}
-use Prim.Native.Nat.{ℕ, zero, suc, _+_, _*_, _≤_, _<_}
-use native.Mathlib.Nat.{mul-assoc, mul-le-mul-left, mul-le-mul-right, eq-or-lt-of-le}
+use Prim.Native.Nat.{ℕ, zero, suc, _+_, _*_, _/_, _%_, _≤_, _<_}
+use native.Mathlib.Nat.{mul-le-mul-left, mul-le-mul-right, eq-or-lt-of-le, div-add-mod'}
 use native.Mathlib.Numerals.{add-one}
 use native.Mathlib.Omega.{arith}
 use lib.ListN.{length}
 use Rattle.buffer.specs.Written.{rowWritten}
 use Rattle.plan.specs.declared.Plan.{Plan}
-use Rattle.plan.specs.Sizes.{orderSum, neededMarks, neededStrips, orderOf}
+use Rattle.plan.specs.Sizes.{orderSum, neededMarks, slotWords, neededStrips, orderOf}
 use Rattle.buffer.specs.Lists.{wordAt}
 use Rattle.number.proofs.Sums.{total-grows}
 use Rattle.number.proofs.Tests.{lt-or-ge}
 use Rattle.axis.specs.Axis.{Axis, columns, rows, axisOf}
-use Rattle.task_words.specs.Strips.{slotWords, slotStart, stripWords, stripStart, placeInStrip, lineInStrip, placeInLine, stripPlace, stripWrittenTo, stripWritten, slotWritten}
+use Rattle.task_words.specs.Strips.{slotStart, stripWords, stripStart, placeInStrip, stripPlace, laidInRows, stripWrittenTo, stripWritten, slotWritten}
 use Rattle.buffer.proofs.Written.{written-length, written-same, written-other, written-at}
 use Rattle.number.proofs.RowMajor.{row-of, column-of, place-below, row-below, column-below}
 
@@ -27,28 +27,42 @@ HoldsStrip plan strips k pass words =
 
 -- ---- inside a strip
 
+-- Word q of the strip of a pass is the word at a line and a place.
+pub record StripCell (a : Axis) (side order q : ℕ) : Type 0 where
+  pub line : ℕ
+  pub place : ℕ
+  pub in-lines : line < side
+  pub in-places : place < order
+  pub stands : placeInStrip a side order line place ≡ q
+
 module _ (b r : ℕ) where
-  pub line-of-place : (a : Axis) (line place : ℕ) → line < b → place < r
-      → lineInStrip a b r (placeInStrip a b r line place) ≡ line
-  line-of-place columns line place p q = column-of b place line p
-  line-of-place rows line place p q = row-of r line place q
-
-  pub place-of-place : (a : Axis) (line place : ℕ) → line < b → place < r
-      → placeInLine a b r (placeInStrip a b r line place) ≡ place
-  place-of-place columns line place p q = row-of b place line p
-  place-of-place rows line place p q = column-of r line place q
-
   pub in-strip : (a : Axis) (line place : ℕ) → line < b → place < r → placeInStrip a b r line place < b * r
   in-strip columns line place p q = let e : place * b + line < r * b = place-below r b place line q p in omega arith
   in-strip rows line place p q = place-below b r line place p q
 
-  pub line-below : (a : Axis) (q : ℕ) → q < b * r → lineInStrip a b r q < b
-  line-below columns q h = column-below r b q (omega arith)
-  line-below rows q h = row-below b r q h
+  pub cell-of : (a : Axis) (q : ℕ) → q < b * r → StripCell a b r q
+  cell-of columns q h =
+      record {
+        line = q % b;
+        place = q / b;
+        in-lines = column-below r b q (omega arith);
+        in-places = row-below r b q (omega arith);
+        stands = div-add-mod' q b;
+      }
+  cell-of rows q h =
+      record {
+        line = q / r;
+        place = q % r;
+        in-lines = row-below b r q h;
+        in-places = column-below b r q h;
+        stands = div-add-mod' q r;
+      }
 
-  pub line-place-below : (a : Axis) (q : ℕ) → q < b * r → placeInLine a b r q < r
-  line-place-below columns q h = row-below r b q (omega arith)
-  line-place-below rows q h = column-below b r q h
+  -- The word laid at a line and a place is theirs.
+  pub word-laid : (a : Axis) (words : ℕ → ℕ → ℕ) (line place : ℕ) → line < b → place < r
+      → laidInRows a b r words (placeInStrip a b r line place) ≡ words line place
+  word-laid columns words line place p q = ap₂ words (column-of b place line p) (row-of b place line p)
+  word-laid rows words line place p q = ap₂ words (row-of r line place q) (column-of r line place q)
 
 -- ---- strips of a slot, slots of the list
 
@@ -59,14 +73,10 @@ module _ (plan : Plan) where
       mul-le-mul-left (plan .grid .side) (total-grows (orderOf plan) pass 4 h) in
       omega arith
 
-  pub needed-slots : neededStrips plan ≡ neededMarks plan * slotWords plan
-  needed-slots = mul-assoc (neededMarks plan) (plan .grid .side) (orderSum plan 4)
-
   pub slot-in-list : (k : ℕ) → k < neededMarks plan → slotStart plan k + slotWords plan ≤ neededStrips plan
   slot-in-list k h =
-      rw needed-slots
-      (let e : suc k * slotWords plan ≤ neededMarks plan * slotWords plan = mul-le-mul-right (slotWords plan) h in
-      omega arith)
+      let e : suc k * slotWords plan ≤ neededMarks plan * slotWords plan = mul-le-mul-right (slotWords plan) h in
+      omega arith
 
   pub strip-in-list : (k pass : ℕ) → k < neededMarks plan → pass < 4
       → stripStart plan k pass + stripWords plan pass ≤ neededStrips plan
@@ -122,8 +132,7 @@ module _ (plan : Plan) (k pass : ℕ) (words : ℕ → ℕ → ℕ) where
       written-at (λ q. stripStart plan k pass + q) _ (stripWords plan pass) strips
       (λ i j c d e. omega arith) (λ i c. omega (arith, strip-in-list plan k pass h p)) _
       (in-strip (plan .grid .side) (orderOf plan pass) (axisOf pass) line place a b)
-      ∙ ap₂ words (line-of-place (plan .grid .side) (orderOf plan pass) (axisOf pass) line place a b)
-      (place-of-place (plan .grid .side) (orderOf plan pass) (axisOf pass) line place a b)
+      ∙ word-laid (plan .grid .side) (orderOf plan pass) (axisOf pass) words line place a b
 
   -- Another strip is as it was,
   pub strip-other : (strips : List ℕ) (j v line place : ℕ) → pass < 4 → v < 4 → (k ≡ j → pass ≡ v → ⊥)
@@ -153,8 +162,15 @@ unfolding stripWrittenTo rowWritten
 strip-same-words plan k pass words other strips e =
     written-same _ _ _ _ (stripWords plan pass) strips (λ q h. refl)
     (λ q h.
-    e _ _ (line-below (plan .grid .side) (orderOf plan pass) (axisOf pass) q h)
-    (line-place-below (plan .grid .side) (orderOf plan pass) (axisOf pass) q h))
+    let a = axisOf pass in
+    let b = plan .grid .side in
+    let r = orderOf plan pass in
+    let c = cell-of b r a q h in
+    ap (laidInRows a b r words) (sym (c .stands))
+    ∙ word-laid b r a words (c .line) (c .place) (c .in-lines) (c .in-places)
+    ∙ e (c .line) (c .place) (c .in-lines) (c .in-places)
+    ∙ sym (word-laid b r a other (c .line) (c .place) (c .in-lines) (c .in-places))
+    ∙ ap (laidInRows a b r other) (c .stands))
 
 -- ---- writing the strips of a slot
 

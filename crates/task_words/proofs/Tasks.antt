@@ -11,14 +11,14 @@ use lib.ListN.{length}
 use Rattle.word.specs.Word.{_⊕_}
 use Rattle.word.proofs.Ring.{zero-add}
 use Rattle.plan.specs.declared.Plan.{Plan}
-use Rattle.plan.specs.Sizes.{neededMarks, neededStrips, neededPixels, orderOf}
+use Rattle.plan.specs.Sizes.{neededMarks, slotWords, neededStrips, neededPixels, orderOf}
 use Rattle.buffer.specs.Lists.{wordAt}
 use Rattle.axis.specs.Axis.{Axis, columns, rows, axisOf, along, across, lineOf}
 use Rattle.passes.proofs.Blocks.{passesOver-part}
 use Rattle.passes.proofs.Link.{link-true}
 use Rattle.filter.specs.PlanFilters.{filterOf, filtersOf, serialResult}
 use Rattle.grid.specs.Grid.{rowsOf, columnsOf, blockPixelPlace, partOf, goesOn}
-use Rattle.task_words.specs.Strips.{slotWords, slotStart, stripPlace, insideBlock, edgeWord, pastEdges}
+use Rattle.task_words.specs.Strips.{slotStart, stripPlace, insideBlock, edgeWord, pastEdges}
 use Rattle.task_words.specs.Writes.{blockPasses, aloneWord, collected, linkWord, linked, finishWord, finished}
 use Rattle.task_words.specs.Matching.{matchingWord}
 use Rattle.task_words.proofs.Places.{SideFits, placeOf}

@@ -1,16 +1,15 @@
 -- Three jobs of our own, worked by hand by document 01's rules, word by word: the strips once all blocks are collected, the strips
 -- once all links are done, and the output. A last block is short in the first two, and down and right meet in the third.
 use mathlib.Core.List.{List, [], _∷_, _++_, map}
-use Prim.Native.Nat.{ℕ, zero, suc, _-_}
+use Prim.Native.Nat.{ℕ, zero, suc}
 use lib.IntN.{ℤ, pos}
-use lib.ListN.{length, replicate}
+use lib.ListN.{replicate}
 use Rattle.word.specs.Word.{residue}
 use Rattle.plan.specs.declared.Pass.{Pass}
 use Rattle.plan.specs.declared.Plan.{Plan}
-use Rattle.plan.specs.Rules.{orderLimit}
 use Rattle.plan.specs.Sizes.{neededMarks, neededStrips, neededPixels}
 use Rattle.passes.specs.Examples.{Example, minus}
-use Rattle.filter.specs.PlanFilters.{mapOf}
+use Rattle.filter.specs.PlanFilters.{passOf, unchangedPass, summedAreaPasses, mapOf}
 use Rattle.task_words.specs.Writes.{collected, linked, finished}
 
 -- ---- a job
@@ -71,19 +70,6 @@ jobExamples job =
 
 -- ---- passes
 
--- A pass with a gain and the coefficients d1 to dr.
-abbrev pub passOf : ℤ → List ℤ → Pass
-passOf gain coefficients =
-    record {
-      order = length coefficients;
-      gain = gain;
-      coefficients = coefficients ++ replicate (orderLimit - length coefficients) (pos 0);
-    }
-
--- Order 0, gain 1.
-abbrev pub unchanged : Pass
-unchanged = passOf (pos 1) []
-
 -- Gain 1, d1 = 1, d2 = 2.
 abbrev forth : Pass
 forth = passOf (pos 1) (pos 1 ∷ pos 2 ∷ [])
@@ -91,10 +77,6 @@ forth = passOf (pos 1) (pos 1 ∷ pos 2 ∷ [])
 -- Gain 2, d1 = -1, d2 = 3.
 abbrev back : Pass
 back = passOf (pos 2) (minus 1 ∷ pos 3 ∷ [])
-
--- Gain 1, d1 = -1.
-abbrev pub runningSum : Pass
-runningSum = passOf (pos 1) (minus 1 ∷ [])
 
 -- So many zeros.
 abbrev pub zeros : ℕ → List ℤ
@@ -107,7 +89,7 @@ abbrev pub columnJob : WorkedJob
 columnJob =
     record {
       plan =
-          record { grid = record { rows = 4; columns = 1; side = 3 }; passes = forth ∷ back ∷ unchanged ∷ unchanged ∷ [] };
+          record { grid = record { rows = 4; columns = 1; side = 3 }; passes = forth ∷ back ∷ unchangedPass ∷ unchangedPass ∷ [] };
       heights = pos 1 ∷ pos 0 ∷ pos 2 ∷ pos 1 ∷ [];
       links = record { block = 0; pass = 0 } ∷ record { block = 1; pass = 1 } ∷ [];
       stripsCollected =
@@ -123,7 +105,7 @@ abbrev pub rowJob : WorkedJob
 rowJob =
     record {
       plan =
-          record { grid = record { rows = 2; columns = 4; side = 3 }; passes = unchanged ∷ unchanged ∷ forth ∷ back ∷ [] };
+          record { grid = record { rows = 2; columns = 4; side = 3 }; passes = unchangedPass ∷ unchangedPass ∷ forth ∷ back ∷ [] };
       heights = pos 1 ∷ pos 0 ∷ pos 2 ∷ pos 1 ∷ pos 0 ∷ pos 1 ∷ pos 1 ∷ pos 3 ∷ [];
       links = record { block = 0; pass = 2 } ∷ record { block = 1; pass = 3 } ∷ [];
       stripsCollected =
@@ -140,7 +122,7 @@ tableJob =
       plan =
           record {
             grid = record { rows = 2; columns = 2; side = 1 };
-            passes = runningSum ∷ unchanged ∷ runningSum ∷ unchanged ∷ [];
+            passes = summedAreaPasses;
           };
       heights = pos 1 ∷ pos 2 ∷ pos 3 ∷ pos 4 ∷ [];
       links =

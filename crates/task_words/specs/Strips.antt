@@ -2,20 +2,17 @@
 -- or rows (right, left), and in each line as many places as the order. Places stand in map order.
 use mathlib.Core.Bool.{Bool, _&&_, cond}
 use mathlib.Core.List.{List}
-use Prim.Native.Nat.{ℕ, zero, suc, _+_, _-_, _*_, _/_, _%_}
+use Prim.Native.Nat.{ℕ, zero, suc, _+_, _-_, _*_}
 use lib.Dec.{ltb, leb}
+use Rattle.number.specs.Numbers.{rowMajor}
 use Rattle.plan.specs.declared.Plan.{Plan}
-use Rattle.plan.specs.Sizes.{orderOf, orderSum}
-use Rattle.buffer.specs.Lists.{wordAt}
-use Rattle.axis.specs.Axis.{Axis, columns, rows, Direction, forward, backward, axisOf, directionOf, lineOf}
+use Rattle.plan.specs.Sizes.{orderOf, orderSum, slotWords}
+use Rattle.buffer.specs.Lists.{wordAt, byPlace}
+use Rattle.axis.specs.Axis.{Axis, Direction, forward, backward, axisOf, directionOf, along, across, lineOf}
 use Rattle.buffer.specs.Written.{rowWritten}
 use Rattle.grid.specs.Grid.{neighbour, orZero, extentAlong, linesAcross}
 
 -- ---- where a strip lies
-
--- The words of a slot: b×R, R the sum of the four orders.
-abbrev pub slotWords : Plan → ℕ
-slotWords plan = plan .grid .side * orderSum plan 4
 
 -- The first word of the slot of block k: k×b×R.
 abbrev pub slotStart : Plan → ℕ → ℕ
@@ -29,20 +26,14 @@ stripWords plan pass = plan .grid .side * orderOf plan pass
 abbrev pub stripStart : Plan → ℕ → ℕ → ℕ
 stripStart plan k pass = slotStart plan k + plan .grid .side * orderSum plan pass
 
--- The word of a strip at a line and a place: rows of b words (down, up), or b rows of `order` words (right, left).
+-- The words of a row of a strip: b (down, up), or as many as the order (right, left).
+abbrev pub stripWidth : Axis → (side order : ℕ) → ℕ
+stripWidth a side order = across a order side
+
+-- The word of a strip at a line and a place: the strip is rows of b words (down, up), or b rows of `order` words
+-- (right, left), one after another.
 abbrev pub placeInStrip : Axis → (side order line place : ℕ) → ℕ
-placeInStrip columns side order line place = place * side + line
-placeInStrip rows side order line place = line * order + place
-
--- The line that word q of a strip belongs to,
-abbrev pub lineInStrip : Axis → (side order q : ℕ) → ℕ
-lineInStrip columns side order q = q % side
-lineInStrip rows side order q = q / order
-
--- and its place in that line.
-abbrev pub placeInLine : Axis → (side order q : ℕ) → ℕ
-placeInLine columns side order q = q / side
-placeInLine rows side order q = q % order
+placeInStrip a side order line place = lineOf a (rowMajor (stripWidth a side order)) line place
 
 -- Where a line and a place of block k's strip of a pass stand in the list of strips.
 unfoldable pub stripPlace : Plan → ℕ → ℕ → ℕ → ℕ → ℕ
@@ -106,15 +97,15 @@ pastEdges plan strips k pass line distance =
 
 -- ---- writing a strip
 
--- The strips after the first n words of block k's strip of a pass have been replaced, in the order of their addresses;
--- `words` gives the word for a line and a place.
+-- The words of a strip in the order of their addresses, row after row; `words` gives the word for a line and a place.
+abbrev pub laidInRows : Axis → (side order : ℕ) → (words : ℕ → ℕ → ℕ) → ℕ → ℕ
+laidInRows a side order words =
+    byPlace (stripWidth a side order) (λ row column. words (across a row column) (along a row column))
+
+-- The strips after the first n words of block k's strip of a pass have been replaced, in the order of their addresses.
 unfoldable pub stripWrittenTo : Plan → ℕ → ℕ → (ℕ → ℕ → ℕ) → ℕ → List ℕ → List ℕ
 stripWrittenTo plan k pass words n strips =
-    rowWritten (stripStart plan k pass)
-    (λ q.
-    words (lineInStrip (axisOf pass) (plan .grid .side) (orderOf plan pass) q)
-    (placeInLine (axisOf pass) (plan .grid .side) (orderOf plan pass) q))
-    n strips
+    rowWritten (stripStart plan k pass) (laidInRows (axisOf pass) (plan .grid .side) (orderOf plan pass) words) n strips
 
 -- The strips with block k's strip of a pass replaced whole.
 abbrev pub stripWritten : Plan → ℕ → ℕ → (ℕ → ℕ → ℕ) → List ℕ → List ℕ

@@ -1,28 +1,37 @@
--- What the marks say to a call: the least broken mark among those looked at, pass by pass; and on marks that show what is done
--- the answer is the one by what is done, accepted exactly where the task is ready. Assumes nothing.
-use mathlib.Core.Path.{_≡_, refl, sym, _∙_}
+-- What the marks say to a call: the least broken mark, block by block among all and pass by pass among those that a
+-- task looks at; and on marks that show what is done the answer is the one by what is done, accepted exactly where the
+-- task is ready. Assumes nothing.
+use mathlib.Core.Path.{_≡_, refl, sym, ap, _∙_}
 use mathlib.Core.Bool.{Bool, true, false, not, _&&_, cond, true≢false}
 use mathlib.Core.List.{List, [], _∷_, _++_}
 use mathlib.Core.Option.{Option, none, some}
+use mathlib.Core.Logic.{⊎-elim}
 use Prim.Native.Nat.{ℕ, zero, suc, _+_, _^_, _<_, _≤_, min}
 use native.Mathlib.Omega.{arith}
+use native.Mathlib.Nat.{eq-or-lt-of-le}
 use native.Mathlib.Numerals.{add-one}
 use lib.ListN.{getD}
 use borrow.Author.Tests.{le-ltb, ltb-false, not-false}
 use Rattle.refusal.specs.Refusals.{Answer, accepted}
 use Rattle.refusal.specs.Table.{_at_when_, firstDue}
 use Rattle.refusal.proofs.Table.{not-due}
+use Rattle.buffer.specs.Lists.{listOf}
 use Rattle.grid.specs.declared.Grid.{Grid}
 use Rattle.grid.specs.Grid.{blockTotal, neighbour}
 use Rattle.grid.proofs.Neighbours.{neighbour-below}
 use Rattle.tasks.specs.Tasks.{exists, BlockTask, needsOf, allDone, ready}
 use Rattle.tasks.specs.Marks.{isMarked, markValidAt, Shows}
-use Rattle.tasks.specs.Verdict.{blocksOf, lookedAt, brokenAt, leastBrokenOf, leastBroken, verdictRows, doneRows}
+use Rattle.tasks.specs.Verdict.{blocksOf, lookedAt, allBlocks, brokenAt, leastBrokenOf, leastBroken, verdictRows, doneRows}
 use Rattle.tasks.specs.Neighbours.{brokenIn, brokenBeside}
 use Rattle.tasks.proofs.Existence.{exists-block, exists-task}
 use Rattle.tasks.proofs.Needs.{needAt, linkNeeds, needs-are, needs-collect, needs-same}
 use Rattle.tasks.proofs.Counting.{Only}
 use Rattle.tasks.proofs.Marking.{Valid, valid-room, shows-marked, shows-valid}
+
+blocks-append : (xs ys : List BlockTask) → blocksOf (xs ++ ys) ≡ blocksOf xs ++ blocksOf ys
+unfolding blocksOf
+blocks-append [] ys = refl
+blocks-append (x ∷ xs) ys = rw (blocks-append xs ys)
 
 module _ (grid : Grid) (marks : List ℕ) where
   least-most : (ks : List ℕ) → leastBrokenOf grid marks ks ≤ blockTotal grid
@@ -30,11 +39,10 @@ module _ (grid : Grid) (marks : List ℕ) where
   least-most [] = omega arith
   least-most (k ∷ ks) = omega (arith, least-most ks)
 
-  least-append : (xs ys : List BlockTask)
-      → leastBrokenOf grid marks (blocksOf (xs ++ ys))
-      ≡ min (leastBrokenOf grid marks (blocksOf xs)) (leastBrokenOf grid marks (blocksOf ys))
-  unfolding leastBrokenOf blocksOf
-  least-append [] ys = omega (arith, least-most (blocksOf ys))
+  least-append : (xs ys : List ℕ)
+      → leastBrokenOf grid marks (xs ++ ys) ≡ min (leastBrokenOf grid marks xs) (leastBrokenOf grid marks ys)
+  unfolding leastBrokenOf
+  least-append [] ys = omega (arith, least-most ys)
   least-append (x ∷ xs) ys = omega (arith, least-append xs ys)
 
   broken-most : (k : ℕ) → k < blockTotal grid → brokenAt grid marks k ≤ blockTotal grid
@@ -43,6 +51,56 @@ module _ (grid : Grid) (marks : List ℕ) where
       by : (valid : Bool) → cond valid (blockTotal grid) k ≤ blockTotal grid
       by true = omega arith
       by false = omega arith
+
+  -- The least broken of the first n blocks.
+  pub leastBelow : ℕ → ℕ
+  leastBelow n = leastBrokenOf grid marks (listOf (λ k. k) n)
+
+  pub below-none : leastBelow 0 ≡ blockTotal grid
+  unfolding leastBelow leastBrokenOf listOf
+  below-none = refl
+
+  pub below-all : leastBelow (blockTotal grid) ≡ leastBrokenOf grid marks (allBlocks grid)
+  unfolding leastBelow allBlocks
+  below-all = refl
+
+  below-more : (k : ℕ) → k < blockTotal grid → leastBelow (suc k) ≡ min (leastBelow k) (brokenAt grid marks k)
+  unfolding leastBelow leastBrokenOf listOf
+  below-more k h = least-append (listOf (λ j. j) k) (k ∷ []) ∙ omega (arith, broken-most k h)
+
+  -- While none is broken, one more that passes the test leaves it so.
+  pub below-valid : (k : ℕ) → k < blockTotal grid → leastBelow k ≡ blockTotal grid → markValidAt grid marks k ≡ true
+      → leastBelow (k + 1) ≡ blockTotal grid
+  below-valid k h whole valid = rw (add-one k, below-more k h, whole, valid) (omega arith)
+
+  -- Where all marks pass the test, none of all blocks is broken.
+  pub all-valid : Valid grid marks → leastBrokenOf grid marks (allBlocks grid) ≡ blockTotal grid
+  all-valid valid = sym below-all ∙ upto (blockTotal grid) (omega arith)
+    where
+      upto : (n : ℕ) → n ≤ blockTotal grid → leastBelow n ≡ blockTotal grid
+      upto zero l = below-none
+      upto (suc n) l =
+          sym (ap leastBelow (add-one n))
+          ∙ below-valid n (omega arith) (upto n (omega arith)) (valid n (omega arith))
+
+  -- The first broken of all blocks is the least.
+  pub first-least : (k : ℕ) → k < blockTotal grid → leastBelow k ≡ blockTotal grid → markValidAt grid marks k ≡ false
+      → k ≡ leastBrokenOf grid marks (allBlocks grid)
+  first-least k h whole broken = sym (upto (blockTotal grid) h (omega arith)) ∙ below-all
+    where
+      later : (j : ℕ) → k ≤ j → k ≤ brokenAt grid marks j
+      later j l = by (markValidAt grid marks j)
+        where
+          by : (valid : Bool) → k ≤ cond valid (blockTotal grid) j
+          by true = omega arith
+          by false = omega arith
+
+      upto : (n : ℕ) → k < n → n ≤ blockTotal grid → leastBelow n ≡ k
+      upto zero l m = absurd (omega arith)
+      upto (suc n) l m =
+          below-more n (omega arith)
+          ∙ ⊎-elim (λ (e : k ≡ n). rw (← e, whole, broken) (omega arith))
+          (λ (i : k < n). omega (arith, upto n i (omega arith), later n (omega arith))) (eq-or-lt-of-le (omega arith))
 
   -- The look at the neighbour of a pass,
   module _ (k pass : ℕ) where
@@ -88,7 +146,11 @@ module _ (grid : Grid) (marks : List ℕ) where
     unfolding leastAround linkNeeds leastBrokenOf blocksOf
     around-links zero = omega (arith, broken-most k h)
     around-links (suc pass) =
-        rw (least-append (linkNeeds grid k pass) (needAt pass (neighbour grid k pass)), least-beside k pass h)
+        rw (
+          blocks-append (linkNeeds grid k pass) (needAt pass (neighbour grid k pass)),
+          least-append (blocksOf (linkNeeds grid k pass)) (blocksOf (needAt pass (neighbour grid k pass))),
+          least-beside k pass h,
+        )
         (omega (arith, around-links pass))
 
     -- The marks looked at are the block's own and those of its neighbours for the passes that the task needs.

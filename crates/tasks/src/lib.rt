@@ -23,7 +23,10 @@ ghost use Rattle.tasks.specs.Lent.{Lent, LentAt};
 // Tasks 0 to 5: collect, the links down, up, right and left, finish.
 pub const TASKS: usize = 6;
 
-// The kind of a mark, and the mark of a block with no task done. `markKind` of specs/Marks.antt is the same number.
+// The payload of a mark is below it: bits 0 to 5 are the tasks', those above are spare.
+const TASK_BITS_LIMIT: u32 = 1 << TASKS;
+
+// The kind of a mark, `markKind` of specs/Marks.antt, and the mark of a block with no task done.
 const MARK_KIND: u32 = 7;
 
 pub const UNMARKED: u32 = MARK_KIND * number::PAYLOAD_LIMIT;
@@ -79,7 +82,7 @@ pub fn mark_valid(grid: Grid, block: usize, mark: u32) -> bool
     if number::kind_of(mark) != MARK_KIND {
         return false;
     }
-    if number::payload_of(mark) >= 64 {
+    if number::payload_of(mark) >= TASK_BITS_LIMIT {
         return false;
     }
     spares_clear(grid, grid.position(block), mark)

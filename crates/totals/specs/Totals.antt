@@ -11,7 +11,8 @@ use Rattle.plan.specs.Sizes.{neededPixels, taskCount}
 use Rattle.tasks.specs.Tasks.{BlockTask}
 use Rattle.job_spec.specs.Calls.{Buffers, startAnswer, started, afterCalls}
 use Rattle.job_spec.specs.Demand3.{countAfter}
-use Rattle.rectangle.specs.Heights.{summedAreaPasses, SumsOver}
+use Rattle.rectangle.specs.Heights.{SumsOver}
+use Rattle.filter.specs.PlanFilters.{summedAreaPasses}
 
 -- Calls that make a whole job: start accepts the plan with the lent marks and strips, map and output have h×w words,
 -- and after the calls, whatever they are and in whatever order, all 6MN - 2M - 2N tasks are done.

@@ -13,11 +13,11 @@ use Rattle.plan.specs.Sizes.{neededMarks, neededStrips, neededPixels}
 use Rattle.plan_reader.specs.ReadPlan.{readPlan}
 use Rattle.passes.specs.Examples.{Example, minus}
 use Rattle.serial.specs.Serial.{serialOutput}
-use Rattle.rectangle.specs.Heights.{summedAreaPasses}
 use Rattle.rectangle.specs.Rectangle.{rectangleCall}
 use Rattle.tasks.specs.Tasks.{BlockTask}
-use Rattle.task_words.specs.Examples.{WorkedJob, passOf, unchanged, runningSum, columnJob, rowJob}
+use Rattle.task_words.specs.Examples.{WorkedJob, columnJob, rowJob}
 use Rattle.job_spec.specs.Calls.{Buffers, started, afterCalls}
+use Rattle.filter.specs.PlanFilters.{summedAreaPasses, passOf, unchangedPass, runningSumPass}
 
 -- ---- plan words
 
@@ -142,7 +142,7 @@ jobExamples job forth back =
 
 -- Three rows and one column in two blocks, b = 2.
 abbrev columnPlan : Plan
-columnPlan = record { grid = record { rows = 3; columns = 1; side = 2 }; passes = down ∷ up ∷ unchanged ∷ unchanged ∷ [] }
+columnPlan = record { grid = record { rows = 3; columns = 1; side = 2 }; passes = down ∷ up ∷ unchangedPass ∷ unchangedPass ∷ [] }
 
 -- ---- the list
 
@@ -153,14 +153,14 @@ starred =
     ∷ rectangleExample 0 1 2 3 0 0 16
     ∷ rectangleExample 1 0 2 1 0 0 4
     ∷ rectangleExample 0 0 0 3 12 0 0
-    ∷ serialExample (planOf 3 1 down unchanged unchanged unchanged) oneThenZeros (pos 6 ∷ minus 12 ∷ pos 24 ∷ [])
-    ∷ serialExample (planOf 3 1 down up unchanged unchanged) oneThenZeros (minus 126 ∷ pos 60 ∷ minus 24 ∷ [])
+    ∷ serialExample (planOf 3 1 down unchangedPass unchangedPass unchangedPass) oneThenZeros (pos 6 ∷ minus 12 ∷ pos 24 ∷ [])
+    ∷ serialExample (planOf 3 1 down up unchangedPass unchangedPass) oneThenZeros (minus 126 ∷ pos 60 ∷ minus 24 ∷ [])
     ∷ outputExample columnPlan oneThenZeros (twoBlocks 1 2) (minus 126 ∷ pos 60 ∷ minus 24 ∷ [])
-    ∷ serialExample (planOf 1 3 unchanged unchanged runningSum runningSum) oneThenZeros (pos 3 ∷ pos 2 ∷ pos 1 ∷ [])
-    ∷ serialExample (planOf 1 1 unchanged unchanged unchanged unchanged) (minus 1 ∷ []) (pos 18446744073709551615 ∷ [])
+    ∷ serialExample (planOf 1 3 unchangedPass unchangedPass runningSumPass runningSumPass) oneThenZeros (pos 3 ∷ pos 2 ∷ pos 1 ∷ [])
+    ∷ serialExample (planOf 1 1 unchangedPass unchangedPass unchangedPass unchangedPass) (minus 1 ∷ []) (pos 18446744073709551615 ∷ [])
     ∷ serialExample (planOf 1 1 (gainAlone (pos 65536)) (gainAlone (pos 65536)) (gainAlone (pos 65536)) (gainAlone (pos 65536)))
     (pos 1 ∷ []) (pos 0 ∷ [])
-    ∷ serialExample (planOf 1 1 (gainAlone (minus 134217728)) unchanged unchanged unchanged) (minus 2147483648 ∷ [])
+    ∷ serialExample (planOf 1 1 (gainAlone (minus 134217728)) unchangedPass unchangedPass unchangedPass) (minus 2147483648 ∷ [])
     (pos 288230376151711744 ∷ [])
     ∷ readingExample (planWords 0x20000004 0x30000004 fourCoefficients) (0 ∷ 0 ∷ [])
     ∷ readingExample (planWords 0x20000003 0x30000004 fourCoefficients) (4 ∷ 1 ∷ [])

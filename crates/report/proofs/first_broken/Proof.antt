@@ -1,18 +1,18 @@
--- Invariant: what is left of the search from this block on is the whole search.
+-- Invariant: none of the blocks before this one is broken.
 use mathlib.Core.Path.{_∙_, _≡_, ap, sym}
 use Prim.Native.Nat.{_-_, _≤_}
 use native.Mathlib.Omega.{arith}
 use borrow.Author.Needs.{needs}
 use Rattle.number.proofs.Tests.{failed, passed}
-use Rattle.report.proofs.Search.{least-end, least-fail, least-pass}
-use Rattle.report.specs.Report.{firstBroken, leastFailing}
-use Rattle.tasks.specs.Marks.{markValidAt}
+use Rattle.grid.specs.Grid.{blockTotal}
+use Rattle.tasks.proofs.Verdicts.{leastBelow, below-none, below-valid, below-all, first-least}
+use Rattle.report.specs.Report.{firstBroken}
 use Rattle.report.proofs.first_broken.Statement.{statement}
 use Rattle.report.proofs.first_broken.Tie as tie
 
 abbrev Inv-loop : tie.InvT-loop
 Inv-loop grid marks blocks block₀ block =
-    (block ≤ blocks) × (firstBroken grid marks ≡ leastFailing (markValidAt grid marks) block (blocks - block))
+    (block ≤ blocks) × (leastBelow grid marks block ≡ blockTotal grid)
 
 abbrev μ-loop : tie.MeasureT-loop
 μ-loop grid marks blocks block₀ block = blocks - block
@@ -21,8 +21,7 @@ blocks-requires : tie.Need-blocks-requires Inv-loop μ-loop
 blocks-requires c κs = search needs
 
 loop-holds : tie.Need-loop-holds Inv-loop μ-loop
-unfolding firstBroken
-loop-holds c = (omega arith, ap (leastFailing _ 0) (omega arith))
+loop-holds c = (omega arith, below-none _ _)
 
 mul-mark : tie.Need-mul-mark Inv-loop μ-loop
 mul-mark c = search needs
@@ -34,10 +33,11 @@ mark-valid-requires : tie.Need-mark-valid-requires Inv-loop μ-loop
 mark-valid-requires c κs = search needs
 
 returns : tie.Need-returns Inv-loop μ-loop
+unfolding firstBroken
 returns c =
-    sym
-    (c .before .before .before .before .loop .inv .1
-    ∙ least-fail _ _ _ (omega arith) (failed (c .before .mark-valid .ensures) (c .if1 .taken)))
+    let begun = c .before .before .before .before in
+    first-least _ _ _ (omega (arith, begun .before .blocks2 .ensures)) (begun .loop .inv .1)
+    (failed (c .before .mark-valid .ensures) (c .if1 .taken))
 
 add-block : tie.Need-add-block Inv-loop μ-loop
 add-block c = search needs
@@ -46,14 +46,20 @@ loop-less : tie.Need-loop-less Inv-loop μ-loop
 loop-less c = search needs
 
 loop-again : tie.Need-loop-again Inv-loop μ-loop
-loop-again c = (
-  omega arith,
-  c .before .before .before .before .loop .inv .1
-      ∙ least-pass _ _ _ (omega arith) (passed (c .before .mark-valid .ensures) (c .if1 .left)),
-)
+loop-again c =
+    let begun = c .before .before .before .before in (
+      omega arith,
+      below-valid _ _ _ (omega (arith, begun .before .blocks2 .ensures)) (begun .loop .inv .1)
+          (passed (c .before .mark-valid .ensures) (c .if1 .left)),
+    )
 
 returns-2 : tie.Need-returns-2 Inv-loop μ-loop
-returns-2 c = sym (c .before .loop .inv .1 ∙ least-end _ _ _ (omega arith))
+unfolding firstBroken
+returns-2 c =
+    let end : c .before .loop .block ≡ blockTotal (c .before .before .before .before .args .grid) =
+    omega (arith, c .before .before .blocks2 .ensures)
+    in
+    end ∙ sym (c .before .loop .inv .1) ∙ ap (leastBelow _ _) end ∙ below-all _ _
 
 pub first-broken-spec : {M : Type 1} → statement M
 first-broken-spec =

@@ -7,42 +7,39 @@ use borrow.Author.Needs.{needs}
 use Rattle.strips.proofs.strip_start.Statement.{statement}
 use Rattle.strips.proofs.strip_start.Tie as tie
 
-order-sum-requires : tie.Need-order-sum-requires
-order-sum-requires c κs = search needs
+slot-words-requires : tie.Need-slot-words-requires
+slot-words-requires c κs = search needs
 
 -- Nothing here overflows.
 small : (c : tie.Start) → StartFits (c .args .plan) (c .args .k) (c .args .pass)
 small c = start-fits (c .args .plan) (c .args .k) (c .args .pass) (c .pre .kept) (c .pre .counted) (c .pre .pass-below)
 
-mul-slot : tie.Need-mul-slot
-mul-slot c = rw (c .order-sum .ensures) (omega (arith, small (c .before)))
-
 mul-result : tie.Need-mul-result
-mul-result c = rw (c .order-sum .ensures) (omega (arith, small (c .before)))
+mul-result c = rw (c .slot-words .ensures) (omega (arith, small (c .before)))
 
-order-sum-requires-2 : tie.Need-order-sum-requires-2
-order-sum-requires-2 c κs = search needs
+order-sum-requires : tie.Need-order-sum-requires
+order-sum-requires c κs = search needs
 
 mul-result-2 : tie.Need-mul-result-2
-mul-result-2 c = rw (c .order-sum2 .ensures) (omega (arith, small (c .before .before)))
+mul-result-2 c = rw (c .before .order-sum .ensures) (omega (arith, small (c .before .before .before)))
 
 add-result : tie.Need-add-result
-add-result c = rw (c .before .order-sum .ensures, c .order-sum2 .ensures) (omega (arith, small (c .before .before)))
+add-result c =
+    rw (c .before .before .slot-words .ensures, c .before .order-sum .ensures) (omega (arith, small (c .before .before .before)))
 
 returns : tie.Need-returns
 returns c =
-    let a = c .before .before .args in
-    ap₂ (λ all before. a .k * (a .plan .grid .side * all) + a .plan .grid .side * before) (c .before .order-sum .ensures)
-    (c .order-sum2 .ensures)
+    let a = c .before .before .before .args in
+    ap₂ (λ slot before. a .k * slot + a .plan .grid .side * before) (c .before .before .slot-words .ensures)
+    (c .before .order-sum .ensures)
 
 pub strip-start-spec : {M : Type 1} → statement M
 strip-start-spec =
     tie.close
     (tie.spec
-    order-sum-requires
-    mul-slot
+    slot-words-requires
     mul-result
-    order-sum-requires-2
+    order-sum-requires
     mul-result-2
     add-result
     returns)

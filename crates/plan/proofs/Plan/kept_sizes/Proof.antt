@@ -27,11 +27,11 @@ mul-marks c = omega (arith, small c)
 add-t7 : tie.Need-add-t7
 add-t7 c = omega (arith, small c)
 
-mul-t8 : tie.Need-mul-t8
-mul-t8 c = omega (arith, small (c .before))
+slot-words-requires : tie.Need-slot-words-requires
+slot-words-requires c κs = search needs
 
 mul-t9 : tie.Need-mul-t9
-mul-t9 c = omega (arith, small (c .before))
+mul-t9 c = rw (c .slot-words .ensures) (omega (arith, small (c .before)))
 
 mul-t10 : tie.Need-mul-t10
 mul-t10 c = omega (arith, small (c .before .before))
@@ -64,7 +64,7 @@ kept-sizes-spec =
     order-sum-requires
     mul-marks
     add-t7
-    mul-t8
+    slot-words-requires
     mul-t9
     mul-t10
     mul-t11
