@@ -16,7 +16,7 @@ use Rattle.plan.specs.Sizes.{neededMarks, neededStrips, neededPixels, taskCount
 use Rattle.buffer.specs.Lists.{wordAt}
 use Rattle.tasks.specs.Tasks.{BlockTask, ready, nothingDone, alsoDone}
 use Rattle.tasks.specs.Counts.{doneCount}
-use Rattle.tasks.specs.Marks.{markOf}
+use Rattle.tasks.specs.Marks.{Shows}
 use Rattle.tasks.specs.Verdict.{doneRows}
 use Rattle.serial.specs.Serial.{serialOutput}
 use Rattle.report.specs.declared.Progress.{Progress}
@@ -122,7 +122,7 @@ pub record Claim (plan : Plan) (heights : List ℤ) (lent : Buffers) (calls : Li
   pub other-strips : (q : ℕ) → q < neededStrips plan → OutsideCollected plan (doneAfter plan calls) q
       → wordAt (after .strips) q ≡ 0
   -- Each needed mark has kind 7 and the bits of the tasks that are done.
-  pub marks-are : (k : ℕ) → k < neededMarks plan → wordAt (after .marks) k ≡ markOf (doneAfter plan calls) k
+  pub marks-are : Shows (plan .grid) (doneAfter plan calls) (after .marks)
   -- Strips and marks past the needed length are as lent.
   pub strips-past : (q : ℕ) → neededStrips plan ≤ q → wordAt (after .strips) q ≡ wordAt (lent .strips) q
   pub marks-past : (k : ℕ) → neededMarks plan ≤ k → wordAt (after .marks) k ≡ wordAt (lent .marks) k

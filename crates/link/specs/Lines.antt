@@ -7,20 +7,18 @@ use lib.ListN.{length}
 use lib.Dec.{ltb}
 use Rattle.word.specs.Word.{_⊗_}
 use Rattle.grid.specs.Grid.{sideLimit}
-use Rattle.plan.specs.Rules.{orderLimit}
 use Rattle.plan.specs.declared.Plan.{Plan}
 use Rattle.buffer.specs.Lists.{wordAt}
 use Rattle.buffer.specs.Written.{rowWritten}
 use Rattle.passes.specs.Filter.{Filter}
 use Rattle.axis.specs.Axis.{Direction}
 use Rattle.passes.specs.Square.{unitHistory}
-use Rattle.number.specs.Numbers.{rowMajor}
 use Rattle.filter.specs.declared.FilterWords.{FilterWords}
 use Rattle.task_words.specs.Strips.{fromEdge}
 use Rattle.strips.specs.StripRecord.{placeHeld, stripRead, StripFits}
 use Rattle.strips.specs.declared.Strip.{Strip}
 use Rattle.squares.specs.LinePasses.{onlyAt, passSquare, rowEnd}
-use Rattle.squares.specs.LineBuffers.{rowWords, lineRows, lineWords, filterAt, rowsBefore}
+use Rattle.squares.specs.LineBuffers.{lineRows, lineWords, filterAt, rowsBefore, linePlace}
 use Rattle.squares.specs.Rows.{LineIs, RowsFilled, ZerosFrom}
 use Rattle.link.specs.Courses.{LinkFits}
 use Rattle.link.specs.declared.Course.{Course}
@@ -35,7 +33,7 @@ linesInside strip place n = cond (placeHeld strip place) (min n (strip .lines)) 
 -- each times a gain.
 unfoldable pub stripLine : (gain : ℕ) → Strip → List ℕ → (place row places : ℕ) → List ℕ → List ℕ
 stripLine gain strip strips place row places buffer =
-    rowWritten (rowMajor rowWords row orderLimit) (λ j. gain ⊗ stripRead strip strips j place) (linesInside strip place places)
+    rowWritten (linePlace row 0) (λ j. gain ⊗ stripRead strip strips j place) (linesInside strip place places)
     buffer
 
 -- The same of the first n distances from the edge that a pass leaves by, each to its row, from a row on.
@@ -94,9 +92,9 @@ pub record LinesFilled (filters : ℕ → Filter) (course : Course) (H : ℕ →
 pub record LinesReady (filters : ℕ → Filter) (course : Course) (H : ℕ → ℕ → ℕ → ℕ) (buffer : List ℕ) : Type 0 where
   pub length-is : length buffer ≡ lineWords
   pub ends : (pass k i : ℕ) → pass < course .first → k < filters pass .order → i < course .places
-      → wordAt buffer (rowMajor rowWords (rowsBefore filters pass + k) (orderLimit + i))
+      → wordAt buffer (linePlace (rowsBefore filters pass + k) i)
       ≡ rowEnd filters (course .places) (course .pass) i (λ j. H pass j k)
   pub squares : (pass k i : ℕ) → course .first ≤ pass → pass < course .first + course .passes → k < filters pass .order
       → i < course .places
-      → wordAt buffer (rowMajor rowWords (rowsBefore filters pass + k) (orderLimit + i))
+      → wordAt buffer (linePlace (rowsBefore filters pass + k) i)
       ≡ passSquare filters (course .places) pass ((course .first + course .passes) - pass) i k

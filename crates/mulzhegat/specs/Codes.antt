@@ -5,9 +5,13 @@ use Rattle.refusal.specs.Refusals.{Answer, numberIn, placeIn}
 use Rattle.plan.specs.declared.Sizes.{Sizes}
 use Rattle.report.specs.Values.{Values}
 
+-- 2^32: the lower half of a code is below it.
+abbrev pub codeHalf : ℕ
+codeHalf = 4294967296
+
 -- Document 01's number in the upper half, its place in the lower (`PlacesFit`); 0 where the call is accepted.
 abbrev pub codeOf : Answer → ℕ
-codeOf answer = numberIn answer * 4294967296 + placeIn answer
+codeOf answer = numberIn answer * codeHalf + placeIn answer
 
 -- The seven sizes in the order of the C record.
 abbrev pub sizesRecord : Sizes → List ℕ

@@ -11,10 +11,11 @@ use Rattle.serial.specs.Serial.{serialAnswer}
 use Rattle.rectangle.specs.Rectangle.{rectangleCall}
 use Rattle.job_spec.specs.Calls.{Buffers, startAnswer, taskAnswer}
 use Rattle.report.specs.Report.{report}
+use Rattle.mulzhegat.specs.Codes.{codeHalf}
 
--- A place is below 2^32.
+-- A place fits the lower half of a code.
 abbrev pub Fits : Answer → Type 0
-Fits answer = placeIn answer < 4294967296
+Fits answer = placeIn answer < codeHalf
 
 -- So it is in the answer of each call.
 pub record PlacesFit : Type 0 where

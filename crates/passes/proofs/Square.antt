@@ -11,9 +11,9 @@ use Rattle.word.proofs.Ring.{zero-left, zero-right, zero-add, zero-sub, mul-zer
 use Rattle.passes.specs.Filter.{Filter}
 use Rattle.axis.specs.Axis.{Direction}
 use Rattle.passes.specs.Passes.{filterLine}
-use Rattle.passes.specs.Square.{unitHistory, linkSquare, weightedSum}
-use Rattle.passes.proofs.Linear.{Linear, pair, linear-zero, linear-add, linear-sub, linear-mul, linear-reduce}
-use Rattle.passes.proofs.Passes.{filterLine-linear, filterLine-history, filterLine-small}
+use Rattle.passes.specs.Square.{unitHistory, weightedSum}
+use Rattle.passes.proofs.Linear.{Linear, pair, linear-zero, linear-sub, linear-mul}
+use Rattle.passes.proofs.Passes.{filterLine-linear}
 use Rattle.passes.specs.Table.{sumOf}
 
 -- ---- unit histories
@@ -101,23 +101,3 @@ linear-filterLine {P = P} {X = X} A B d f n i =
           ap₂ (λ p x. filterLine d f n p x i) (fun-ext (λ k. A k .mul c a)) (fun-ext (λ k. B k .mul c a))
           ∙ sym (filterLine-linear (linear-mul c) d f n (λ j. P a) (λ j. X a) i);
     }
-
--- ---- the link square
-
--- With zero inputs, each output is the history weighted by the link square.
-pub filterLine-square : (d : Direction) (f : Filter) (n : ℕ) (p : ℕ → ℕ) (i : ℕ)
-    → filterLine d f n p (λ j. 0) i ≡ weightedSum (f .order) p (linkSquare d f n i)
-unfolding linkSquare
-filterLine-square d f n p i =
-    linear-is-weightedSum (linear-filterLine linear-place (λ k. linear-none) d f n i) (f .order)
-    (λ p q e. filterLine-history d f n p q (λ j. 0) i e) (λ p. filterLine-small d f n p (λ j. 0) i) p
-
--- The link by its square: a line with no history, plus its history weighted by the link square.
-pub filterLine-plus-square : (d : Direction) (f : Filter) (n : ℕ) (p x : ℕ → ℕ) (i : ℕ)
-    → filterLine d f n p x i ≡ filterLine d f n (λ k. 0) x i ⊕ weightedSum (f .order) p (linkSquare d f n i)
-filterLine-plus-square d f n p x i =
-    sym (reduced-small _ (filterLine-small d f n p x i))
-    ∙ filterLine-linear linear-reduce d f n (λ j. p) (λ j. x) i
-    ∙ ap₂ (λ P X. filterLine d f n P X i) (fun-ext (λ k. sym (zero-left (p k)))) (fun-ext (λ k. sym (zero-right (x k))))
-    ∙ sym (filterLine-linear linear-add d f n (pair (λ k. 0) p) (pair x (λ k. 0)) i)
-    ∙ ap (filterLine d f n (λ k. 0) x i ⊕_) (filterLine-square d f n p i)

@@ -31,6 +31,14 @@ lineRows = orderSumLimit
 abbrev pub lineWords : ℕ
 lineWords = lineRows * rowWords
 
+-- Where place i of the line in row l stands,
+abbrev pub linePlace : (l i : ℕ) → ℕ
+linePlace l i = rowMajor rowWords l (orderLimit + i)
+
+-- and the place that lies k + 1 places beyond the n places of the line, on the side where a pass comes from.
+abbrev pub placeBeyond : Direction → (n l k : ℕ) → ℕ
+placeBeyond d n l k = rowMajor rowWords l (beyond d orderLimit n k)
+
 -- The filter of a pass, of the words of four filters.
 abbrev pub filterAt : List FilterWords → ℕ → Filter
 filterAt filters pass = filterWith (getD filters pass (record { gain = 0; order = 0; coefficients = [] }))
@@ -62,7 +70,7 @@ linePass filters places pass buffer =
 -- order: of zeros it makes the unit histories.
 unfoldable pub unitLines : Direction → (row places order : ℕ) → List ℕ → List ℕ
 unitLines d row places order buffer =
-    written (λ j. rowMajor rowWords (row + j) (beyond d orderLimit places j)) (λ j. 1) order buffer
+    written (λ j. placeBeyond d places (row + j) j) (λ j. 1) order buffer
 
 -- What a square has at a place and a line.
 abbrev pub squareAt : List (List ℕ) → (place line : ℕ) → ℕ

@@ -7,16 +7,14 @@ use Rattle.plan.specs.Rules.{orderLimit}
 use Rattle.buffer.specs.Lists.{wordAt}
 use Rattle.passes.specs.Filter.{Filter}
 use Rattle.axis.specs.Axis.{Direction, directionOf}
-use Rattle.number.specs.Numbers.{rowMajor}
-use Rattle.filter.specs.Windows.{beyond}
 use Rattle.squares.specs.LinePasses.{linePasses}
-use Rattle.squares.specs.LineBuffers.{rowWords, rowsBefore}
+use Rattle.squares.specs.LineBuffers.{rowWords, linePlace, placeBeyond, rowsBefore}
 
 -- Row l of a buffer has the line x, and past its ends P u k for the passes t, .. t+m-1.
 pub record LineIs (places t m : ℕ) (P : ℕ → ℕ → ℕ) (x : ℕ → ℕ) (buffer : List ℕ) (l : ℕ) : Type 0 where
-  pub inside : (i : ℕ) → i < places → wordAt buffer (rowMajor rowWords l (orderLimit + i)) ≡ x i
+  pub inside : (i : ℕ) → i < places → wordAt buffer (linePlace l i) ≡ x i
   pub beside : (u k : ℕ) → t ≤ u → u < t + m → k < orderLimit
-      → wordAt buffer (rowMajor rowWords l (beyond (directionOf u) orderLimit places k)) ≡ P u k
+      → wordAt buffer (placeBeyond (directionOf u) places l k) ≡ P u k
 
 -- Of the passes t, .. t+m-1, each along the rows of the passes up to it, row l takes part in those from pass t+s on.
 pub record JoinsAt (filters : ℕ → Filter) (t s m l : ℕ) : Type 0 where
@@ -28,13 +26,13 @@ pub record JoinsAt (filters : ℕ → Filter) (t s m l : ℕ) : Type 0 where
 pub record LinesPassed (filters : ℕ → Filter) (places t m : ℕ) (before after : List ℕ) : Type 0 where
   pub length-kept : length after ≡ length before
   pub at : (s l i : ℕ) → s ≤ m → JoinsAt filters t s m l → i < places
-      → wordAt after (rowMajor rowWords l (orderLimit + i))
+      → wordAt after (linePlace l i)
       ≡ linePasses filters places
-      (λ u k. wordAt before (rowMajor rowWords l (beyond (directionOf u) orderLimit places k)))
-      (λ j. wordAt before (rowMajor rowWords l (orderLimit + j))) (t + s) (m - s) i
+      (λ u k. wordAt before (placeBeyond (directionOf u) places l k))
+      (λ j. wordAt before (linePlace l j)) (t + s) (m - s) i
   pub beside : (d : Direction) (l k : ℕ) → k < orderLimit
-      → wordAt after (rowMajor rowWords l (beyond d orderLimit places k))
-      ≡ wordAt before (rowMajor rowWords l (beyond d orderLimit places k))
+      → wordAt after (placeBeyond d places l k)
+      ≡ wordAt before (placeBeyond d places l k)
 
 -- All words from a row on are 0.
 abbrev pub ZerosFrom : ℕ → List ℕ → Type 0
