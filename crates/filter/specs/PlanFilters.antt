@@ -29,7 +29,7 @@ unchangedPass = passOf (pos 1) []
 abbrev pub runningSumPass : Pass
 runningSumPass = passOf (pos 1) (negsuc 0 ∷ [])
 
--- The passes of the summed-area table: down and right sum up, up and left leave as it is.
+-- The passes of the summed-area table: down and right sum up, up and left change nothing.
 abbrev pub summedAreaPasses : List Pass
 summedAreaPasses = runningSumPass ∷ unchangedPass ∷ runningSumPass ∷ unchangedPass ∷ []
 

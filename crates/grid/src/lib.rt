@@ -83,7 +83,7 @@ impl Grid {
         self.block_rows() * self.block_columns()
     }
 
-    // Where block k stands among the blocks: one division gives both.
+    // Where block k stands among the blocks: one division by N gives both.
     pub fn position(self, k: usize) -> Position
         requires { ⌜ gridKept self ≡ true ⌝ }
         ensures { λ r. ⌜ r ≡ positionOf self k ⌝ }
@@ -132,7 +132,7 @@ impl Grid {
         shape.rows * shape.columns
     }
 
-    // A block follows where the map goes on: that takes no division, as the number of blocks would.
+    // A block follows where the map goes on: to tell that takes no count of the blocks in line.
     fn block_line(self, at: Position, pass: usize) -> BlockLine
         requires { ⌜ InBlocks self at ⌝ }
         ensures { λ r. ⌜ r ≡ lineOfBlocks self at pass ⌝ }

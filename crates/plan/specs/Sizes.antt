@@ -25,7 +25,7 @@ orderSum plan count = total (orderOf plan) count
 abbrev pub orderSumLimit : ℕ
 orderSumLimit = 4 * orderLimit
 
--- How many words every plan has: size, block, pass and gain of four passes, and the end.
+-- The words that no plan is without, counted: size, block, pass and gain of four passes, and the end.
 abbrev pub fixedWords : ℕ
 fixedWords = 11
 

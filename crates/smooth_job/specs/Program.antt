@@ -128,7 +128,8 @@ abbrev pub lineOf : Plan → Values → Line
 lineOf plan values =
     record { rows = plan .grid .rows; columns = plan .grid .columns; tasks = values .count; tally = values .tally }
 
--- The line of a report on a plan's marks after another answer; zeros beside the first refusal of the two.
+-- The line of a report on a plan's marks, where an earlier answer accepted; its refusal or else the report's, and zeros
+-- beside it.
 abbrev pub reportedAfter : Answer → Plan → Given Values → Given Line
 reportedAfter earlier plan reported =
     given (firstOf earlier (reported .answer)) (lineOf plan (reported .value)) zeroLine

@@ -37,7 +37,7 @@ leastBrokenOf grid marks (k ∷ ks) = min (brokenAt grid marks k) (leastBrokenOf
 unfoldable pub leastBroken : Grid → List ℕ → ℕ → ℕ → ℕ
 leastBroken grid marks t k = leastBrokenOf grid marks (lookedAt grid t k)
 
--- Refused 9 at the least broken block of those looked at, which is M×N where none is broken.
+-- Refused 9 at the least broken block of those looked at; not due where that is M×N, so that none is broken.
 abbrev pub brokenRow : Grid → (least : ℕ) → Row
 brokenRow grid least = 9 at least when ltb least (blockTotal grid)
 
