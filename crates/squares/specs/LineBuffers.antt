@@ -55,7 +55,7 @@ rowsBefore filters pass = total (λ u. filters u .order) pass
 abbrev pub lineWindow : (rows places : ℕ) → Window
 lineWindow rows places = record { stride = rowWords; top = 0; left = orderLimit; height = rows; width = places }
 
--- The pass along rows, 2 or 3, with the direction of a pass.
+-- The pass along rows with the direction of a pass, 2 (right) or 3 (left): `axisPasses` is 1 forward and 2 backward.
 abbrev pub rowPass : ℕ → ℕ
 rowPass pass = 1 + axisPasses pass
 

@@ -78,6 +78,7 @@ fn line_pass(lines: &mut [u64], places: usize, filters: [FilterWords; 4], pass: 
             height: rows,
             width: places,
         };
+        // Right for a forward pass, left for a backward one.
         let along_rows = 1 + axis_passes(pass);
         filter::run_pass(lines, window, along_rows, plan::ORDER_LIMIT, filter);
     }

@@ -77,7 +77,7 @@ stripBefore plan k pass = stripIn plan pass (neighbour (plan .grid) k pass)
 abbrev pub placeHeld : Strip → (place : ℕ) → Bool
 placeHeld strip place = leb (strip .first) place && ltb place (strip .past)
 
--- Whether a line and a place of a strip do.
+-- Whether a line and a place of a strip both lie in the block.
 abbrev pub wordHeld : Strip → (line place : ℕ) → Bool
 wordHeld strip line place = ltb line (strip .lines) && placeHeld strip place
 
