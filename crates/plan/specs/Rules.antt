@@ -13,7 +13,7 @@ use Rattle.plan.specs.declared.Plan.{Plan}
 
 -- The largest order of a pass.
 abbrev pub orderLimit : ℕ
-orderLimit = 4
+orderLimit = 8
 
 -- From -134217728 to 134217727, the numbers of signed 28 bits: `negsuc n` is -(n + 1).
 abbrev pub inSigned28 : ℤ → Bool

@@ -33,7 +33,7 @@ fixedWords = 11
 abbrev pub wordCount : Plan → ℕ
 wordCount plan = fixedWords + orderSum plan 4
 
--- The most words that a plan can have: 27.
+-- The most words that a plan can have: 43.
 abbrev pub wordLimit : ℕ
 wordLimit = fixedWords + orderSumLimit
 

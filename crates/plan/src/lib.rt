@@ -12,7 +12,7 @@ ghost use Rattle.plan.specs.Rules.{inSigned28, isZero, coefficientKept, 
 ghost use Rattle.plan.specs.Sizes.{orderSum, slotWords, sizesOf, planSizes, sizesGiven, lengthRows};
 
 // The largest order of a pass: `orderLimit` of specs/Rules.antt is the same number.
-pub const ORDER_LIMIT: usize = 4;
+pub const ORDER_LIMIT: usize = 8;
 
 // The most that the orders of the four passes can sum up to: `orderSumLimit` of specs/Sizes.antt is the same number.
 pub const ORDER_SUM_LIMIT: usize = 4 * ORDER_LIMIT;

@@ -27,6 +27,6 @@ pub record Demand2 : Type 0 where
       × (writtenWords (readPlan words .value) buffer ≡ words ++ drop (length words) buffer)
   -- A record that was read keeps the rules, so that every other call takes it.
   pub keeps-rules : (words : List ℕ) → readPlan words .answer ≡ accepted → keepsRules (readPlan words .value) ≡ true
-  -- A plan has 11 to 27 words: 11, and one for each coefficient of four orders within the limit.
+  -- A plan has 11 to 43 words: 11, and one for each coefficient of four orders within the limit.
   pub counted : (words : List ℕ) → readPlan words .answer ≡ accepted
       → (fixedWords ≤ length words) × (length words ≤ wordLimit)

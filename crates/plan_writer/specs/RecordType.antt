@@ -5,7 +5,7 @@ use lib.ListN.{length}
 use Rattle.plan.specs.declared.Plan.{Plan}
 use Rattle.plan.specs.Rules.{orderLimit, passAt}
 
--- Four passes, each with a coefficient place for every number up to the largest order.
+-- Four passes, each with as many coefficient places as the order limit.
 pub record WellShaped (plan : Plan) : Type 0 where
   pub passCount : length (plan .passes) ≡ 4
   pub placeCount : (i : ℕ) → i < 4 → length (passAt plan i .coefficients) ≡ orderLimit

@@ -6,7 +6,7 @@ use Prim.Native.Nat.{ℕ, zero, suc, _+_, _-_, _*_, _<_, _≤_}
 use lib.IntN.{ℤ}
 use Rattle.grid.specs.Grid.{blockCount, blockExtent}
 use Rattle.plan.specs.declared.Plan.{Plan}
-use Rattle.plan.specs.Rules.{keepsRules}
+use Rattle.plan.specs.Rules.{orderLimit, keepsRules}
 use Rattle.plan.specs.Sizes.{neededPixels}
 use Rattle.passes.specs.Filter.{Filter}
 use Rattle.passes.specs.Gains.{gainsFirst}
@@ -61,7 +61,7 @@ rowsPassed plan top height pass output =
 
 -- The side of a band, which is a block of the map's rows: `BAND` of src/lib.rt is the same number.
 abbrev pub bandRows : ℕ
-bandRows = 8
+bandRows = orderLimit
 
 -- How many bands a map has,
 abbrev pub bandCount : Plan → ℕ

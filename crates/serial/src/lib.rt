@@ -17,9 +17,10 @@ ghost use Rattle.axis.specs.Axis.{axisOf, directionOf};
 ghost use Rattle.serial.specs.Serial.{serialAnswer, serialWords, serialOutput};
 ghost use Rattle.serial.specs.Stages.{MapFits, RowsFit, BandFits, historyRows, rowsPassed, bandCount, bandOf, bandPassed, bandsReadDown, bandsFinished};
 
-// The rows of a band: enough that the chains of multiplies of their row passes overlap, and few enough that a band
-// stays in the cache from one step to the next. `bandRows` of specs/Stages.antt is the same number.
-const BAND: usize = 8;
+// The rows of a band: as many as a filter can have taps, so that up over a band reads no further than the next; enough
+// that the chains of multiplies of their row passes overlap, and few enough that a band stays in the cache from one step
+// to the next. `bandRows` of specs/Stages.antt is the same number.
+const BAND: usize = plan::ORDER_LIMIT;
 
 // Where a band lies in the map, and how many rows it has.
 struct Band {

@@ -42,7 +42,7 @@ unfoldable pub afterEnd : (ℕ → ℕ) → ℕ → ℕ → ℕ
 afterEnd word i zero = i
 afterEnd word i (suc n) = cond (eqb (kindOf (word i)) endKind) (suc i) (afterEnd word (suc i) n)
 
--- How many words the plan has: up to its first word of kind 6, looking at the limit at most.
+-- How many words the plan has: up to its first word of kind 6, looking at as many as a plan can have, 43, at most.
 unfoldable pub planLength : List ℕ → ℕ
 planLength input = afterEnd (wordIn input) 0 (min (length input / 4) wordLimit)
 

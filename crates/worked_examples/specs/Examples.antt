@@ -1,5 +1,6 @@
--- The starred examples of document 01 in one list, each through the definition that the contract of its call cites; and two jobs
--- worked by hand, their strips word by word after the collects and after all tasks.
+-- The starred examples of document 01, with document 02's changes, in one list, each through the definition that the
+-- contract of its call cites; and two jobs worked by hand, their strips word by word after the collects and after all
+-- tasks.
 use mathlib.Core.Path.{_≡_}
 use mathlib.Core.List.{List, [], _∷_, _++_, map}
 use Prim.Native.Nat.{ℕ}
@@ -37,9 +38,9 @@ planWords block down coefficients =
     ++ (coefficients
     ++ (0x30000010 ∷ 0x40000001 ∷ 0x30000020 ∷ 0x40000001 ∷ 0x30000030 ∷ 0x40000001 ∷ 0x60000000 ∷ []))
 
--- Four coefficients of 1.
-abbrev fourCoefficients : List ℕ
-fourCoefficients = 0x50000001 ∷ 0x50000001 ∷ 0x50000001 ∷ 0x50000001 ∷ []
+-- The words of so many coefficients of 1.
+abbrev coefficientsOfOne : ℕ → List ℕ
+coefficientsOfOne count = replicate count 0x50000001
 
 -- ---- plan records
 
@@ -146,7 +147,8 @@ columnPlan = record { grid = record { rows = 3; columns = 1; side = 2 }; passes 
 
 -- ---- the list
 
--- The starred examples, in the document's order.
+-- The starred examples, in the document's order. Order 9 stands for order 5 by request CR 1; order 8 beside order 4
+-- holds the limit from below.
 unfoldable pub starred : List Example
 starred =
     serialExample tablePlan oneToSix (pos 1 ∷ pos 3 ∷ pos 6 ∷ pos 5 ∷ pos 12 ∷ pos 21 ∷ [])
@@ -162,9 +164,11 @@ starred =
     (pos 1 ∷ []) (pos 0 ∷ [])
     ∷ serialExample (planOf 1 1 (gainAlone (minus 134217728)) unchangedPass unchangedPass unchangedPass) (minus 2147483648 ∷ [])
     (pos 288230376151711744 ∷ [])
-    ∷ readingExample (planWords 0x20000004 0x30000004 fourCoefficients) (0 ∷ 0 ∷ [])
-    ∷ readingExample (planWords 0x20000003 0x30000004 fourCoefficients) (4 ∷ 1 ∷ [])
-    ∷ readingExample (planWords 0x20000004 0x30000005 fourCoefficients) (3 ∷ 2 ∷ [])
+    ∷ readingExample (planWords 0x20000004 0x30000004 (coefficientsOfOne 4)) (0 ∷ 0 ∷ [])
+    ∷ readingExample (planWords 0x20000003 0x30000004 (coefficientsOfOne 4)) (4 ∷ 1 ∷ [])
+    ∷ readingExample (planWords 0x20000008 0x30000008 (coefficientsOfOne 8)) (0 ∷ 0 ∷ [])
+    ∷ readingExample (planWords 0x20000007 0x30000008 (coefficientsOfOne 8)) (4 ∷ 1 ∷ [])
+    ∷ readingExample (planWords 0x20000009 0x30000009 (coefficientsOfOne 9)) (3 ∷ 2 ∷ [])
     ∷ []
 
 -- The starred examples, and the strips and outputs of two jobs of order 2 whose last block is short.
