@@ -28,7 +28,7 @@
  * The functions keep no state between calls. Calls that share no buffer that one of them writes may run at the same
  * time; two mzg_task calls of one job must not. A job may be broken off between any two calls: keep plan, map, marks,
  * strips and output. Of a job that is taken up again only the kind and the spare bits of its marks are tested, not that
- * its buffers belong together: put a checksum over what you save. mzg_task takes about 20 KiB of stack, every other
+ * its buffers belong together: put a checksum over what you save. mzg_task takes about 25 KiB of stack, every other
  * call less than 4 KiB.
  */
 #ifndef MULZHEGAT_H
@@ -62,10 +62,12 @@ enum {
 #define MZG_NUMBER(answer) ((answer) >> 32)
 #define MZG_PLACE(answer) ((answer) & 0xFFFFFFFF)
 
-/* The largest order of a pass. */
-#define MZG_ORDER_LIMIT 4
+/* The largest order of a pass. The length of the record follows it: compile with the header that belongs to the archive
+ * (a program compiled with another limit links too, and mzg_plan_read then writes past the end of its record). Keep
+ * plans as words (mzg_plan_write): they stay the same where the limit is raised, and so do a job's marks and strips. */
+#define MZG_ORDER_LIMIT 8
 
-/* A plan record: 3 + 4 * (2 + MZG_ORDER_LIMIT) = 27 words of 64 bits, in this order. The rules:
+/* A plan record: 3 + 4 * (2 + MZG_ORDER_LIMIT) = 43 words of 64 bits, in this order. The rules:
  *   rows, columns            1 to 4,096
  *   side                     1 to 32, at least the largest order; the block side b
  *   passes                   down, up, right, left
@@ -97,7 +99,7 @@ typedef struct {
     uint64_t task, block;    /* the ready task with the least number, then the least block; 0 and 0 if none */
 } mzg_progress;
 
-/* Reads a plan from its words. A plan has 11 to 11 + 4 * MZG_ORDER_LIMIT = 27 of them; any number may be lent. The top
+/* Reads a plan from its words. A plan has 11 to 11 + 4 * MZG_ORDER_LIMIT = 43 of them; any number may be lent. The top
  * four bits of a word are its kind, the low 28 its payload:
  *   1 size          rows in bits 13 to 25, columns in bits 0 to 12
  *   2 block         the block side
@@ -105,7 +107,8 @@ typedef struct {
  *   4 gain          signed 28 bits, two's complement
  *   5 coefficient   as gain, one word for each of d1 to dr
  *   6 end           0
- * in this order, with 3, 4 and 5 repeated for the four passes; all other bits are zero.
+ * in this order, with 3, 4 and 5 repeated for the four passes; all other bits are zero, else 3. A coefficient word too
+ * many or too few is 2 at the word where another kind is due.
  * Refused: 1, 2, 3, 5, 4; the record is then all zeros. */
 uint64_t mzg_plan_read(const uint32_t *words, size_t words_len, mzg_plan *plan);
 

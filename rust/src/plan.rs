@@ -11,7 +11,7 @@ extern "C" {
 /// Reads a plan from its words.
 ///
 /// # Errors
-/// 1 to 5.
+/// 1, 2 and 3 from left to right, then 5, then 4.
 ///
 /// # Example
 /// ```

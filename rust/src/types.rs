@@ -1,7 +1,7 @@
 //! The records that calls take and answer, laid out as in `include/mulzhegat.h`.
 
 /// The largest order of a pass, `MZG_ORDER_LIMIT` in `mulzhegat.h`.
-pub const MAX_ORDER: usize = 4;
+pub const MAX_ORDER: usize = 8;
 
 /// The place of the down pass in [`Plan::passes`].
 pub const DOWN: usize = 0;
@@ -30,13 +30,14 @@ impl Pass {
     /// # Panics
     /// If there are more than [`MAX_ORDER`] coefficients.
     pub fn new(gain: i64, coefficients: &[i64]) -> Pass {
+        assert!(coefficients.len() <= MAX_ORDER, "a pass has at most {MAX_ORDER} coefficients");
         let mut pass = Pass { order: coefficients.len() as i64, gain, ..Pass::default() };
         pass.coefficients[..coefficients.len()].copy_from_slice(coefficients);
         pass
     }
 }
 
-/// A plan record: 3 + 4 * (2 + [`MAX_ORDER`]) = 27 words of 64 bits.
+/// A plan record: 3 + 4 * (2 + [`MAX_ORDER`]) = 43 words of 64 bits.
 #[repr(C)]
 #[derive(Clone, Copy, Debug, Default, PartialEq, Eq)]
 pub struct Plan {

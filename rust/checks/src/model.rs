@@ -4,7 +4,10 @@
 //! from the passes over one block with words standing around it ([`Job::filter`]), strip places from one formula
 //! ([`Job::strip_place`]); nothing else knows the layout.
 
-use mulzhegat::{Pass, Plan, Progress, Refusal, Sizes, DOWN, MAX_ORDER, RIGHT, UP};
+use mulzhegat::{Pass, Plan, Progress, Refusal, Sizes, DOWN, RIGHT, UP};
+
+/// The largest order of a pass, from the paper and not from the crate.
+pub const ORDER_LIMIT: usize = 8;
 
 /// Whether a number fits in signed 28 bits.
 fn fits_28_bits(number: i64) -> bool {
@@ -15,7 +18,7 @@ fn fits_28_bits(number: i64) -> bool {
 pub fn keeps_rules(plan: &Plan) -> bool {
     let sized = |length| (1..=4096).contains(&length);
     let pass_keeps_rules = |pass: &Pass| {
-        (0..=MAX_ORDER as i64).contains(&pass.order)
+        (0..=ORDER_LIMIT as i64).contains(&pass.order)
             && fits_28_bits(pass.gain)
             && pass.coefficients.iter().all(|&coefficient| fits_28_bits(coefficient))
             && pass.coefficients.iter().skip(pass.order as usize).all(|&coefficient| coefficient == 0)
@@ -63,7 +66,7 @@ pub fn read(words: &[u32]) -> Result<Plan, Refusal> {
     let side = words.take(2, |payload| (1..=32).contains(&payload))?;
     let mut plan = Plan::plain(rows(size) as usize, columns(size) as usize, side as usize);
     for (number, pass) in plan.passes.iter_mut().enumerate() {
-        let order = words.take(3, |payload| payload % 16 <= MAX_ORDER as u32 && payload >> 4 == number as u32)? % 16;
+        let order = words.take(3, |payload| payload % 16 <= ORDER_LIMIT as u32 && payload >> 4 == number as u32)? % 16;
         let gain = words.take_signed(4)?;
         let coefficients = (0..order).map(|_| words.take_signed(5)).collect::<Result<Vec<i64>, Refusal>>()?;
         *pass = Pass::new(gain, &coefficients);

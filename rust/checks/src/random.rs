@@ -1,6 +1,7 @@
 //! Random numbers, plans and maps for tests and benchmarks, the same for one seed on every machine.
 
-use mulzhegat::{Pass, Plan, MAX_ORDER};
+use crate::model::ORDER_LIMIT;
+use mulzhegat::{Pass, Plan, DOWN, UP};
 use std::{io::Write, sync::Once};
 
 /// The seed of a default run.
@@ -66,10 +67,11 @@ impl Random {
         Pass::new(self.coefficient(), &coefficients)
     }
 
-    /// Four orders, each at most `most`.
+    /// Four orders, each at most `most`; now and then all of them are as large.
     pub fn orders(&mut self, most: usize) -> [usize; 4] {
-        let most = most.min(MAX_ORDER);
-        [0; 4].map(|_| self.between(0, most))
+        let most = most.min(ORDER_LIMIT);
+        let least = if self.once_in(8) { most } else { 0 };
+        [0; 4].map(|_| self.between(least, most))
     }
 
     /// A plan of given size and orders.
@@ -109,6 +111,37 @@ impl Random {
     /// Words of any value.
     pub fn words(&mut self, length: usize) -> Vec<u64> {
         (0..length).map(|_| self.word()).collect()
+    }
+}
+
+/// How often plans had each order in each pass, and how often the last of several blocks along the pass was shorter
+/// than the order.
+#[derive(Debug, Default)]
+pub struct Reached {
+    orders: [[usize; ORDER_LIMIT + 1]; 4],
+    with_short_blocks: [[usize; ORDER_LIMIT + 1]; 4],
+}
+
+impl Reached {
+    /// Counts a plan.
+    pub fn note(&mut self, plan: &Plan) {
+        for (number, pass) in plan.passes.iter().enumerate() {
+            let length = if number == DOWN || number == UP { plan.rows } else { plan.columns };
+            let last_block = (length - 1) % plan.side + 1;
+            let is_short = length > plan.side && last_block < pass.order;
+            self.orders[number][pass.order as usize] += 1;
+            self.with_short_blocks[number][pass.order as usize] += usize::from(is_short);
+        }
+    }
+
+    /// Every order stood in every pass.
+    pub fn expect_all_orders(&self) {
+        assert!(self.orders.iter().flatten().all(|&times| times > 0), "{self:?}");
+    }
+
+    /// Every order that a block can be shorter than, 2 and up, stood in every pass with such a last block.
+    pub fn expect_all_short_blocks(&self) {
+        assert!(self.with_short_blocks.iter().flat_map(|times| &times[2..]).all(|&times| times > 0), "{self:?}");
     }
 }
 

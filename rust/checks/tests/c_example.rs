@@ -46,7 +46,8 @@ fn c_and_cpp_take_the_header_without_warnings() {
     {
         run(compiler(name, standard).args(["-fsyntax-only", "-x", language]).arg(&source));
     }
-    assert_eq!(size_of::<mulzhegat::Plan>(), 27 * 8);
+    assert_eq!(size_of::<mulzhegat::Plan>(), 43 * 8);
+    assert_eq!(size_of::<mulzhegat::Pass>(), 10 * 8);
     assert_eq!(size_of::<mulzhegat::Sizes>(), 7 * 8);
     assert_eq!(size_of::<mulzhegat::Progress>(), 5 * 8);
 }

@@ -3,7 +3,7 @@
 //! the program reads.
 
 use checks::model::{self, Job};
-use checks::random::{self, Random};
+use checks::random::{self, Random, Reached};
 use mulzhegat::{Plan, Refusal};
 use std::env;
 use std::io::Write;
@@ -117,9 +117,10 @@ fn refused_plans_print_one_line() {
 #[test]
 fn random_lists_with_early_repeated_and_foreign_calls() {
     let mut random = random::of_test("random_lists_with_early_repeated_and_foreign_calls");
-    let (mut accepted, mut seen, mut whole_jobs) = (0, [0; 13], 0);
+    let (mut accepted, mut seen, mut whole_jobs, mut reached) = (0, [0; 13], 0, Reached::default());
     for _ in 0..400 * random::rounds() {
         let plan = random.small_plan(MOST_PIXELS);
+        reached.note(&plan);
         let job = Job::of(&plan).unwrap();
         let map = random.heights(job.pixels());
         let calls = list_of_calls(&job, &mut random);
@@ -135,6 +136,7 @@ fn random_lists_with_early_repeated_and_foreign_calls() {
         whole_jobs += usize::from(done as u64 == model::sizes(&plan).unwrap().tasks);
         answers.iter().filter_map(|answer| answer.err()).for_each(|refusal| seen[refusal.number() as usize] += 1);
     }
-    assert!(accepted > 3_000 && whole_jobs > 50, "{accepted} accepted, {whole_jobs} whole jobs");
+    assert!(accepted > 2_000 && whole_jobs > 50, "{accepted} accepted, {whole_jobs} whole jobs");
     assert!([8, 10, 11].iter().all(|&number| seen[number] > 3_000), "refused by number: {seen:?}");
+    reached.expect_all_orders();
 }

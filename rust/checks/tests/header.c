@@ -4,9 +4,10 @@
 /* Does not compile where the claim is false. */
 #define CLAIM(name, claim) typedef char name[(claim) ? 1 : -1]
 
-CLAIM(plan_is_27_words, sizeof(mzg_plan) == 27 * 8);
+CLAIM(plan_is_43_words, sizeof(mzg_plan) == 43 * 8);
 CLAIM(passes_follow_the_side, offsetof(mzg_plan, passes) == 3 * 8);
-CLAIM(pass_is_6_words, sizeof(((mzg_plan *)0)->passes[0]) == 6 * 8);
+CLAIM(pass_is_10_words, sizeof(((mzg_plan *)0)->passes[0]) == 10 * 8);
+CLAIM(coefficients_follow_the_gain, offsetof(mzg_plan, passes[0].coefficients) == (3 + 2) * 8);
 CLAIM(sizes_are_7_words, sizeof(mzg_sizes) == 7 * 8);
 CLAIM(tasks_are_the_last_size, offsetof(mzg_sizes, tasks) == 6 * 8);
 CLAIM(progress_is_5_words, sizeof(mzg_progress) == 5 * 8);

@@ -2,10 +2,10 @@
 
 use checks::lent::Lent;
 use checks::model::{self, Job, NOTHING_DONE};
-use checks::random::{self, Random};
+use checks::random::{self, Random, Reached};
 use checks::records::{all_orders, broken_record};
 use checks::reference;
-use mulzhegat::{job, plan, Pass, Plan, Progress, Refusal, DOWN, LEFT, RIGHT, UP};
+use mulzhegat::{job, plan, serial, Pass, Plan, Progress, Refusal, DOWN, LEFT, RIGHT, UP};
 
 /// The three buffers that calls may write, with the words around them.
 #[derive(Clone, PartialEq)]
@@ -287,6 +287,33 @@ fn example_2_by_3_with_side_2_has_six_tasks() {
 }
 
 #[test]
+fn each_coefficient_up_to_the_eighth_reaches_as_many_steps_back() {
+    // A single 1 where the pass begins and a single coefficient d: after every `order` steps, one more factor of -d. In
+    // blocks of 8 the last one has a single pixel.
+    for (pass, order) in (0..4).flat_map(|pass| (1..=8).map(move |order| (pass, order))) {
+        for coefficient in [-3, 5] {
+            let mut coefficients = [0; 8];
+            coefficients[order - 1] = coefficient;
+            let (rows, columns) = if pass == DOWN || pass == UP { (17, 1) } else { (1, 17) };
+            let plan = Plan::plain(rows, columns, 8).with(pass, 1, &coefficients[..order]);
+            let (mut map, mut expected) = (vec![0; 17], vec![0; 17]);
+            map[0] = 1;
+            for (factors, place) in (0..17).step_by(order).enumerate() {
+                expected[place] = (-coefficient).pow(factors as u32) as u64;
+            }
+            if pass == UP || pass == LEFT {
+                map.reverse();
+                expected.reverse();
+            }
+            assert_eq!(perform_what_the_report_names(&plan, &map).1, expected, "{plan:?}");
+            let mut output = vec![9; 17];
+            serial::run(&plan, &map, &mut output).unwrap();
+            assert_eq!(output, expected, "{plan:?}");
+        }
+    }
+}
+
+#[test]
 fn wrong_turn_of_running_into_rows_past_the_map() {
     // The strip of block 1 holds the one row that it has, -24 and not -120, and 0 for the row past the map.
     let plan = Plan::plain(3, 1, 2).with(DOWN, 6, &[2]).with(UP, -1, &[2, 0]);
@@ -323,9 +350,10 @@ fn start_sets_the_needed_words_and_no_others() {
 #[test]
 fn random_jobs_with_early_repeated_and_foreign_calls() {
     let mut random = random::of_test("random_jobs_with_early_repeated_and_foreign_calls");
-    let (mut calls, mut seen) = (0, [0usize; 13]);
+    let (mut calls, mut seen, mut reached) = (0, [0usize; 13], Reached::default());
     for _ in 0..2_000 * random::rounds() {
         let plan = random.small_plan(400);
+        reached.note(&plan);
         let mut trial = Trial::new(&plan, &mut random);
         let output_before = trial.library.output.clone();
         perform_in_random_order(&mut trial, &mut random, usize::MAX, |trial, random| {
@@ -354,6 +382,8 @@ fn random_jobs_with_early_repeated_and_foreign_calls() {
     }
     assert!(calls >= 100_000, "{calls} calls");
     assert!([0, 8, 10, 11].iter().all(|&number| seen[number] > 100), "answers seen: {seen:?}");
+    reached.expect_all_orders();
+    reached.expect_all_short_blocks();
 }
 
 #[test]
@@ -420,9 +450,10 @@ fn lists_of_calls_do_what_the_table_of_needs_says() {
 fn tasks_on_any_strips_and_marks() {
     // Strips of any words, also in the places that are read as 0, and any marks: finish uses strips true or not.
     let mut random = random::of_test("tasks_on_any_strips_and_marks");
-    let mut accepted = [0usize; 6];
+    let (mut accepted, mut reached) = ([0usize; 6], Reached::default());
     for _ in 0..6_000 * random::rounds() {
         let plan = random.small_plan(300);
+        reached.note(&plan);
         let mut trial = Trial::new(&plan, &mut random);
         let all_done: Vec<u32> = trial.job.blocks().map(|block| tasks_of(&trial.job, block.number)).collect();
         for (block, may) in all_done.iter().enumerate() {
@@ -440,6 +471,8 @@ fn tasks_on_any_strips_and_marks() {
         }
     }
     assert!(accepted.iter().all(|&times| times > 500), "accepted: {accepted:?}");
+    reached.expect_all_orders();
+    reached.expect_all_short_blocks();
 }
 
 /// The bits of all tasks that a block has.
@@ -487,16 +520,19 @@ fn places_read_as_0_and_written_as_0() {
 }
 
 #[test]
-fn sides_1_to_32_and_all_orders() {
-    let mut random = random::of_test("sides_1_to_32_and_all_orders");
-    let mut jobs = 0;
-    for (number, orders) in all_orders().enumerate() {
+fn sides_1_to_32_and_every_order_in_every_pass() {
+    let mut random = random::of_test("sides_1_to_32_and_every_order_in_every_pass");
+    let (mut jobs, mut reached) = (0, Reached::default());
+    for (number, orders) in all_orders().step_by(10).enumerate() {
         let least = (*orders.iter().max().unwrap()).max(1);
         let side = least + number % (33 - least);
         let (rows, columns) = (random.between(1, 2 * side + 5), random.between(1, 2 * side + 5));
-        whole_job_in_random_order(&random.plan(rows, columns, side, orders), &mut random);
+        let plan = random.plan(rows, columns, side, orders);
+        reached.note(&plan);
+        whole_job_in_random_order(&plan, &mut random);
         jobs += 1;
     }
+    reached.expect_all_orders();
     for side in 1..=32 {
         for (rows, columns) in [(side, side), (2 * side, side + 1), (side + 1, 3 * side), (3 * side - 1, 2 * side + 1)]
         {
@@ -505,7 +541,7 @@ fn sides_1_to_32_and_all_orders() {
             jobs += 1;
         }
     }
-    assert_eq!(jobs, 625 + 128);
+    assert_eq!(jobs, 657 + 128);
 }
 
 /// A whole job in random order, compared at random moments and at the end.
@@ -528,12 +564,12 @@ fn whole_job_in_random_order(plan: &Plan, random: &mut Random) {
 #[test]
 fn jobs_of_4096_rows_or_columns() {
     let mut random = random::of_test("jobs_of_4096_rows_or_columns");
-    for side in [1, 2, 3, 4, 7, 31, 32] {
+    for side in [1, 2, 3, 4, 7, 8, 31, 32] {
         for (rows, columns) in [(4096, 1), (1, 4096)] {
             let orders = random.orders(side);
             whole_job_in_random_order(&random.plan(rows, columns, side, orders), &mut random);
-            let least = side.min(4);
-            whole_job_in_random_order(&random.plan(rows, columns, side, [least; 4]), &mut random);
+            let most = side.min(8);
+            whole_job_in_random_order(&random.plan(rows, columns, side, [most; 4]), &mut random);
         }
     }
     for (rows, columns, side) in [(4096, 3, 2), (2, 4096, 5), (4095, 9, 32), (40, 4096, 32)] {

@@ -2,9 +2,12 @@
 
 use checks::lent::Lent;
 use checks::model;
-use checks::random::{self, Random};
+use checks::random::{self, Random, Reached};
 use checks::records::{all_orders, broken_record, damages, fields, plan_of, RECORD_WORDS};
-use mulzhegat::{plan, Pass, Plan, Refusal, Sizes, DOWN, UP};
+use mulzhegat::{plan, Pass, Plan, Refusal, Sizes, DOWN, LEFT, RIGHT, UP};
+
+/// The words of the longest plan: order 8 in all passes.
+const MOST_WORDS: usize = 43;
 
 /// Words that are not zero, so that a record left unwritten shows.
 fn unwritten_plan() -> Plan {
@@ -39,7 +42,7 @@ fn use_and_compare(record: &Plan, random: &mut Random, calls: &mut usize) {
     let expected = model::sizes(record);
     assert_eq!(answer, expected.map(|_| ()), "{record:?}");
     assert_eq!(sizes, expected.unwrap_or_default(), "{record:?}");
-    let mut library = Lent::new(30, || random.word() as u32);
+    let mut library = Lent::new(MOST_WORDS + 3, || random.word() as u32);
     let mut modelled = library.clone();
     let answer = plan::write(record, library.get_mut());
     assert_eq!(answer, model::write(record, modelled.get_mut()), "{record:?}");
@@ -72,20 +75,103 @@ fn example_plan_words_of_the_program() {
 }
 
 #[test]
-fn example_order_4_is_accepted_with_side_4_and_refused_with_side_3() {
-    let words = |side| model::words_of(&Plan::plain(9, 9, side).with(UP, 1, &[1, 2, 3, 4]));
-    assert_eq!(plan::read(&words(4)), Ok(Plan::plain(9, 9, 4).with(UP, 1, &[1, 2, 3, 4])));
-    let refusal = plan::read(&words(3)).unwrap_err();
-    assert_eq!((refusal.number(), refusal.place()), (4, 1));
+fn example_order_4_with_side_4_and_order_8_with_side_8_are_accepted_and_refused_4_with_a_side_one_less() {
+    for (order, pass) in [4, 8].into_iter().flat_map(|order| [DOWN, UP, RIGHT, LEFT].map(|pass| (order, pass))) {
+        let record = |side| Plan::plain(9, 9, side).with(pass, 1, &[1, 2, 3, 4, 5, 6, 7, 8][..order]);
+        assert_eq!(plan::read(&model::words_of(&record(order))), Ok(record(order)));
+        let refusal = plan::read(&model::words_of(&record(order - 1))).unwrap_err();
+        assert_eq!((refusal.number(), refusal.place()), (4, 1));
+    }
 }
 
 #[test]
-fn example_order_5_is_refused_3() {
+fn example_order_9_is_refused_3() {
     let mut words = PROGRAM_WORDS.to_vec();
-    words[2] = 0x30000005;
-    words.splice(4..5, [0x5FFFFFFF; 5]);
+    words[1] = 0x20000009;
+    words[2] = 0x30000009;
+    words.splice(4..5, [0x5FFFFFFF; 9]);
     let refusal = plan::read(&words).unwrap_err();
     assert_eq!((refusal.number(), refusal.place()), (3, 2));
+}
+
+#[test]
+fn a_plan_of_43_words_and_what_refuses_it() {
+    let mut random = random::of_test("a_plan_of_43_words_and_what_refuses_it");
+    let record = random.plan(9, 4096, 8, [8; 4]);
+    let valid = model::words_of(&record);
+    assert_eq!((valid.len(), plan::read(&valid)), (43, Ok(record)));
+    let refused = |change: &dyn Fn(&mut Vec<u32>), number: u32, place: usize| {
+        let mut words = valid.clone();
+        change(&mut words);
+        let refusal = plan::read(&words).unwrap_err();
+        assert_eq!((refusal.number(), refusal.place()), (number, place as u32), "words {words:x?}");
+    };
+    refused(&|words| words.truncate(42), 1, 42);
+    refused(&|words| words[42] = 0x50000000, 2, 42);
+    refused(&|words| words.push(0x60000000), 5, 43);
+    refused(&|words| words[1] = 0x20000007, 4, 1);
+    // Pass words stand at 2, 12, 22 and 32, each with a gain and eight coefficients after it.
+    for (number, at) in [2, 12, 22, 32].into_iter().enumerate() {
+        for order in 9..16 {
+            let with_order = |words: &mut Vec<u32>| {
+                words[1] = 0x20000020;
+                words[at] = 0x30000000 | (number << 4 | order) as u32;
+                words.splice(at + 10..at + 10, vec![0x50000001; order - 8]);
+            };
+            refused(&with_order, 3, at);
+        }
+        // A coefficient less than the order says, then one more: of eight, and of seven.
+        refused(&|words| words[at + 9] = 0x40000001, 2, at + 9);
+        refused(&|words| words.insert(at + 10, 0x50000001), 2, at + 10);
+        refused(&|words| words[at] -= 1, 2, at + 9);
+    }
+}
+
+#[test]
+fn plans_of_orders_up_to_4_keep_their_words_and_their_meaning() {
+    let pass =
+        |order, gain, [d1, d2, d3, d4]: [i64; 4]| Pass { order, gain, coefficients: [d1, d2, d3, d4, 0, 0, 0, 0] };
+    // Orders 0 to 3, each in one pass.
+    let words = [
+        0x10006011, 0x20000007, // 3 rows, 17 columns, side 7
+        0x30000000, 0x40000005, // down
+        0x30000011, 0x4FFFFFFD, 0x50000009, // up
+        0x30000022, 0x4000000B, 0x5FFFFFF9, 0x50000008, // right
+        0x30000033, 0x48000001, 0x5FFFFFFF, 0x50000000, 0x57FFFFFE, // left
+        0x60000000,
+    ];
+    let passes = [
+        pass(0, 5, [0, 0, 0, 0]),
+        pass(1, -3, [9, 0, 0, 0]),
+        pass(2, 11, [-7, 8, 0, 0]),
+        pass(3, -134217727, [-1, 0, 134217726, 0]),
+    ];
+    read_and_write_back(&words, Plan { rows: 3, columns: 17, side: 7, passes });
+    // Order 4 in all passes: 27 words.
+    let words = [
+        0x12000FFF, 0x20000004, // 4,096 rows, 4,095 columns, side 4
+        0x30000004, 0x48000000, 0x57FFFFFF, 0x58000000, 0x5FFFFFFF, 0x50000001, // down
+        0x30000014, 0x47FFFFFF, 0x50000002, 0x5FFFFFFE, 0x50000000, 0x5FFFFFF0, // up
+        0x30000024, 0x4FFFFFFF, 0x51234567, 0x5EDCBA99, 0x50010000, 0x5FFF0000, // right
+        0x30000034, 0x40000000, 0x50000064, 0x5FFFFF9C, 0x500F4240, 0x5FF0BDC0, // left
+        0x60000000,
+    ];
+    let passes = [
+        pass(4, -134217728, [134217727, -134217728, -1, 1]),
+        pass(4, 134217727, [2, -2, 0, -16]),
+        pass(4, -1, [0x1234567, -0x1234567, 65536, -65536]),
+        pass(4, 0, [100, -100, 1000000, -1000000]),
+    ];
+    read_and_write_back(&words, Plan { rows: 4096, columns: 4095, side: 4, passes });
+}
+
+/// Words that say this record, by the library and by the model, and that the library writes for it.
+fn read_and_write_back(words: &[u32], record: Plan) {
+    assert_eq!((plan::read(words), model::read(words)), (Ok(record), Ok(record)));
+    let mut written = [77; MOST_WORDS];
+    assert_eq!(plan::write(&record, &mut written), Ok(()));
+    assert_eq!(written[..words.len()], *words);
+    assert!(written[words.len()..].iter().all(|&word| word == 77));
 }
 
 #[test]
@@ -191,7 +277,7 @@ fn payloads_at_the_ends_of_their_ranges() {
     for bit in 4..28 {
         assert!(!accepted(5, 0x10 ^ 1 << bit), "pass up with bit {bit} turned");
     }
-    for order in 5..16 {
+    for order in 9..16 {
         assert!(!accepted(5, 0x10 | order), "pass up with order {order}");
     }
     for bit in 0..28 {
@@ -209,22 +295,21 @@ fn payloads_at_the_ends_of_their_ranges() {
 }
 
 #[test]
-fn all_orders_and_sides_are_read_and_written_back() {
-    let mut random = random::of_test("all_orders_and_sides_are_read_and_written_back");
+fn all_orders_are_read_and_written_back_at_three_sides() {
+    let mut random = random::of_test("all_orders_are_read_and_written_back_at_three_sides");
     let mut calls = 0;
-    for orders in all_orders() {
-        for side in 1..=32 {
+    for (number, orders) in all_orders().enumerate() {
+        let most = *orders.iter().max().unwrap();
+        // One below the largest order, as large, and each side in turn.
+        for side in [most.max(2) - 1, most.max(1), 1 + number % 32] {
             let (rows, columns) = (random.between(1, 4096), random.between(1, 4096));
             let record = random.plan(rows, columns, side, orders);
-            let most = *orders.iter().max().unwrap();
             let answer = read_and_compare(&model::words_of(&record), &mut calls);
             assert_eq!(answer, if most <= side { Ok(record) } else { Err(Refusal::SideBelowOrder) });
-            if side <= 5 {
-                use_and_compare(&record, &mut random, &mut calls);
-            }
+            use_and_compare(&record, &mut random, &mut calls);
         }
     }
-    assert!(calls >= 40_000, "{calls} calls");
+    assert!(calls >= 60_000, "{calls} calls");
 }
 
 #[test]
@@ -283,9 +368,11 @@ fn damaged_plan_words() {
 #[test]
 fn random_words_after_a_valid_beginning() {
     let mut random = random::of_test("random_words_after_a_valid_beginning");
-    let mut calls = 0;
+    let (mut calls, mut reached) = (0, Reached::default());
     for _ in 0..4_000 * random::rounds() {
-        let mut words = model::words_of(&any_plan(&mut random));
+        let record = any_plan(&mut random);
+        reached.note(&record);
+        let mut words = model::words_of(&record);
         words.truncate(random.below(words.len() + 1));
         for _ in 0..random.below(20) {
             let any = random.word() as u32 >> 4;
@@ -294,6 +381,7 @@ fn random_words_after_a_valid_beginning() {
         let _ = read_and_compare(&words, &mut calls);
     }
     assert!(calls >= 4_000);
+    reached.expect_all_orders();
 }
 
 #[test]
@@ -320,22 +408,32 @@ fn records_damaged_field_by_field() {
 
 #[test]
 fn negative_and_huge_fields_are_refused_6_at_0() {
-    let valid = Plan::plain(7, 7, 4).with(DOWN, 1, &[1, 2, 3, 4]).with(UP, 2, &[5]);
+    let valid = Plan::plain(7, 7, 8).with(DOWN, 1, &[1, 2, 3, 4, 5, 6, 7, 8]).with(UP, 2, &[5]);
     for field in 0..RECORD_WORDS {
         for damage in [i64::MIN, i64::MIN / 2, -(1 << 40), 1 << 40, 1 << 62, i64::MAX] {
             let mut words = fields(&valid);
             words[field] = damage;
             let refusal = plan::sizes(&plan_of(&words)).unwrap_err();
             assert_eq!((refusal.number(), refusal.place()), (6, 0), "field {field} is {damage}");
-            let mut buffer = [9; 40];
+            let mut buffer = [9; MOST_WORDS];
             let refusal = plan::write(&plan_of(&words), &mut buffer).unwrap_err();
             assert_eq!((refusal.number(), refusal.place()), (6, 0), "field {field} is {damage}");
-            assert_eq!(buffer, [9; 40]);
+            assert_eq!(buffer, [9; MOST_WORDS]);
         }
     }
-    let coefficient_past_order =
-        Plan { passes: [Pass { coefficients: [0, 0, 0, 1], ..Pass::new(1, &[]) }; 4], ..valid };
-    assert_eq!(plan::sizes(&coefficient_past_order), Err(Refusal::RecordBreaksRule));
+}
+
+#[test]
+fn a_coefficient_past_the_order_is_refused_6() {
+    for (pass, order) in (0..4).flat_map(|pass| (0..=8).map(move |order| (pass, order))) {
+        for place in 0..8 {
+            let mut record = Plan::plain(9, 9, 8).with(pass, 1, &vec![1; order]);
+            record.passes[pass].coefficients[place] = -1;
+            let expected = if place < order { Ok(()) } else { Err(Refusal::RecordBreaksRule) };
+            assert_eq!(plan::sizes(&record).map(|_| ()), expected, "{record:?}");
+            assert_eq!(plan::write(&record, &mut [0; MOST_WORDS]), expected, "{record:?}");
+        }
+    }
 }
 
 #[test]
@@ -344,7 +442,7 @@ fn short_word_buffers_are_refused_7_and_words_past_the_plan_are_kept() {
     for _ in 0..200 * random::rounds() {
         let record = any_plan(&mut random);
         let words = model::words_of(&record);
-        for length in 0..=30 {
+        for length in 0..=MOST_WORDS + 3 {
             let before = Lent::new(length, || random.word() as u32);
             let mut lent = before.clone();
             let answer = plan::write(&record, lent.get_mut());
@@ -366,8 +464,10 @@ fn short_word_buffers_are_refused_7_and_words_past_the_plan_are_kept() {
 #[test]
 fn sizes_follow_their_formulas() {
     let mut random = random::of_test("sizes_follow_their_formulas");
+    let mut reached = Reached::default();
     for _ in 0..2_000 * random::rounds() {
         let record = any_plan(&mut random);
+        reached.note(&record);
         let sizes = plan::sizes(&record).unwrap();
         let (rows, columns, side) = (record.rows as u64, record.columns as u64, record.side as u64);
         let orders: u64 = record.passes.iter().map(|pass| pass.order as u64).sum();
@@ -377,5 +477,13 @@ fn sizes_follow_their_formulas() {
         assert_eq!(sizes.pixels, rows * columns);
         assert_eq!(sizes.words, 11 + orders);
         assert_eq!(sizes.tasks, 6 * m * n - 2 * m - 2 * n);
+    }
+    reached.expect_all_orders();
+    // Order 8 in all passes: slots of 8 x 32 and 32 x 32 words.
+    for (rows, columns, side, strips) in
+        [(17, 33, 8, 3 * 5 * 256), (4096, 4096, 8, 67_108_864), (33, 1, 32, 2 * 1024), (4096, 4096, 32, 16_777_216)]
+    {
+        let sizes = plan::sizes(&random.plan(rows, columns, side, [8; 4])).unwrap();
+        assert_eq!((sizes.words, sizes.strips), (43, strips), "{rows} rows, {columns} columns, side {side}");
     }
 }

@@ -1,7 +1,7 @@
 //! The serial passes and the rectangle sum: the examples of the paper, and the library against the second program.
 
 use checks::lent::Lent;
-use checks::random::{self, Random};
+use checks::random::{self, Random, Reached};
 use checks::records::{all_orders, broken_record};
 use checks::{model, reference};
 use mulzhegat::serial::{self, Rectangle};
@@ -92,37 +92,43 @@ fn run_and_compare(plan: &Plan, random: &mut Random) {
 #[test]
 fn random_maps_against_the_second_program() {
     let mut random = random::of_test("random_maps_against_the_second_program");
+    let mut reached = Reached::default();
     for _ in 0..4_000 * random::rounds() {
         let plan = random.small_plan(600);
+        reached.note(&plan);
         run_and_compare(&plan, &mut random);
     }
+    reached.expect_all_orders();
 }
 
 #[test]
 fn all_orders_against_the_second_program() {
     let mut random = random::of_test("all_orders_against_the_second_program");
-    for orders in all_orders() {
-        // Fewer, as many and more lines than the order, and than a few lines worked on together.
-        for (rows, columns) in
-            [(1, 1), (2, 3), (3, 2), (5, 9), (9, 5), (17, 13), (random.between(1, 40), random.between(1, 40))]
-        {
-            let plan = random.plan(rows, columns, 4, orders);
-            run_and_compare(&plan, &mut random);
-        }
+    for (number, orders) in all_orders().enumerate() {
+        // Fewer, as many and more lines than the order, and than a few lines worked on together: one size for each
+        // choice of orders.
+        let any = (random.between(1, 40), random.between(1, 40));
+        let sizes = [(1, 1), (2, 3), (3, 2), (5, 9), (9, 5), (7, 8), (8, 7), (17, 13), any, any];
+        let (rows, columns) = sizes[number % sizes.len()];
+        let plan = random.plan(rows, columns, 8, orders);
+        run_and_compare(&plan, &mut random);
     }
 }
 
 #[test]
 fn maps_of_4096_rows_or_columns() {
     let mut random = random::of_test("maps_of_4096_rows_or_columns");
-    for orders in all_orders().step_by(3) {
+    let mut reached = Reached::default();
+    for orders in all_orders().step_by(31) {
         for (rows, columns) in [(4096, 1), (1, 4096)] {
-            let plan = random.plan(rows, columns, 4, orders);
+            let plan = random.plan(rows, columns, 8, orders);
+            reached.note(&plan);
             run_and_compare(&plan, &mut random);
         }
     }
+    reached.expect_all_orders();
     for (rows, columns) in [(4096, 2), (2, 4096), (4096, 33), (35, 4096), (700, 900)] {
-        let orders = random.orders(4);
+        let orders = random.orders(32);
         let plan = random.plan(rows, columns, 32, orders);
         run_and_compare(&plan, &mut random);
     }
