@@ -200,13 +200,17 @@ impl Pass {
     }
 }
 
+// Zero may stand at any place, and is tested first: most places of most plans have it.
 fn coefficient_kept(order: usize, place: usize, value: i64) -> bool
     ensures { λ r. ⌜ r ≡ coefficientKept order place value ⌝ }
 {
+    if is_zero(value) {
+        return true;
+    }
     if place < order {
         in_signed28(value)
     } else {
-        is_zero(value)
+        false
     }
 }
 
