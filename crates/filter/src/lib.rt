@@ -1,9 +1,7 @@
 // The kernel of every pass: one recursive filter over the lines of a window of a buffer, in place.
 // An inner crate: what its functions require, their callers in this repository show.
-ghost use mathlib.Core.Bool.{_&&_};
 ghost use mathlib.Core.Path.{_≡_};
-ghost use Prim.Native.Nat.{_+_, _*_, _^_, _<_, _≤_};
-ghost use lib.Dec.{leb};
+ghost use Prim.Native.Nat.{_+_, _-_, _*_, _^_, _<_, _≤_};
 ghost use lib.ListN.{length};
 ghost use Rattle.plan.specs.Rules.{orderLimit};
 ghost use Rattle.axis.specs.Axis.{columns, forward, axisOf, directionOf, along, across};
@@ -255,7 +253,7 @@ fn outputs_in_pairs(
     coefficients: &[u64; plan::ORDER_LIMIT],
     order: usize,
 )
-    requires { ⌜ (0 < order) × (order ≤ orderLimit) × (order ≤ time) × LinesFit (length (now buffer)) lines (time + 2 * pairs) × Apart lines (time + 2 * pairs) ⌝ }
+    requires { ⌜ (0 < order) × (order ≤ orderLimit) × (0 < pairs → order ≤ time) × LinesFit (length (now buffer)) lines (time + 2 * pairs) × Apart lines (time + 2 * pairs) ⌝ }
     ensures { λ _. ⌜ now (buffer .exit) ≡ filterInPlace lines (filterBy 1 order (now (coefficients .entry))) time (2 * pairs) (now (buffer .entry)) ⌝ }
 {
     let mut pair = 0;
@@ -275,15 +273,29 @@ fn outputs_in_pairs(
     }
 }
 
-// Whether two places can be done at once: the first has all its taps, and two are left.
-fn two_at_once(order: usize, time: usize, left: usize) -> bool
-    ensures { λ r. ⌜ r ≡ (leb order time && leb 2 left) ⌝ }
+// The outputs of all lines at `places` places after `history` others, each with fewer words before it than the filter
+// has taps.
+fn outputs_short_of_taps(
+    buffer: &mut [u64],
+    lines: Lines,
+    history: usize,
+    places: usize,
+    coefficients: &[u64; plan::ORDER_LIMIT],
+    order: usize,
+)
+    requires { ⌜ (order ≤ orderLimit) × (places ≤ order - history) × LinesFit (length (now buffer)) lines (history + places) ⌝ }
+    ensures { λ _. ⌜ now (buffer .exit) ≡ filterInPlace lines (filterBy 1 order (now (coefficients .entry))) history places (now (buffer .entry)) ⌝ }
 {
-    if order <= time { left >= 2 } else { false }
+    let mut done = 0;
+    while done < places {
+        let time = history + done;
+        outputs_at_time(buffer, lines, time, coefficients, time);
+        done += 1;
+    }
 }
 
 // The outputs of many lines at `places` places, of a filter of gain 1, after `history` places whose words are their
-// history.
+// history: place by place up to the first that has all its taps, then in pairs, then the last where it is alone.
 fn filter_lines(
     buffer: &mut [u64],
     lines: Lines,
@@ -295,18 +307,13 @@ fn filter_lines(
     requires { ⌜ (0 < order) × (order ≤ orderLimit) × LinesFit (length (now buffer)) lines (history + places) × Apart lines (history + places) ⌝ }
     ensures { λ _. ⌜ now (buffer .exit) ≡ filterInPlace lines (filterBy 1 order (now (coefficients .entry))) history places (now (buffer .entry)) ⌝ }
 {
-    let mut done = 0;
-    while done < places {
-        let time = history + done;
-        if two_at_once(order, time, places - done) {
-            let pairs = (places - done) / 2;
-            outputs_in_pairs(buffer, lines, time, pairs, coefficients, order);
-            done += 2 * pairs;
-        } else {
-            let taps = number::lesser(order, time);
-            outputs_at_time(buffer, lines, time, coefficients, taps);
-            done += 1;
-        }
+    let lead = number::lesser(places, order - number::lesser(order, history));
+    outputs_short_of_taps(buffer, lines, history, lead, coefficients, order);
+    let pairs = (places - lead) / 2;
+    outputs_in_pairs(buffer, lines, history + lead, pairs, coefficients, order);
+    let done = lead + 2 * pairs;
+    if done < places {
+        outputs_at_time(buffer, lines, history + done, coefficients, order);
     }
 }
 

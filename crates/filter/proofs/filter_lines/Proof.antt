@@ -1,147 +1,173 @@
--- `filter_lines` has done the places passed so far of all lines.
-use mathlib.Core.Bool.{true, _&&_}
-use mathlib.Core.Path.{_≡_, refl, sym, _∙_}
-use Prim.Native.Nat.{ℕ, _+_, _-_, _*_, _/_, _≤_}
+-- `filter_lines` does the places that have not all their taps, the pairs and the last place, one after another.
+use mathlib.Core.Path.{_≡_, _∙_}
+use Prim.Native.Nat.{ℕ, _+_, _-_, _*_, _/_, _<_, _≤_, min}
 use native.Mathlib.Omega.{arith}
 use borrow.Author.Needs.{needs}
-use borrow.Author.Tests.{leb-true}
-use lib.Dec.{leb}
 use lib.ListN.{length}
-use Rattle.number.proofs.Tests.{and-left, and-right}
 use Rattle.filter.specs.FilterWords.{filterBy}
 use Rattle.filter.specs.Kernel.{filterInPlace}
 use Rattle.filter.proofs.Turns.{lines-fit-fewer, apart-fewer, place-more, places-more}
 use Rattle.filter.proofs.filter_lines.Statement.{statement}
 use Rattle.filter.proofs.filter_lines.Tie as tie
 
-abbrev Inv-loop : tie.InvT-loop
-Inv-loop buffer₀ lines history places coefficients order done₀ buffer done =
-    (done ≤ places)
-    × (length buffer ≡ length buffer₀)
-    × (buffer ≡ filterInPlace lines (filterBy 1 order coefficients) history done buffer₀)
+-- ---- stations
 
-abbrev μ-loop : tie.MeasureT-loop
-μ-loop buffer₀ lines history places coefficients order done₀ buffer done = places - done
+abbrev start : tie.After-lesser2 → tie.Start
+start c = c .before .before .before
 
--- Where places are done in pairs, the first has all its taps, and there is a pair.
-in-pairs : (c : tie.Then1 Inv-loop μ-loop)
-    → let l = c .before .before .before in
-    let a = l .before .before .args in
-    (a .order ≤ a .history + l .loop .done) × (2 ≤ a .places - l .loop .done)
-in-pairs c =
-    let l = c .before .before .before in
-    let a = l .before .before .args in
-    let all-taps = leb (a .order) (a .history + l .loop .done) in
-    let pair = leb 2 (a .places - l .loop .done) in
-    let e : (all-taps && pair) ≡ true = sym (c .before .two-at-once .ensures) ∙ c .if1 .taken in
-    (leb-true _ _ (and-left all-taps pair e), leb-true _ _ (and-right all-taps pair e))
+abbrev lead : tie.After-slice-known2 → tie.After-outputs-short-of-taps
+lead c = c .before .before
 
-loop-holds : tie.Need-loop-holds Inv-loop μ-loop
-unfolding filterInPlace
-loop-holds c = (omega arith, refl, refl)
+abbrev counted : tie.After-slice-known2 → tie.After-lesser2
+counted c = lead c .before .before
 
-add-time : tie.Need-add-time Inv-loop μ-loop
-add-time c = omega (arith, c .before .before .before .pre .2 .enough)
+abbrev paired : tie.After-slice-known3 → tie.After-outputs-in-pairs
+paired c = c .before .before
 
-sub-two-at-once : tie.Need-sub-two-at-once Inv-loop μ-loop
-sub-two-at-once c = search needs
+abbrev led : tie.After-slice-known3 → tie.After-slice-known2
+led c = paired c .before .before
 
-two-at-once-requires : tie.Need-two-at-once-requires Inv-loop μ-loop
-two-at-once-requires c κs = search needs
+-- The places of the pairs are among those to do.
+paired-few : (c : tie.After-slice-known2)
+    → let n = counted c in
+    let a = start n .args in
+    a .history + n .lesser2 .result + 2 * ((a .places - n .lesser2 .result) / 2) ≤ a .history + a .places
+paired-few c = omega (arith, counted c .lesser2 .ensures)
 
-sub-pairs : tie.Need-sub-pairs Inv-loop μ-loop
-sub-pairs c = search needs
+-- How many places are done before the last,
+abbrev doneBefore : tie.After-slice-known3 → ℕ
+doneBefore c =
+    let n = counted (led c) in
+    n .lesser2 .result + 2 * ((start n .args .places - n .lesser2 .result) / 2)
 
-outputs-in-pairs-requires : tie.Need-outputs-in-pairs-requires Inv-loop μ-loop
-outputs-in-pairs-requires c κs =
-    let l = c .before .before .before .before in
-    let s = l .before .before in
-    let places : ℕ = s .args .history + l .loop .done + 2 * ((s .args .places - l .loop .done) / 2) in
-    let few : places ≤ s .args .history + s .args .places = omega arith in
-    let e : length (l .loop .buffer) ≡ length (s .args .buffer .now) = l .loop .inv .1 in (
-      s .pre .0,
-      s .pre .1,
-      in-pairs (c .before) .0,
-      rw e (lines-fit-fewer (s .pre .2) places few),
-      apart-fewer (s .args .lines) _ (s .pre .3) places few,
-    )
+-- what the buffer holds then,
+done-before : (c : tie.After-slice-known3)
+    → let a = start (counted (led c)) .args in
+    paired c .outputs-in-pairs .last .0
+    ≡ filterInPlace (a .lines) (filterBy 1 (a .order) (a .coefficients .now)) (a .history) (doneBefore c) (a .buffer .now)
+done-before c =
+    paired c .outputs-in-pairs .ensures
+    ∙ places-more _ _ _ (counted (led c) .lesser2 .result) _ (lead (led c) .outputs-short-of-taps .ensures) _
 
-mul-done : tie.Need-mul-done Inv-loop μ-loop
-mul-done c = search needs
+-- and that a last place is the only one, with all its taps.
+last-time : (c : tie.After-slice-known3) → doneBefore c < start (counted (led c)) .args .places
+    → let a = start (counted (led c)) .args in
+    (doneBefore c + 1 ≡ a .places) × (a .order ≤ a .history + doneBefore c)
+last-time c left =
+    let n = counted (led c) in
+    (omega (arith, n .lesser2 .ensures), omega (arith, n .before .lesser .ensures, n .lesser2 .ensures))
 
-add-done : tie.Need-add-done Inv-loop μ-loop
-add-done c = search needs
+-- ---- needs
 
-loop-less : tie.Need-loop-less Inv-loop μ-loop
-loop-less c = omega (arith, in-pairs (c .before .before .before .before) .1)
-
-loop-again : tie.Need-loop-again Inv-loop μ-loop
-loop-again c =
-    let f = c .before .before in
-    let l = f .before .before .before .before .before in (
-      omega arith,
-      omega (arith, f .outputs-in-pairs .kept, l .loop .inv .1),
-      f .outputs-in-pairs .ensures ∙ places-more _ _ _ (l .loop .done) _ (l .loop .inv .2) _,
-    )
-
-lesser-requires : tie.Need-lesser-requires Inv-loop μ-loop
+lesser-requires : tie.Need-lesser-requires
 lesser-requires c κs = search needs
 
-outputs-at-time-requires : tie.Need-outputs-at-time-requires Inv-loop μ-loop
+sub-lesser : tie.Need-sub-lesser
+sub-lesser c = omega (arith, c .lesser .ensures)
+
+lesser-requires-2 : tie.Need-lesser-requires-2
+lesser-requires-2 c κs = search needs
+
+outputs-short-of-taps-requires : tie.Need-outputs-short-of-taps-requires
+outputs-short-of-taps-requires c κs =
+    let n = c .before in
+    let s = start n in (
+      s .pre .1,
+      omega (arith, n .before .lesser .ensures, n .lesser2 .ensures),
+      lines-fit-fewer (s .pre .2) _ (omega (arith, n .lesser2 .ensures)),
+    )
+
+sub-pairs : tie.Need-sub-pairs
+sub-pairs c = omega (arith, counted c .lesser2 .ensures)
+
+add-outputs-in-pairs : tie.Need-add-outputs-in-pairs
+add-outputs-in-pairs c =
+    omega (arith, counted (c .before) .lesser2 .ensures, start (counted (c .before)) .pre .2 .enough)
+
+outputs-in-pairs-requires : tie.Need-outputs-in-pairs-requires
+outputs-in-pairs-requires c κs =
+    let l = c .before in
+    let n = counted l in
+    let s = start n in
+    let few = paired-few l in (
+      s .pre .0,
+      s .pre .1,
+      λ some. omega (arith, n .before .lesser .ensures, n .lesser2 .ensures),
+      rw (lead l .outputs-short-of-taps .kept .0) (lines-fit-fewer (s .pre .2) _ few),
+      apart-fewer (s .args .lines) _ (s .pre .3) _ few,
+    )
+
+mul-done : tie.Need-mul-done
+mul-done c = search needs
+
+add-done : tie.Need-add-done
+add-done c = search needs
+
+add-outputs-at-time : tie.Need-add-outputs-at-time
+add-outputs-at-time c = search needs
+
+outputs-at-time-requires : tie.Need-outputs-at-time-requires
 outputs-at-time-requires c κs =
-    let f = c .before in
-    let l = f .before .before .before .before in
-    let s = l .before .before in
-    let e : length (l .loop .buffer) ≡ length (s .args .buffer .now) = l .loop .inv .1 in (
-      omega (arith, f .lesser .ensures),
-      omega (arith, f .lesser .ensures),
-      rw e (lines-fit-fewer (s .pre .2) (s .args .history + l .loop .done + 1) (omega arith)),
+    let p = c .before .before in
+    let n = counted (led p) in
+    let s = start n in
+    let last = last-time p (c .before .if1 .taken) in (
+      s .pre .1,
+      last .1,
+      rw (paired p .outputs-in-pairs .kept .0, lead (led p) .outputs-short-of-taps .kept .0)
+          (lines-fit-fewer (s .pre .2) _ (omega (arith, last .0))),
     )
 
-add-done-2 : tie.Need-add-done-2 Inv-loop μ-loop
-add-done-2 c = search needs
+same-length : tie.Need-same-length
+same-length c =
+    let o = c .before .before in
+    let p = o .before .before .before in
+    omega (arith, o .outputs-at-time .kept, paired p .outputs-in-pairs .kept, lead (led p) .outputs-short-of-taps .kept)
 
-loop-less-2 : tie.Need-loop-less-2 Inv-loop μ-loop
-loop-less-2 c = search needs
-
-loop-again-2 : tie.Need-loop-again-2 Inv-loop μ-loop
-loop-again-2 c =
-    let f = c .before .before in
-    let l = f .before .before .before .before .before .before in (
-      omega arith,
-      omega (arith, f .outputs-at-time .kept, l .loop .inv .1),
-      place-more _ _ _ (l .loop .done) _ (l .loop .buffer) (l .loop .inv .2)
-          (rw (f .before .before .lesser .ensures) at (f .outputs-at-time .ensures)),
-    )
-
-same-length : tie.Need-same-length Inv-loop μ-loop
-same-length c = search needs
-
-returns : tie.Need-returns Inv-loop μ-loop
+returns : tie.Need-returns
 returns c =
-    let e : c .before .loop .done ≡ c .before .before .before .args .places = omega arith in
-    rw e at (c .before .loop .inv .2)
+    let o = c .before .before in
+    let t = o .before .before in
+    let p = t .before in
+    let n = counted (led p) in
+    let a = start n .args in
+    let last = last-time p (t .if1 .taken) in
+    let all-taps : min (a .order) (a .history + doneBefore p) ≡ a .order = omega (arith, last .1) in
+    let all : doneBefore p + 1 ≡ a .places = omega (arith, last .0) in
+    rw all
+    at (place-more (a .lines) (filterBy 1 (a .order) (a .coefficients .now)) (a .history) (doneBefore p) (a .buffer .now)
+    (paired p .outputs-in-pairs .last .0) {e = o .outputs-at-time .last .0} (done-before p)
+    (rw all-taps (o .outputs-at-time .ensures)))
+
+same-length-2 : tie.Need-same-length-2
+same-length-2 c =
+    let p = c .before in
+    omega (arith, paired p .outputs-in-pairs .kept, lead (led p) .outputs-short-of-taps .kept)
+
+returns-2 : tie.Need-returns-2
+returns-2 c =
+    let p = c .before in
+    let n = counted (led p) in
+    let a = start n .args in
+    let all : doneBefore p ≡ a .places = omega (arith, n .lesser2 .ensures, c .if1 .left) in
+    rw all at (done-before p)
 
 pub filter-lines-spec : {M : Type 1} → statement M
 filter-lines-spec =
     tie.close
     (tie.spec
-    Inv-loop
-    μ-loop
-    loop-holds
-    add-time
-    sub-two-at-once
-    two-at-once-requires
+    lesser-requires
+    sub-lesser
+    lesser-requires-2
+    outputs-short-of-taps-requires
     sub-pairs
+    add-outputs-in-pairs
     outputs-in-pairs-requires
     mul-done
     add-done
-    loop-less
-    loop-again
-    lesser-requires
+    add-outputs-at-time
     outputs-at-time-requires
-    add-done-2
-    loop-less-2
-    loop-again-2
     same-length
-    returns)
+    returns
+    same-length-2
+    returns-2)

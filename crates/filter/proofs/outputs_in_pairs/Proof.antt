@@ -41,7 +41,8 @@ outputs-at-two-places-requires : tie.Need-outputs-at-two-places-requires Inv-loo
 outputs-at-two-places-requires c κs =
     let p = c .before in
     let l = p .before .before in
-    let s = l .before .before in (
+    let s = l .before .before in
+    let all-taps = s .pre .2 (omega arith) in (
       s .pre .0,
       s .pre .1,
       rw (l .loop .inv .1, p .lead-place .ensures)
@@ -61,6 +62,7 @@ loop-again c =
     let p = o .before .before in
     let l = p .before .before in
     let s = l .before .before in
+    let all-taps = s .pre .2 (omega arith) in
     let count : 2 * (l .loop .pair + 1) ≡ 2 * l .loop .pair + 2 = omega arith in (
       omega arith,
       omega (arith, o .outputs-at-two-places .kept, l .loop .inv .1),
