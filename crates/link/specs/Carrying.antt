@@ -40,14 +40,9 @@ multipleAdded place strips at step weight n buffer =
     (λ l. wordAt buffer (responsePlace l place) ⊕ wordAt strips (at + l * step) ⊗ weight)
     n buffer
 
--- What the places of a strip weigh at a distance.
-abbrev pub weightsAt : List (List ℕ) → (distance place : ℕ) → ℕ
-weightsAt square distance place = squareAt square place distance
-
--- What multiples of such words at the first places of the responses want, weighted for a distance.
-pub record MultiplesFit (places distance responses strips at step lines : ℕ) : Type 0 where
+-- What multiples of such words at the first places of the responses want.
+pub record MultiplesFit (places responses strips at step lines : ℕ) : Type 0 where
   pub few-places : places ≤ orderLimit
-  pub near : distance < orderLimit
   pub word-per-line : WordPerLine responses strips at step lines
 
 -- Multiples of a word for each line have been added to the first places of the responses.
@@ -64,10 +59,9 @@ pub record MultiplesAdded (lines places : ℕ) (words weights : ℕ → ℕ) (be
 
 -- ---- histories
 
--- What the first n places of the histories in a strip want; the buffers have so many words.
-pub record HistoriesFit (course : Course) (n responses strips : ℕ) (strip : Strip) : Type 0 where
+-- What the histories in a strip want; the buffers have so many words.
+pub record HistoriesFit (course : Course) (responses strips : ℕ) (strip : Strip) : Type 0 where
   pub course-fits : CourseFits course
-  pub few : n ≤ orderLimit
   pub responses-long : responses ≡ responseWords
   pub strip-fits : StripFits strips strip
 
@@ -80,7 +74,7 @@ pub record HistoriesAdded (lines places n : ℕ) (H : ℕ → ℕ → ℕ) (squa
   pub length-kept : length after ≡ length before
   pub at : (line place : ℕ) → line < lines → place < places
       → wordAt after (responsePlace line place)
-      ≡ wordAt before (responsePlace line place) ⊕ weightedSum n (H line) (squareAt square place)
+      ≡ wordAt before (responsePlace line place) ⊕ weightedSum n (H line) (λ distance. squareAt square distance place)
 
 -- ---- the passes of the link's axis
 

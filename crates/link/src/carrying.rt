@@ -4,7 +4,7 @@ use filter::FilterWords;
 use plan::Plan;
 use strips::Strip;
 ghost use mathlib.Core.Path.{_≡_};
-ghost use Prim.Native.Nat.{_+_, _*_, _<_};
+ghost use Prim.Native.Nat.{_+_, _*_, _<_, _≤_};
 ghost use lib.ListN.{length};
 ghost use Rattle.word.specs.Word.{_⊗_};
 ghost use Rattle.plan.specs.Rules.{orderLimit};
@@ -13,7 +13,7 @@ ghost use Rattle.axis.specs.Axis.{directionOf};
 ghost use Rattle.strips.specs.StripRecord.{stripRead};
 ghost use Rattle.squares.specs.LineBuffers.{filterAt};
 ghost use Rattle.link.specs.Crossing.{crossedWords, Held};
-ghost use Rattle.link.specs.Carrying.{WordPerLine, multipleAdded, weightsAt, MultiplesFit, MultiplesAdded, DistanceAdded, HistoriesFit, historyWord, HistoriesAdded, CarryFits, PassToCarry, Carried, responseOf};
+ghost use Rattle.link.specs.Carrying.{WordPerLine, multipleAdded, MultiplesFit, MultiplesAdded, DistanceAdded, HistoriesFit, historyWord, HistoriesAdded, CarryFits, PassToCarry, Carried, responseOf};
 ghost use Rattle.task_words.specs.ScaledEdges.{scaledEdges};
 
 // Adds a multiple of words that lie `step` apart in the strips, one for each line, to a place of the responses.
@@ -39,7 +39,7 @@ fn add_multiple(
     }
 }
 
-// Adds such words, times a gain, to all places of the responses, each times its weight for a distance. The weight takes the
+// Adds such words, times a gain, to all places of the responses, times the weight of each place. The weight takes the
 // gain, once for all lines.
 fn add_multiples(
     responses: &mut [u64],
@@ -48,37 +48,35 @@ fn add_multiples(
     at: usize,
     step: usize,
     lines: usize,
-    square: [[u64; plan::ORDER_LIMIT]; plan::ORDER_LIMIT],
-    distance: usize,
+    weights: [u64; plan::ORDER_LIMIT],
     gain: u64,
 )
-    requires { ⌜ MultiplesFit order distance (length (now responses)) (length (now strips)) at step lines ⌝ }
+    requires { ⌜ MultiplesFit order (length (now responses)) (length (now strips)) at step lines ⌝ }
     ensures { λ _. ⌜ MultiplesAdded lines order (λ l. gain ⊗ wordAt (now (strips .entry)) (at + l * step))
-        (weightsAt square distance) (now (responses .entry)) (now (responses .exit)) ⌝ }
+        (wordAt weights) (now (responses .entry)) (now (responses .exit)) ⌝ }
 {
     let mut place = 0;
     while place < order {
-        let weights = square[place];
-        let weight = word::mul(gain, weights[distance]);
+        let weight = word::mul(gain, weights[place]);
         add_multiple(responses, place, strips, at, step, lines, weight);
         place += 1;
     }
 }
 
-// Adds the words of a strip at one place of its lines, which is a distance from the edge, times a gain, to the responses.
+// Adds the words of a strip at one distance from the edge, which is a place of its lines, times a gain, to all places of
+// the responses, times what each weighs for that distance.
 fn add_distance(
     responses: &mut [u64],
     strips: &[u64],
     strip: Strip,
     course: Course,
     place: usize,
-    square: [[u64; plan::ORDER_LIMIT]; plan::ORDER_LIMIT],
-    distance: usize,
+    weights: [u64; plan::ORDER_LIMIT],
     gain: u64,
 )
-    requires { ⌜ HistoriesFit course (distance + 1) (length (now responses)) (length (now strips)) strip ⌝ }
+    requires { ⌜ HistoriesFit course (length (now responses)) (length (now strips)) strip ⌝ }
     ensures { λ _. ⌜ DistanceAdded (course .lines) (course .order) (λ l. gain ⊗ stripRead strip (now (strips .entry)) l place)
-        (weightsAt square distance) (now (responses .entry)) (now (responses .exit)) ⌝ }
+        (wordAt weights) (now (responses .entry)) (now (responses .exit)) ⌝ }
 {
     let lines = super::lines::lines_inside(strip, place, course.lines);
     if 0 < lines {
@@ -89,8 +87,7 @@ fn add_distance(
             strip.first_at(place),
             strip.line_step,
             lines,
-            square,
-            distance,
+            weights,
             gain,
         );
     }
@@ -107,7 +104,7 @@ fn add_histories(
     square: [[u64; plan::ORDER_LIMIT]; plan::ORDER_LIMIT],
     gain: u64,
 )
-    requires { ⌜ HistoriesFit course order (length (now responses)) (length (now strips)) strip ⌝ }
+    requires { ⌜ HistoriesFit course (length (now responses)) (length (now strips)) strip × (order ≤ orderLimit) ⌝ }
     ensures { λ _. ⌜ HistoriesAdded (course .lines) (course .order) order
         (historyWord gain (directionOf pass) order strip (now (strips .entry))) square
         (now (responses .entry)) (now (responses .exit)) ⌝ }
@@ -115,16 +112,8 @@ fn add_histories(
     let mut distance = 0;
     while distance < order {
         let place = super::lines::from_edge(pass, order, distance);
-        add_distance(
-            responses,
-            strips,
-            strip,
-            course,
-            place,
-            square,
-            distance,
-            gain,
-        );
+        let weights = square[distance];
+        add_distance(responses, strips, strip, course, place, weights, gain);
         distance += 1;
     }
 }
@@ -147,7 +136,7 @@ fn carry_pass(
 {
     let filter = filters[pass];
     let row = squares::rows_before(filters, pass);
-    let square = squares::square_from(lines, row, course.from);
+    let square = squares::square_from(lines, row, filter.order, course.from, course.order);
     let past_edge = strips::strip_before(plan, k, pass);
     let gain = filter::gains_after(plan, pass, course.pass);
     add_histories(

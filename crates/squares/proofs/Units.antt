@@ -161,12 +161,12 @@ module _ (places t m v row order : ℕ) (first : t ≤ v) (last : v < t + m) (tw
 -- ---- arrays of arrays
 
 -- One row more.
-pub square-next : (v : ℕ → ℕ → ℕ) (place : ℕ) (square : List (List ℕ)) (row : List ℕ) → place < length square
-    → ((j : ℕ) → j < orderLimit → wordAt row j ≡ v place j)
-    → ((p j : ℕ) → p < place → j < orderLimit → squareAt square p j ≡ v p j)
-    → (p j : ℕ) → p < place + 1 → j < orderLimit → squareAt (set square place row) p j ≡ v p j
-square-next v place square row h e f p j a b =
-    elim (ℕ-discrete p place) [
-      | yes q ↦ rw q (ap (λ z. wordAt z j) (getD-set-same square place row [] h) ∙ e j b)
-      | no q ↦ ap (λ z. wordAt z j) (getD-set-other square place p row [] q) ∙ f p j (omega arith) b
+pub square-next : (v : ℕ → ℕ → ℕ) (places line : ℕ) (square : List (List ℕ)) (row : List ℕ) → line < length square
+    → ((p : ℕ) → p < places → wordAt row p ≡ v line p)
+    → ((l p : ℕ) → l < line → p < places → squareAt square l p ≡ v l p)
+    → (l p : ℕ) → l < line + 1 → p < places → squareAt (set square line row) l p ≡ v l p
+square-next v places line square row h e f l p a b =
+    elim (ℕ-discrete l line) [
+      | yes q ↦ rw q (ap (λ z. wordAt z p) (getD-set-same square line row [] h) ∙ e p b)
+      | no q ↦ ap (λ z. wordAt z p) (getD-set-other square line l row [] q) ∙ f l p (omega arith) b
     ]

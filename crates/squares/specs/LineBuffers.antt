@@ -72,9 +72,9 @@ unfoldable pub unitLines : Direction → (row places order : ℕ) → List ℕ �
 unitLines d row places order buffer =
     written (λ j. placeBeyond d places (row + j) j) (λ j. 1) order buffer
 
--- What a square has at a place and a line.
-abbrev pub squareAt : List (List ℕ) → (place line : ℕ) → ℕ
-squareAt square place line = wordAt (getD square place []) line
+-- What a square has at a line and a place.
+abbrev pub squareAt : List (List ℕ) → (line place : ℕ) → ℕ
+squareAt square line place = wordAt (getD square line []) place
 
 -- What the passes t, .. t+m-1 along the rows of a buffer of n words want.
 pub record LinesFit (n : ℕ) (filters : ℕ → Filter) (places t m : ℕ) : Type 0 where

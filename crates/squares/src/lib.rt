@@ -115,34 +115,36 @@ pub fn unit_lines(lines: &mut [u64], row: usize, pass: usize, places: usize, ord
     }
 }
 
-// What each line, from a row on, has in a column.
-fn square_row(lines: &[u64], row: usize, column: usize) -> [u64; plan::ORDER_LIMIT]
-    requires { ⌜ (column < rowWords) × ((row + orderLimit) * rowWords ≤ length (now lines)) ⌝ }
-    ensures { λ r. ⌜ ((line : ℕ) → line < orderLimit → wordAt r line ≡ wordAt (now (lines .entry)) (rowMajor rowWords (row + line) column)) ⌝ }
+// A row of a square: `places` words of a line, from `start` in the buffer on.
+fn square_row(lines: &[u64], start: usize, places: usize) -> [u64; plan::ORDER_LIMIT]
+    requires { ⌜ (places ≤ orderLimit) × (start + places ≤ length (now lines)) ⌝ }
+    ensures { λ r. ⌜ ((place : ℕ) → place < places → wordAt r place ≡ wordAt (now (lines .entry)) (start + place)) ⌝ }
 {
     let mut words = [0; plan::ORDER_LIMIT];
-    let mut line = 0;
-    while line < plan::ORDER_LIMIT {
-        words[line] = lines[(row + line) * ROW + column];
-        line += 1;
+    let mut place = 0;
+    while place < places {
+        words[place] = lines[start + place];
+        place += 1;
     }
     words
 }
 
-// A square: what each line, from a row on, has in the columns from `from` on.
+// A square: what each of `count` lines, from a row on, has in `places` columns from column `from` on.
 pub fn square_from(
     lines: &[u64],
     row: usize,
+    count: usize,
     from: usize,
+    places: usize,
 ) -> [[u64; plan::ORDER_LIMIT]; plan::ORDER_LIMIT]
-    requires { ⌜ (from + orderLimit ≤ rowWords) × ((row + orderLimit) * rowWords ≤ length (now lines)) ⌝ }
-    ensures { λ r. ⌜ ((place line : ℕ) → place < orderLimit → line < orderLimit → squareAt r place line ≡ wordAt (now (lines .entry)) (rowMajor rowWords (row + line) (from + place))) ⌝ }
+    requires { ⌜ (count ≤ orderLimit) × (places ≤ orderLimit) × (from + places ≤ rowWords) × ((row + count) * rowWords ≤ length (now lines)) ⌝ }
+    ensures { λ r. ⌜ ((line place : ℕ) → line < count → place < places → squareAt r line place ≡ wordAt (now (lines .entry)) (rowMajor rowWords (row + line) (from + place))) ⌝ }
 {
     let mut square = [[0; plan::ORDER_LIMIT]; plan::ORDER_LIMIT];
-    let mut place = 0;
-    while place < plan::ORDER_LIMIT {
-        square[place] = square_row(lines, row, from + place);
-        place += 1;
+    let mut line = 0;
+    while line < count {
+        square[line] = square_row(lines, (row + line) * ROW + from, places);
+        line += 1;
     }
     square
 }

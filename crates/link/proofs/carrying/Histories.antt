@@ -6,7 +6,6 @@ use native.Mathlib.Omega.{arith}
 use native.Mathlib.Numerals.{add-one}
 use Rattle.word.proofs.Ring.{add-assoc, zero-right, reduced-small}
 use Rattle.word.specs.Word.{_⊕_, _⊗_}
-use Rattle.plan.specs.Rules.{orderLimit}
 use Rattle.plan.specs.declared.Plan.{Plan}
 use Rattle.buffer.specs.Lists.{wordAt}
 use Rattle.passes.specs.Filter.{Filter}
@@ -19,9 +18,9 @@ use Rattle.squares.specs.LinePasses.{passSquare, withHistories, crossed, respon
 use Rattle.squares.specs.LineBuffers.{rowWords, rowsBefore, filterAt, squareAt}
 use Rattle.link.specs.Courses.{indexAt, CourseFits}
 use Rattle.link.specs.Crossing.{responsePlace, crossedWords, Held}
-use Rattle.link.specs.Carrying.{weightsAt, DistanceAdded, historyWord, HistoriesAdded, CarryFits, PassToCarry, Carried, responseOf}
+use Rattle.link.specs.Carrying.{DistanceAdded, historyWord, HistoriesAdded, CarryFits, PassToCarry, Carried, responseOf}
 use Rattle.link.specs.declared.Course.{Course}
-use Rattle.link.proofs.Courses.{link-orders, scaled-edges}
+use Rattle.link.proofs.Courses.{scaled-edges}
 use Rattle.filter.specs.FilterWords.{gainsAfter}
 use Rattle.task_words.specs.ScaledEdges.{scaledEdges}
 use Rattle.passes.specs.Table.{sumOf}
@@ -39,7 +38,7 @@ histories-none lines places H square before small =
 -- One distance more.
 pub histories-more : (lines places n : ℕ) (H : ℕ → ℕ → ℕ) (square : List (List ℕ)) (before : List ℕ) {b after : List ℕ}
     {words : ℕ → ℕ} → HistoriesAdded lines places n H square before b → ((line : ℕ) → words line ≡ H line n)
-    → DistanceAdded lines places words (weightsAt square n) b after
+    → DistanceAdded lines places words (squareAt square n) b after
     → HistoriesAdded lines places (n + 1) H square before after
 unfolding weightedSum sumOf
 histories-more lines places n H square before held e added =
@@ -48,7 +47,7 @@ histories-more lines places n H square before held e added =
       length-kept = added .length-kept ∙ held .length-kept;
       at = λ line p h b.
           added .at line p h b
-          ∙ ap₂ (λ s t. s ⊕ t ⊗ weightsAt square n p) (held .at line p h b) (e line)
+          ∙ ap₂ (λ s t. s ⊕ t ⊗ squareAt square n p) (held .at line p h b) (e line)
           ∙ add-assoc _ _ _;
     })
 
@@ -68,8 +67,8 @@ pub histories-carried : {plan : Plan} {k : ℕ} {course : Course} {filters : Lis
     → CarryFits plan k course filters strips lines → (pass : ℕ) {responses : ℕ} → PassToCarry course pass responses
     → (strip : Strip) → strip ≡ stripBefore plan k pass → {gain : ℕ} → gain ≡ gainsAfter plan pass (course .pass) → {row : ℕ}
     → row ≡ rowsBefore (filterAt filters) pass → {square : List (List ℕ)} {before after : List ℕ}
-    → ((p j : ℕ) → p < orderLimit → j < orderLimit
-    → squareAt square p j ≡ wordAt lines (rowMajor rowWords (row + j) (course .from + p)))
+    → ((j p : ℕ) → j < filterAt filters pass .order → p < course .order
+    → squareAt square j p ≡ wordAt lines (rowMajor rowWords (row + j) (course .from + p)))
     → HistoriesAdded (course .lines) (course .order) (filterAt filters pass .order)
     (historyWord gain (directionOf pass) (filterAt filters pass .order) strip strips) square before after
     → Carried (filterAt filters) course pass (scaledEdges plan strips k (course .pass) pass) before after
@@ -77,7 +76,6 @@ histories-carried {plan} {k} {course} {filters} {strips} {lines} held pass here 
     let fits = held .link-fits in
     let h : pass < 4 = omega (arith, here .in-course, fits .course-fits .passes-counted) in
     let order = filterAt filters pass .order in
-    let few = link-orders fits .order-limited pass h in
     record {
       length-kept = added .length-kept;
       at = λ line place l i.
@@ -87,7 +85,7 @@ histories-carried {plan} {k} {course} {filters} {strips} {lines} held pass here 
           (λ j c.
           let low = i .low in
           let high = i .high in
-          q place j (omega (arith, i .below, fits .course-fits .order-limited)) (omega arith)
+          q j place c (i .below)
           ∙ ap (λ z. wordAt lines (rowMajor rowWords (z + j) (course .from + place))) r
           ∙ ap (wordAt lines) (omega arith)
           ∙ held .ready .squares pass j (indexAt course place) (here .from-first) (here .in-course) c (omega arith)));

@@ -1,5 +1,5 @@
--- `square_from` has the rows of the columns passed so far.
-use mathlib.Core.Path.{_≡_, refl, _∙_}
+-- `square_from` has the rows of the lines passed so far.
+use mathlib.Core.Path.{_≡_, refl, ap, _∙_}
 use Prim.Native.Nat.{ℕ, _+_, _-_, _<_, _≤_}
 use native.Mathlib.Omega.{arith}
 use borrow.Author.Needs.{needs}
@@ -13,20 +13,26 @@ use Rattle.squares.proofs.square_from.Tie as tie
 use Rattle.number.specs.Numbers.{rowMajor}
 
 abbrev Inv-loop : tie.InvT-loop
-Inv-loop lines row from square₀ place₀ square place =
-    (place ≤ orderLimit)
+Inv-loop lines row count from places square₀ line₀ square line =
+    (line ≤ count)
     × (length square ≡ orderLimit)
-    × ((p j : ℕ) → p < place → j < orderLimit
-    → squareAt square p j ≡ wordAt lines (rowMajor rowWords (row + j) (from + p)))
+    × ((l p : ℕ) → l < line → p < places
+    → squareAt square l p ≡ wordAt lines (rowMajor rowWords (row + l) (from + p)))
 
 abbrev μ-loop : tie.MeasureT-loop
-μ-loop lines row from square₀ place₀ square place = orderLimit - place
+μ-loop lines row count from places square₀ line₀ square line = count - line
 
 loop-holds : tie.Need-loop-holds Inv-loop μ-loop
-loop-holds c = (omega arith, refl, λ p j h. absurd (omega arith))
+loop-holds c = (omega arith, refl, λ l p h. absurd (omega arith))
 
 add-square-row : tie.Need-add-square-row Inv-loop μ-loop
 add-square-row c = search needs
+
+mul-square-row : tie.Need-mul-square-row Inv-loop μ-loop
+mul-square-row c = search needs
+
+add-square-row-2 : tie.Need-add-square-row-2 Inv-loop μ-loop
+add-square-row-2 c = search needs
 
 square-row-requires : tie.Need-square-row-requires Inv-loop μ-loop
 square-row-requires c κs = search needs
@@ -37,8 +43,8 @@ mul-square c = search needs
 array-set-from-square : tie.Need-array-set-from-square Inv-loop μ-loop
 array-set-from-square c = search needs
 
-add-place : tie.Need-add-place Inv-loop μ-loop
-add-place c = search needs
+add-line : tie.Need-add-line Inv-loop μ-loop
+add-line c = search needs
 
 loop-less : tie.Need-loop-less Inv-loop μ-loop
 loop-less c = search needs
@@ -49,12 +55,13 @@ loop-again c =
     let a = l .before .before .args in (
       omega arith,
       length-set (l .loop .square) _ _ ∙ l .loop .inv .1,
-      square-next (λ p j. wordAt (a .lines .now) (rowMajor rowWords (a .row + j) (a .from + p))) (l .loop .place) (l .loop .square) _
-          (omega (arith, l .loop .inv .1)) (λ j h. c .square-row .ensures j h) (l .loop .inv .2),
+      square-next (λ l p. wordAt (a .lines .now) (rowMajor rowWords (a .row + l) (a .from + p))) (a .places) (l .loop .line)
+          (l .loop .square) _ (omega (arith, l .loop .inv .1))
+          (λ p h. c .square-row .ensures p h ∙ ap (wordAt (a .lines .now)) (omega arith)) (l .loop .inv .2),
     )
 
 returns : tie.Need-returns Inv-loop μ-loop
-returns c = λ p j h. c .before .loop .inv .2 p j (omega arith)
+returns c = λ l p h. c .before .loop .inv .2 l p (omega arith)
 
 pub square-from-spec : {M : Type 1} → statement M
 square-from-spec =
@@ -64,10 +71,12 @@ square-from-spec =
     μ-loop
     loop-holds
     add-square-row
+    mul-square-row
+    add-square-row-2
     square-row-requires
     mul-square
     array-set-from-square
-    add-place
+    add-line
     loop-less
     loop-again
     returns)

@@ -1,25 +1,21 @@
--- `square_row` has the words of the lines passed so far.
+-- `square_row` has the words of the places passed so far.
 use mathlib.Core.Path.{_≡_, refl, _∙_}
 use Prim.Native.Nat.{_+_, _-_, _≤_}
 use native.Mathlib.Omega.{arith}
 use borrow.Author.Needs.{needs}
 use lib.ListN.{length, length-set}
 use Rattle.plan.specs.Rules.{orderLimit}
-use Rattle.buffer.specs.Lists.{wordAt}
+use Rattle.buffer.specs.Copies.{wordsFrom}
 use Rattle.filter.proofs.Buffers.{HoldsBelow, holds-more}
-use Rattle.squares.specs.LineBuffers.{rowWords}
 use Rattle.squares.proofs.square_row.Statement.{statement}
 use Rattle.squares.proofs.square_row.Tie as tie
-use Rattle.number.specs.Numbers.{rowMajor}
 
 abbrev Inv-loop : tie.InvT-loop
-Inv-loop lines row column words₀ line₀ words line =
-    (line ≤ orderLimit)
-    × (length words ≡ orderLimit)
-    × HoldsBelow line (λ j. wordAt lines (rowMajor rowWords (row + j) column)) words
+Inv-loop lines start places words₀ place₀ words place =
+    (place ≤ places) × (length words ≡ orderLimit) × HoldsBelow place (wordsFrom lines start) words
 
 abbrev μ-loop : tie.MeasureT-loop
-μ-loop lines row column words₀ line₀ words line = orderLimit - line
+μ-loop lines start places words₀ place₀ words place = places - place
 
 loop-holds : tie.Need-loop-holds Inv-loop μ-loop
 loop-holds c = (omega arith, refl, λ j h. absurd (omega arith))
@@ -30,23 +26,17 @@ add-words c = search needs
 mul-words : tie.Need-mul-words Inv-loop μ-loop
 mul-words c = search needs
 
-add-words-2 : tie.Need-add-words-2 Inv-loop μ-loop
-add-words-2 c = search needs
+shared-slice-read-words : tie.Need-shared-slice-read-words Inv-loop μ-loop
+shared-slice-read-words c = search needs
 
 mul-words-2 : tie.Need-mul-words-2 Inv-loop μ-loop
 mul-words-2 c = search needs
 
-shared-slice-read-words : tie.Need-shared-slice-read-words Inv-loop μ-loop
-shared-slice-read-words c = search needs
-
-mul-words-3 : tie.Need-mul-words-3 Inv-loop μ-loop
-mul-words-3 c = search needs
-
 array-write-words : tie.Need-array-write-words Inv-loop μ-loop
 array-write-words c = search needs
 
-add-line : tie.Need-add-line Inv-loop μ-loop
-add-line c = search needs
+add-place : tie.Need-add-place Inv-loop μ-loop
+add-place c = search needs
 
 loop-less : tie.Need-loop-less Inv-loop μ-loop
 loop-less c = search needs
@@ -57,13 +47,12 @@ loop-again c =
     let a = l .before .args in (
       omega arith,
       length-set (l .loop .words) _ _ ∙ l .loop .inv .1,
-      holds-more (l .loop .line) (λ j. wordAt (a .lines .now) (rowMajor rowWords (a .row + j) (a .column))) (l .loop .words) _
-          (omega arith) refl
+      holds-more (l .loop .place) (wordsFrom (a .lines .now) (a .start)) (l .loop .words) _ (omega arith) refl
           (l .loop .inv .2),
     )
 
 returns : tie.Need-returns Inv-loop μ-loop
-returns c = λ line h. c .before .loop .inv .2 line (omega arith)
+returns c = λ place h. c .before .loop .inv .2 place (omega arith)
 
 pub square-row-spec : {M : Type 1} → statement M
 square-row-spec =
@@ -74,12 +63,10 @@ square-row-spec =
     loop-holds
     add-words
     mul-words
-    add-words-2
-    mul-words-2
     shared-slice-read-words
-    mul-words-3
+    mul-words-2
     array-write-words
-    add-line
+    add-place
     loop-less
     loop-again
     returns)

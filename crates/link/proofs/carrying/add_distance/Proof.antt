@@ -38,7 +38,6 @@ add-multiples-requires c κs =
     let a = start n in
     record {
       few-places = a .pre .course-fits .order-limited;
-      near = omega (arith, a .pre .few);
       word-per-line =
           record {
             few-lines =

@@ -12,13 +12,13 @@ use Rattle.link.proofs.carrying.add_histories.Statement.{statement}
 use Rattle.link.proofs.carrying.add_histories.Tie as tie
 
 abbrev Inv-loop : tie.InvT-loop
-Inv-loop responses₀ strips strip course pass order square gain distance₀ responses distance =
+Inv-loop responses₀ strips strip course pass order gain square distance₀ responses distance =
     (distance ≤ order)
     × HistoriesAdded (course .lines) (course .order) distance (historyWord gain (directionOf pass) order strip strips) square
     responses₀ responses
 
 abbrev μ-loop : tie.MeasureT-loop
-μ-loop responses₀ strips strip course pass order square gain distance₀ responses distance = order - distance
+μ-loop responses₀ strips strip course pass order gain square distance₀ responses distance = order - distance
 
 -- The stations, each from a later one.
 abbrev start : tie.At-loop Inv-loop μ-loop → tie.Start Inv-loop μ-loop
@@ -33,13 +33,18 @@ loop-holds c = (omega arith, histories-none _ _ _ _ _ (λ z. omega (arith, c .be
 from-edge-requires : tie.Need-from-edge-requires Inv-loop μ-loop
 from-edge-requires c κs = search needs
 
+mul-weights : tie.Need-mul-weights Inv-loop μ-loop
+mul-weights c = search needs
+
+array-copy-out-weights : tie.Need-array-copy-out-weights Inv-loop μ-loop
+array-copy-out-weights c = search needs
+
 add-distance-requires : tie.Need-add-distance-requires Inv-loop μ-loop
 add-distance-requires c κs =
-    let l = turn (c .before) in
-    let pre = start l .pre in
+    let l = turn (c .before .before) in
+    let pre = start l .pre .0 in
     record {
       course-fits = pre .course-fits;
-      few = omega (arith, pre .few);
       responses-long = omega (arith, l .loop .inv .1 .length-kept, pre .responses-long);
       strip-fits = pre .strip-fits;
     }
@@ -53,11 +58,11 @@ loop-less c = search needs
 loop-again : tie.Need-loop-again Inv-loop μ-loop
 loop-again c =
     let f = c .before .before in
-    let m = f .before .before in
+    let m = f .before .before .before in
     let l = turn m in
     let a = start l .args in (
       omega arith,
-      histories-more (a .course .lines) (a .course .order) (l .loop .distance) _ (a .square) (a .responses .now)
+      histories-more (a .course .lines) (a .course .order) (l .loop .distance) _ _ (a .responses .now)
           (l .loop .inv .1)
           (λ line. ap (λ place. a .gain ⊗ stripRead (a .strip) (a .strips .now) line place) (m .from-edge .ensures))
           (f .add-distance .ensures),
@@ -80,6 +85,8 @@ add-histories-spec =
     μ-loop
     loop-holds
     from-edge-requires
+    mul-weights
+    array-copy-out-weights
     add-distance-requires
     add-distance
     loop-less

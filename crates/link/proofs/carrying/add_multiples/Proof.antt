@@ -5,34 +5,28 @@ use native.Mathlib.Omega.{arith}
 use borrow.Author.Needs.{needs}
 use Rattle.word.specs.Word.{_⊗_}
 use Rattle.buffer.specs.Lists.{wordAt}
-use Rattle.link.specs.Carrying.{weightsAt, MultiplesAdded}
+use Rattle.link.specs.Carrying.{MultiplesAdded}
 use Rattle.link.proofs.carrying.Multiples.{multiples-none, multiples-next}
 use Rattle.link.proofs.carrying.add_multiples.Statement.{statement}
 use Rattle.link.proofs.carrying.add_multiples.Tie as tie
 
 abbrev Inv-loop : tie.InvT-loop
-Inv-loop responses₀ order strips at step lines distance gain square place₀ responses place =
+Inv-loop responses₀ order strips at step lines gain weights place₀ responses place =
     (place ≤ order)
-    × MultiplesAdded lines place (λ l. gain ⊗ wordAt strips (at + l * step)) (weightsAt square distance) responses₀ responses
+    × MultiplesAdded lines place (λ l. gain ⊗ wordAt strips (at + l * step)) (wordAt weights) responses₀ responses
 
 abbrev μ-loop : tie.MeasureT-loop
-μ-loop responses₀ order strips at step lines distance gain square place₀ responses place = order - place
+μ-loop responses₀ order strips at step lines gain weights place₀ responses place = order - place
 
 -- The stations, each from a later one.
 abbrev start : tie.At-loop Inv-loop μ-loop → tie.Start Inv-loop μ-loop
 start c = c .before .before .before
 
 abbrev turn : tie.After-mul Inv-loop μ-loop → tie.At-loop Inv-loop μ-loop
-turn c = c .before .before .before
+turn c = c .before .before
 
 loop-holds : tie.Need-loop-holds Inv-loop μ-loop
 loop-holds c = (omega arith, multiples-none _ _ _ _)
-
-mul-weights : tie.Need-mul-weights Inv-loop μ-loop
-mul-weights c = search needs
-
-array-copy-out-weights : tie.Need-array-copy-out-weights Inv-loop μ-loop
-array-copy-out-weights c = search needs
 
 mul-mul : tie.Need-mul-mul Inv-loop μ-loop
 mul-mul c = search needs
@@ -90,8 +84,6 @@ add-multiples-spec =
     Inv-loop
     μ-loop
     loop-holds
-    mul-weights
-    array-copy-out-weights
     mul-mul
     array-read-mul
     mul-requires

@@ -36,7 +36,10 @@ rows-before-requires c κs =
 square-from-requires : tie.Need-square-from-requires
 square-from-requires c κs =
     let a = start c in
-    let fits = a .pre .0 .link-fits in (
+    let fits = a .pre .0 .link-fits in
+    let few = link-orders fits .order-limited (a .args .pass) (pass-below a) in (
+      few,
+      fits .course-fits .order-limited,
       omega (arith, fits .course-fits .inside, fits .course-fits .few-places),
       rw (c .rows-before .ensures)
           (omega (
@@ -57,13 +60,14 @@ add-histories-requires : tie.Need-add-histories-requires
 add-histories-requires c κs =
     let g = c .before in
     let a = start (rows g) in
-    let fits = a .pre .0 .link-fits in
-    record {
-      course-fits = fits .course-fits;
-      few = link-orders fits .order-limited (a .args .pass) (pass-below a);
-      responses-long = a .pre .1 .responses-long;
-      strip-fits = rw (g .before .strip-before .ensures) (before-strip-fits fits _ (pass-below a));
-    }
+    let fits = a .pre .0 .link-fits in (
+      record {
+        course-fits = fits .course-fits;
+        responses-long = a .pre .1 .responses-long;
+        strip-fits = rw (g .before .strip-before .ensures) (before-strip-fits fits _ (pass-below a));
+      },
+      link-orders fits .order-limited (a .args .pass) (pass-below a),
+    )
 
 same-length : tie.Need-same-length
 same-length c = search needs
