@@ -11,7 +11,7 @@ use Rattle.word.specs.Word.{_⊗_}
 use Rattle.word.proofs.Ring.{one-mul, reduced-small}
 use Rattle.buffer.specs.Lists.{wordAt, byPlace}
 use Rattle.buffer.specs.Written.{written, cleared, rowWritten, rectangleWritten}
-use Rattle.buffer.proofs.Written.{written-none, written-length, written-same, written-parts, written-more, written-other, written-at, written-unchanged}
+use Rattle.buffer.proofs.Written.{written-none, written-length, written-same, written-parts, written-more, written-other, written-at, written-unchanged, written-swap}
 use Rattle.number.proofs.RowMajor.{row-of, column-of, place-below, row-below, column-below}
 use Rattle.buffer.specs.Copies.{wordsFrom, scaledFrom, WordsFit}
 use Rattle.number.specs.Numbers.{rowMajor}
@@ -105,6 +105,14 @@ module _ (place words : ℕ → ℕ → ℕ) (w : ℕ) where
   unfolding rectangleWritten
   rectangle-other h a q out =
       written-other _ _ (h * w) a q (λ i c. out _ _ (row-below h w i c) (column-below h w i c))
+
+  -- Words at places outside the rectangle, written before or after.
+  pub rectangle-swap : (h : ℕ) (p v : ℕ → ℕ) (n : ℕ) (a : List ℕ)
+      → ((y x i : ℕ) → y < h → x < w → i < n → p i ≢ place y x)
+      → rectangleWritten place words w h (written p v n a) ≡ written p v n (rectangleWritten place words w h a)
+  unfolding rectangleWritten
+  rectangle-swap h p v n a out =
+      written-swap _ _ (h * w) p v n a (λ q i c d. out _ _ i (row-below h w q c) (column-below h w q c) d)
 
   -- A place of the rectangle, where all of them differ and lie in the list.
   pub rectangle-at : (h : ℕ) (a : List ℕ)

@@ -1,5 +1,5 @@
--- A list after words have gone to places: its length, what stands at those places, and what stands elsewhere.
--- Assumes nothing.
+-- A list after words have gone to places: its length, what stands at those places, what stands elsewhere, and when the
+-- order does not count. Assumes nothing.
 use mathlib.Core.Path.{_≡_, refl, ap, ap₂, sym, _∙_}
 use mathlib.Core.List.{List}
 use mathlib.Core.Logic.{_≢_, ⊎-elim}
@@ -8,7 +8,7 @@ use native.Mathlib.Nat.{eq-or-lt-of-le, add-zero, add-suc}
 use native.Mathlib.Numerals.{add-one}
 use native.Mathlib.Omega.{arith}
 use lib.ListN.{length, set, length-set}
-use lib.Seq.{getD-set-same, getD-set-other, set-getD}
+use lib.Seq.{getD-set-same, getD-set-other, set-getD, set-comm}
 use Rattle.buffer.specs.Lists.{wordAt}
 use Rattle.buffer.specs.Written.{written}
 
@@ -77,6 +77,25 @@ pub written-parts : (p w : ℕ → ℕ) (n m : ℕ) (list : List ℕ)
 unfolding written
 written-parts p w n zero list = rw add-zero
 written-parts p w n (suc m) list = rw add-suc (ap (λ z. set z (p (n + m)) (w (n + m))) (written-parts p w n m list))
+
+-- A place that none of them is, set before or after,
+written-set : (p w : ℕ → ℕ) (n : ℕ) (list : List ℕ) (q v : ℕ) → ((i : ℕ) → i < n → q ≢ p i)
+    → written p w n (set list q v) ≡ set (written p w n list) q v
+unfolding written
+written-set p w zero list q v e = refl
+written-set p w (suc n) list q v e =
+    ap (λ z. set z (p n) (w n)) (written-set p w n list q v (λ i h. e i (omega arith)))
+    ∙ set-comm (written p w n list) q (p n) v (w n) (e n (omega arith))
+
+-- and words at other places, written before or after.
+pub written-swap : (p w : ℕ → ℕ) (n : ℕ) (r v : ℕ → ℕ) (m : ℕ) (list : List ℕ)
+    → ((i j : ℕ) → i < n → j < m → r j ≢ p i)
+    → written p w n (written r v m list) ≡ written r v m (written p w n list)
+unfolding written
+written-swap p w n r v zero list e = refl
+written-swap p w n r v (suc m) list e =
+    written-set p w n (written r v m list) (r m) (v m) (λ i h. e i m h (omega arith))
+    ∙ ap (λ z. set z (r m) (v m)) (written-swap p w n r v m list (λ i j h g. e i j h (omega arith)))
 
 pub written-more : (p w : ℕ → ℕ) (n : ℕ) (a b : List ℕ) (v : ℕ) → b ≡ written p w n a → v ≡ w n
     → set b (p n) v ≡ written p w (n + 1) a

@@ -1,6 +1,7 @@
 pub mod WorkPlaces
 pub mod WorkCells
 pub mod CopiedRows
+pub mod CopiedColumns
 pub mod StripRectangles
 pub mod Margins
 pub mod MarginLoads

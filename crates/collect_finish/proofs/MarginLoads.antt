@@ -13,7 +13,7 @@ use Rattle.strips.specs.StripRecord.{stripBefore, addressIn}
 use Rattle.buffer.specs.Copies.{strideScaled, strideWritten, StrideFits}
 use Rattle.collect_finish.specs.Work.{workStride, workPlace, ShapeFits, marginFirst, MarginClear, MarginLoaded}
 use Rattle.collect_finish.specs.WorkFits.{StripMoves}
-use Rattle.collect_finish.proofs.WorkPlaces.{shape-in-work, move-limited, lines-small, extent-small, lines-fit}
+use Rattle.collect_finish.proofs.WorkPlaces.{shape-in-work, move-limited, lines-small, extent-small, lines-fit, lines-narrow}
 use Rattle.collect_finish.proofs.StripRectangles.{StripLies, before-lies}
 use Rattle.collect_finish.proofs.Margins.{margin-room, margin-loaded}
 use Rattle.grid.specs.Shapes.{shapeExtent, shapeLines}
@@ -33,6 +33,9 @@ module _ {plan : Plan} {k pass : ℕ} {shape : BlockShape} {n m : ℕ} (moves : 
   strip-lies =
       rw (stripped, moves .placed .shaped) (before-lies (moves .placed .block) pass (moves .pass-below) (moves .strips-long))
 
+  lines-few : strip .lines ≤ 32
+  lines-few = omega (arith, lines-small fits pass, strip-lies .few-lines)
+
   -- What is copied begins at index start + first of each line.
   module _ {start : ℕ} (starts : start ≡ marginFirst plan shape pass) where
     last-in-work : start + strip .past ≤ workStride
@@ -46,6 +49,9 @@ module _ {plan : Plan} {k pass : ℕ} {shape : BlockShape} {n m : ℕ} (moves : 
     pub first-in-work : start + strip .first ≤ workStride
     first-in-work = omega (arith, last-in-work, strip-lies .ordered)
 
+    places-in-work : start + strip .first + places ≤ workStride
+    places-in-work = omega (arith, last-in-work, strip-lies .ordered)
+
     -- The code's first word and step in the strips, place in the work array, and rows and columns of the rectangle.
     module _ {first step place height width : ℕ} (begins : first ≡ addressIn strip 0 (strip .first)) (stepped : step ≡ along a (strip .«place_step») (strip .«line_step»))
         (at : place ≡ workPlace a 0 (start + strip .first)) (tall : height ≡ along a places (strip .lines))
@@ -56,8 +62,10 @@ module _ {plan : Plan} {k pass : ℕ} {shape : BlockShape} {n m : ℕ} (moves : 
       pub strip-in-work : StrideFits m place workStride height width
       strip-in-work =
           rw (at, tall, wide)
-          (lines-fit a (start + strip .first) places (strip .lines) m (omega (arith, last-in-work, strip-lies .ordered))
-          (omega (arith, lines-small fits pass, strip-lies .few-lines)) (moves .sized))
+          (lines-fit a (start + strip .first) places (strip .lines) m places-in-work lines-few (moves .sized))
+
+      pub strip-narrow : width ≤ workStride
+      strip-narrow = rw wide (lines-narrow a (start + strip .first) places (strip .lines) places-in-work lines-few)
 
       pub strip-loaded : (gain : ℕ) (strips : List ℕ) {before after : List ℕ} → length before ≡ m
           → MarginClear plan shape pass before

@@ -72,6 +72,13 @@ module _ {plan : Plan} {k : ℕ} (block : BlockOf plan k) where
             omega arith;
       }
 
+  columns-fit : columnsOf grid k ≤ grid .columns
+  columns-fit =
+      omega (
+        arith,
+        extent-inside (grid .columns) (grid .side) (blockColumn grid k) (block-column-below grid k (block .counted)),
+      )
+
 -- The same with the code's shape of the block.
 module _ {plan : Plan} {k : ℕ} {shape : BlockShape} (placed : ShapedBlock plan k shape) where
   pub shape-in-work : ShapeFits shape
@@ -84,6 +91,11 @@ module _ {plan : Plan} {k : ℕ} {shape : BlockShape} (placed : ShapedBlock plan
       → StrideFits n (shape .start) (plan .grid .columns) (shape .rows) (shape .columns)
   unfolding shapeOf
   block-in-map {n} long = rw (placed .shaped) (rows-fit (placed .block) n long)
+
+  -- No row of the block reaches into the map's next one.
+  pub block-narrow : shape .columns ≤ plan .grid .columns
+  unfolding shapeOf
+  block-narrow = rw (placed .shaped) (columns-fit (placed .block))
 
 -- ---- rectangles of lines
 
@@ -102,6 +114,12 @@ pub lines-fit : (a : Axis) (i places lines n : ℕ) → i + places ≤ workStrid
     → StrideFits n (workPlace a 0 i) workStride (along a places lines) (across a places lines)
 lines-fit columns i places lines n h s e = record { row = λ y c. omega arith }
 lines-fit rows i places lines n h s e = record { row = λ y c. omega arith }
+
+-- No row of such a rectangle reaches into the next.
+pub lines-narrow : (a : Axis) (i places lines : ℕ) → i + places ≤ workStride → lines ≤ 32
+    → across a places lines ≤ workStride
+lines-narrow columns i places lines h s = omega arith
+lines-narrow rows i places lines h s = omega arith
 
 -- ---- lines are apart
 

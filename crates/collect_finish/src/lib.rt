@@ -5,7 +5,7 @@ use filter::Window;
 use grid::BlockShape;
 use plan::Plan;
 ghost use mathlib.Core.Path.{_≡_};
-ghost use Prim.Native.Nat.{_+_, _≤_};
+ghost use Prim.Native.Nat.{_+_, _<_, _≤_};
 ghost use lib.ListN.{length};
 ghost use Rattle.axis.specs.Axis.{axisOf, directionOf};
 ghost use Rattle.filter.specs.FilterWords.{filterWith};
@@ -156,8 +156,61 @@ fn copy_row(
     }
 }
 
-// A rectangle of one row-major buffer, times a gain, into a rectangle of another.
-fn copy_rectangle(
+// One column of a rectangle, times a gain.
+fn copy_column(
+    from: &[u64],
+    from_start: usize,
+    from_stride: usize,
+    to: &mut [u64],
+    to_start: usize,
+    to_stride: usize,
+    height: usize,
+    gain: u64,
+)
+    requires { ⌜ StrideFits (length (now from)) «from_start» «from_stride» height 1 × StrideFits (length (now to)) «to_start» «to_stride» height 1 ⌝ }
+    ensures { λ _. ⌜ now (to .exit) ≡ strideWritten «to_start» «to_stride» 1 (strideScaled gain (now (from .entry)) «from_start» «from_stride») height (now (to .entry)) ⌝ }
+{
+    let mut row = 0;
+    while row < height {
+        to[to_start + row * to_stride] = word::mul(gain, from[from_start + row * from_stride]);
+        row += 1;
+    }
+}
+
+// A rectangle of at least one row, times a gain, column by column. Its places in `to` differ, so that their order does
+// not count.
+fn copy_columns(
+    from: &[u64],
+    from_start: usize,
+    from_stride: usize,
+    to: &mut [u64],
+    to_start: usize,
+    to_stride: usize,
+    height: usize,
+    width: usize,
+    gain: u64,
+)
+    requires { ⌜ StrideFits (length (now from)) «from_start» «from_stride» height width × StrideFits (length (now to)) «to_start» «to_stride» height width × (width ≤ «to_stride») × (0 < height) ⌝ }
+    ensures { λ _. ⌜ now (to .exit) ≡ strideWritten «to_start» «to_stride» width (strideScaled gain (now (from .entry)) «from_start» «from_stride») height (now (to .entry)) ⌝ }
+{
+    let mut column = 0;
+    while column < width {
+        copy_column(
+            from,
+            from_start + column,
+            from_stride,
+            to,
+            to_start + column,
+            to_stride,
+            height,
+            gain,
+        );
+        column += 1;
+    }
+}
+
+// A rectangle, times a gain, row by row.
+fn copy_rows(
     from: &[u64],
     from_start: usize,
     from_stride: usize,
@@ -183,6 +236,48 @@ fn copy_rectangle(
         );
         row += 1;
     }
+}
+
+// A rectangle of one row-major buffer, times a gain, into a rectangle of another: along its longer side, since a loop
+// over a few words costs more than the words.
+fn copy_rectangle(
+    from: &[u64],
+    from_start: usize,
+    from_stride: usize,
+    to: &mut [u64],
+    to_start: usize,
+    to_stride: usize,
+    height: usize,
+    width: usize,
+    gain: u64,
+)
+    requires { ⌜ StrideFits (length (now from)) «from_start» «from_stride» height width × StrideFits (length (now to)) «to_start» «to_stride» height width × (width ≤ «to_stride») ⌝ }
+    ensures { λ _. ⌜ now (to .exit) ≡ strideWritten «to_start» «to_stride» width (strideScaled gain (now (from .entry)) «from_start» «from_stride») height (now (to .entry)) ⌝ }
+{
+    if width < height {
+        return copy_columns(
+            from,
+            from_start,
+            from_stride,
+            to,
+            to_start,
+            to_stride,
+            height,
+            width,
+            gain,
+        );
+    }
+    copy_rows(
+        from,
+        from_start,
+        from_stride,
+        to,
+        to_start,
+        to_stride,
+        height,
+        width,
+        gain,
+    );
 }
 
 fn read_block(

@@ -6,7 +6,7 @@ use borrow.Author.Needs.{needs}
 use Rattle.plan.proofs.Record.{in-grid}
 use Rattle.filter.specs.PlanFilters.{mapOf}
 use Rattle.collect_finish.specs.WorkFits.{ShapedBlock}
-use Rattle.collect_finish.proofs.WorkPlaces.{shape-in-work, block-in-work, block-in-map}
+use Rattle.collect_finish.proofs.WorkPlaces.{shape-in-work, block-in-work, block-in-map, block-narrow}
 use Rattle.collect_finish.proofs.WorkCells.{blank-clear}
 use Rattle.collect_finish.proofs.Finishing.{Finishing, finish-start, finish-margin, finish-pass, finish-turn, finish-end}
 use Rattle.collect_finish.proofs.finish.Statement.{statement}
@@ -145,8 +145,11 @@ slice-aggregate-copy-rectangle c = search needs
 copy-rectangle-requires : tie.Need-copy-rectangle-requires Inv-loop μ-loop
 copy-rectangle-requires c κs =
     let l = after-turns c .before in
-    let b = shape-at-loop l in
-    (block-in-work (placed b) (l .loop .inv .holds .sized), block-in-map (placed b) (start b .pre .output-long))
+    let b = shape-at-loop l in (
+      block-in-work (placed b) (l .loop .inv .holds .sized),
+      block-in-map (placed b) (start b .pre .output-long),
+      block-narrow (placed b),
+    )
 
 same-length : tie.Need-same-length Inv-loop μ-loop
 same-length c = search needs

@@ -9,7 +9,7 @@ use Rattle.plan.specs.Sizes.{orderOf}
 use Rattle.collect_finish.specs.Work.{workStride, marginStart, marginFirst}
 use Rattle.collect_finish.proofs.WorkPlaces.{edge-asked}
 use Rattle.collect_finish.proofs.StripRectangles.{StripLies}
-use Rattle.collect_finish.proofs.MarginLoads.{strip-lies, first-in-work, strip-in-strips, strip-in-work, strip-loaded}
+use Rattle.collect_finish.proofs.MarginLoads.{strip-lies, first-in-work, strip-in-strips, strip-in-work, strip-narrow, strip-loaded}
 use Rattle.collect_finish.proofs.load_margin.Statement.{statement}
 use Rattle.collect_finish.proofs.load_margin.Tie as tie
 use Rattle.grid.specs.Shapes.{shapeLines}
@@ -98,6 +98,7 @@ copy-rectangle-requires c κs =
     let tall = c .before .along2 .ensures in (
       strip-in-strips (start b .pre .moves) (b .strip-before .ensures) (start-is m) first step place tall (c .across .ensures),
       strip-in-work (start b .pre .moves) (b .strip-before .ensures) (start-is m) first step place tall (c .across .ensures),
+      strip-narrow (start b .pre .moves) (b .strip-before .ensures) (start-is m) first step place tall (c .across .ensures),
     )
 
 same-length : tie.Need-same-length

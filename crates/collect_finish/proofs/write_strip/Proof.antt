@@ -130,6 +130,7 @@ copy-rectangle-requires c κs =
     let wide = x .across .ensures in (
       edge-fits (start (at-test b) .pre) starts (edge-is e) place (c .along .ensures) wide,
       strip-in-strips (start (at-test b) .pre) starts (edge-is e) place (c .along .ensures) wide,
+      omega arith,
     )
 
 same-length-2 : tie.Need-same-length-2

@@ -1,12 +1,12 @@
--- `copy_rectangle` has copied the rows passed so far, times the gain.
+-- `copy_rows` has copied the rows passed so far, times the gain.
 use Prim.Native.Nat.{_+_, _*_, _-_, _≤_}
 use native.Mathlib.Omega.{arith}
 use borrow.Author.Needs.{needs}
 use lib.ListN.{length}
 use Rattle.buffer.specs.Copies.{strideScaled}
 use Rattle.collect_finish.proofs.CopiedRows.{RowsWritten, rows-none, rows-all, scaled-more}
-use Rattle.collect_finish.proofs.copy_rectangle.Statement.{statement}
-use Rattle.collect_finish.proofs.copy_rectangle.Tie as tie
+use Rattle.collect_finish.proofs.copy_rows.Statement.{statement}
+use Rattle.collect_finish.proofs.copy_rows.Tie as tie
 
 abbrev Inv-loop : tie.InvT-loop
 Inv-loop from from-start from-stride to₀ to-start to-stride height width gain row₀ to row =
@@ -77,8 +77,8 @@ same-length c = search needs
 returns : tie.Need-returns Inv-loop μ-loop
 returns c = rows-all (c .before .loop .inv) (c .loop-test .left)
 
-pub copy-rectangle-spec : {M : Type 1} → statement M
-copy-rectangle-spec =
+pub copy-rows-spec : {M : Type 1} → statement M
+copy-rows-spec =
     tie.close
     (tie.spec
     Inv-loop

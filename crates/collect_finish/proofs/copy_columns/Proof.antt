@@ -1,0 +1,88 @@
+-- `copy_columns` has copied the columns passed so far, times the gain.
+use Prim.Native.Nat.{_+_, _-_}
+use native.Mathlib.Omega.{arith}
+use borrow.Author.Needs.{needs}
+use lib.ListN.{length}
+use Rattle.buffer.specs.Copies.{strideScaled, StrideFits}
+use Rattle.collect_finish.proofs.CopiedColumns.{column-fits, ColumnsWritten, columns-none, columns-more, columns-all}
+use Rattle.collect_finish.proofs.copy_columns.Statement.{statement}
+use Rattle.collect_finish.proofs.copy_columns.Tie as tie
+
+abbrev Inv-loop : tie.InvT-loop
+Inv-loop from from-start from-stride to₀ to-start to-stride height width gain column₀ to column =
+    ColumnsWritten to-start to-stride width (strideScaled gain from from-start from-stride) height column to₀ to
+
+abbrev μ-loop : tie.MeasureT-loop
+μ-loop from from-start from-stride to₀ to-start to-stride height width gain column₀ to column = width - column
+
+-- ---- stations
+
+abbrev start : tie.At-loop Inv-loop μ-loop → tie.Start Inv-loop μ-loop
+start c = c .before .before .before
+
+abbrev in-turn : tie.After-copy-column Inv-loop μ-loop → tie.In-loop Inv-loop μ-loop
+in-turn c = c .before .before
+
+-- ---- this column is in both buffers
+
+column-in-from : (c : tie.In-loop Inv-loop μ-loop)
+    → let a = start (c .before) .args in
+    StrideFits (length (a .from .now)) (a .from-start + c .before .loop .column) (a .from-stride) (a .height) 1
+column-in-from c = column-fits (start (c .before) .pre .0) (c .loop-test .taken)
+
+column-in-to : (c : tie.In-loop Inv-loop μ-loop)
+    → let a = start (c .before) .args in
+    StrideFits (length (a .to .now)) (a .to-start + c .before .loop .column) (a .to-stride) (a .height) 1
+column-in-to c = column-fits (start (c .before) .pre .1) (c .loop-test .taken)
+
+-- ---- needs
+
+loop-holds : tie.Need-loop-holds Inv-loop μ-loop
+loop-holds c = columns-none
+
+add-copy-column : tie.Need-add-copy-column Inv-loop μ-loop
+add-copy-column c = let h = column-in-from c .row 0 (start (c .before) .pre .3) in omega arith
+
+add-copy-column-2 : tie.Need-add-copy-column-2 Inv-loop μ-loop
+add-copy-column-2 c = let h = column-in-to (c .before) .row 0 (start (c .before .before) .pre .3) in omega arith
+
+copy-column-requires : tie.Need-copy-column-requires Inv-loop μ-loop
+copy-column-requires c κs =
+    let t = c .before in (column-in-from t, rw (t .before .loop .inv .length-kept) (column-in-to t))
+
+add-column : tie.Need-add-column Inv-loop μ-loop
+add-column c = search needs
+
+loop-less : tie.Need-loop-less Inv-loop μ-loop
+loop-less c = search needs
+
+loop-again : tie.Need-loop-again Inv-loop μ-loop
+loop-again c =
+    let d = c .before .before in
+    let t = in-turn d in
+    let l = t .before in
+    let a = start l .args in
+    columns-more (a .gain) (a .from .now) (a .from-start) (a .from-stride) (l .loop .inv) (t .loop-test .taken)
+    (start l .pre .2) (d .copy-column .ensures)
+
+same-length : tie.Need-same-length Inv-loop μ-loop
+same-length c = search needs
+
+returns : tie.Need-returns Inv-loop μ-loop
+returns c = columns-all (c .before .loop .inv) (c .loop-test .left)
+
+pub copy-columns-spec : {M : Type 1} → statement M
+copy-columns-spec =
+    tie.close
+    (tie.spec
+    Inv-loop
+    μ-loop
+    loop-holds
+    add-copy-column
+    add-copy-column-2
+    copy-column-requires
+    add-column
+    loop-less
+    loop-again
+    same-length
+    returns)
