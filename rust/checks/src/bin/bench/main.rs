@@ -105,6 +105,7 @@ fn plans(size: usize, side: usize, random: &mut Random) -> Vec<(&'static str, Pl
         ("order 1", full_width(1)),
         ("order 2", full_width(2)),
         ("order 4", full_width(4)),
+        ("order 8", full_width(8)),
     ]
 }
 
