@@ -11,7 +11,7 @@ use Rattle.word.specs.Word.{_⊗_}
 use Rattle.word.proofs.Ring.{one-mul, reduced-small}
 use Rattle.buffer.specs.Lists.{wordAt, byPlace}
 use Rattle.buffer.specs.Written.{written, cleared, rowWritten, rectangleWritten}
-use Rattle.buffer.proofs.Written.{written-none, written-length, written-same, written-parts, written-more, written-other, written-at, written-unchanged, written-swap}
+use Rattle.buffer.proofs.Written.{written-none, written-length, written-same, written-parts, written-more, written-other, written-at, written-unchanged}
 use Rattle.number.proofs.RowMajor.{row-of, column-of, place-below, row-below, column-below}
 use Rattle.buffer.specs.Copies.{wordsFrom, scaledFrom, WordsFit}
 use Rattle.number.specs.Numbers.{rowMajor}
@@ -26,6 +26,19 @@ pub row-more : (start : ℕ) (words : ℕ → ℕ) (n : ℕ) (a b : List ℕ) (v
     → set b (start + n) v ≡ rowWritten start words (n + 1) a
 unfolding rowWritten
 row-more start words n a b v e f = written-more (λ i. start + i) words n a b v e f
+
+-- What stands in a row that the list has room for.
+pub row-at : (start : ℕ) (words : ℕ → ℕ) (n : ℕ) (a : List ℕ) {b : List ℕ} → b ≡ rowWritten start words n a
+    → start + n ≤ length a → (i p : ℕ) → i < n → p ≡ start + i → wordAt b p ≡ words i
+unfolding rowWritten
+row-at start words n a e room i p h f =
+    ap₂ wordAt e f ∙ written-at (λ j. start + j) words n a (λ j k c d. omega arith) (λ j c. omega arith) i h
+
+-- Places that lie 1 apart are a row.
+pub row-apart : (start : ℕ) (words : ℕ → ℕ) (n : ℕ) (a : List ℕ)
+    → written (λ i. start + i * 1) words n a ≡ rowWritten start words n a
+unfolding rowWritten
+row-apart start words n a = written-same _ _ _ _ n a (λ i h. omega arith) (λ i h. refl)
 
 -- Words that lie one after another, times 1.
 pub row-unscaled : (start : ℕ) (from : List ℕ) (from-start n : ℕ) (a : List ℕ) → ((i : ℕ) → wordAt from i < 2 ^ 64)
@@ -105,14 +118,6 @@ module _ (place words : ℕ → ℕ → ℕ) (w : ℕ) where
   unfolding rectangleWritten
   rectangle-other h a q out =
       written-other _ _ (h * w) a q (λ i c. out _ _ (row-below h w i c) (column-below h w i c))
-
-  -- Words at places outside the rectangle, written before or after.
-  pub rectangle-swap : (h : ℕ) (p v : ℕ → ℕ) (n : ℕ) (a : List ℕ)
-      → ((y x i : ℕ) → y < h → x < w → i < n → p i ≢ place y x)
-      → rectangleWritten place words w h (written p v n a) ≡ written p v n (rectangleWritten place words w h a)
-  unfolding rectangleWritten
-  rectangle-swap h p v n a out =
-      written-swap _ _ (h * w) p v n a (λ q i c d. out _ _ i (row-below h w q c) (column-below h w q c) d)
 
   -- A place of the rectangle, where all of them differ and lie in the list.
   pub rectangle-at : (h : ℕ) (a : List ℕ)

@@ -1,11 +1,11 @@
 // Words of lent buffers: copied, scaled, cleared, and read from heights. An inner crate: what its functions require,
 // their callers in this repository show.
 ghost use mathlib.Core.Path.{_≡_};
-ghost use Prim.Native.Nat.{_+_, _≤_};
+ghost use Prim.Native.Nat.{_+_, _*_, _≤_};
 ghost use lib.ListN.{length};
 ghost use Rattle.buffer.specs.Pixel.{pixel};
 ghost use Rattle.buffer.specs.Copies.{WordsFit, wordsFrom, scaledFrom, heightsFrom};
-ghost use Rattle.buffer.specs.Written.{rowWritten, cleared};
+ghost use Rattle.buffer.specs.Written.{written, rowWritten, cleared};
 
 // The word that a pixel enters the passes with.
 pub fn read_pixel(height: i32) -> u64
@@ -38,22 +38,23 @@ pub fn copy_words(from: &[u64], from_start: usize, to: &mut [u64], to_start: usi
     }
 }
 
-// Words that lie `step` apart, each times a gain, one after another to another buffer.
+// Words that lie a step apart, each times a gain, to places of another buffer that lie a step of its own apart.
 pub fn scale_words(
     from: &[u64],
     from_start: usize,
-    step: usize,
+    from_step: usize,
     to: &mut [u64],
     to_start: usize,
+    to_step: usize,
     count: usize,
     gain: u64,
 )
-    requires { ⌜ WordsFit (length (now from)) «from_start» step count × («to_start» + count ≤ length (now to)) ⌝ }
-    ensures { λ _. ⌜ now (to .exit) ≡ rowWritten «to_start» (scaledFrom gain (now (from .entry)) «from_start» step) count (now (to .entry)) ⌝ }
+    requires { ⌜ WordsFit (length (now from)) «from_start» «from_step» count × WordsFit (length (now to)) «to_start» «to_step» count ⌝ }
+    ensures { λ _. ⌜ now (to .exit) ≡ written (λ i. «to_start» + i * «to_step») (scaledFrom gain (now (from .entry)) «from_start» «from_step») count (now (to .entry)) ⌝ }
 {
     let mut i = 0;
     while i < count {
-        to[to_start + i] = word::mul(gain, from[from_start + i * step]);
+        to[to_start + i * to_step] = word::mul(gain, from[from_start + i * from_step]);
         i += 1;
     }
 }

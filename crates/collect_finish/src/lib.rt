@@ -152,28 +152,7 @@ fn copy_row(
     if gain == 1 {
         buffer::copy_words(from, from_start, to, to_start, count);
     } else {
-        buffer::scale_words(from, from_start, 1, to, to_start, count, gain);
-    }
-}
-
-// One column of a rectangle, times a gain.
-fn copy_column(
-    from: &[u64],
-    from_start: usize,
-    from_stride: usize,
-    to: &mut [u64],
-    to_start: usize,
-    to_stride: usize,
-    height: usize,
-    gain: u64,
-)
-    requires { ⌜ StrideFits (length (now from)) «from_start» «from_stride» height 1 × StrideFits (length (now to)) «to_start» «to_stride» height 1 ⌝ }
-    ensures { λ _. ⌜ now (to .exit) ≡ strideWritten «to_start» «to_stride» 1 (strideScaled gain (now (from .entry)) «from_start» «from_stride») height (now (to .entry)) ⌝ }
-{
-    let mut row = 0;
-    while row < height {
-        to[to_start + row * to_stride] = word::mul(gain, from[from_start + row * from_stride]);
-        row += 1;
+        buffer::scale_words(from, from_start, 1, to, to_start, 1, count, gain);
     }
 }
 
@@ -195,7 +174,7 @@ fn copy_columns(
 {
     let mut column = 0;
     while column < width {
-        copy_column(
+        buffer::scale_words(
             from,
             from_start + column,
             from_stride,

@@ -60,6 +60,7 @@ fn strip_line(
             strip.line_step,
             lines,
             row * squares::ROW + plan::ORDER_LIMIT,
+            1,
             count,
             gain,
         );

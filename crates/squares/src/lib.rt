@@ -121,11 +121,7 @@ fn square_row(lines: &[u64], start: usize, places: usize) -> [u64; plan::ORDER_L
     ensures { λ r. ⌜ ((place : ℕ) → place < places → wordAt r place ≡ wordAt (now (lines .entry)) (start + place)) ⌝ }
 {
     let mut words = [0; plan::ORDER_LIMIT];
-    let mut place = 0;
-    while place < places {
-        words[place] = lines[start + place];
-        place += 1;
-    }
+    buffer::copy_words(lines, start, &mut words, 0, places);
     words
 }
 

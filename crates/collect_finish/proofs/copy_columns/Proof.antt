@@ -3,7 +3,7 @@ use Prim.Native.Nat.{_+_, _-_}
 use native.Mathlib.Omega.{arith}
 use borrow.Author.Needs.{needs}
 use lib.ListN.{length}
-use Rattle.buffer.specs.Copies.{strideScaled, StrideFits}
+use Rattle.buffer.specs.Copies.{strideScaled, WordsFit}
 use Rattle.collect_finish.proofs.CopiedColumns.{column-fits, ColumnsWritten, columns-none, columns-more, columns-all}
 use Rattle.collect_finish.proofs.copy_columns.Statement.{statement}
 use Rattle.collect_finish.proofs.copy_columns.Tie as tie
@@ -20,19 +20,19 @@ abbrev μ-loop : tie.MeasureT-loop
 abbrev start : tie.At-loop Inv-loop μ-loop → tie.Start Inv-loop μ-loop
 start c = c .before .before .before
 
-abbrev in-turn : tie.After-copy-column Inv-loop μ-loop → tie.In-loop Inv-loop μ-loop
+abbrev in-turn : tie.After-scale-words Inv-loop μ-loop → tie.In-loop Inv-loop μ-loop
 in-turn c = c .before .before
 
 -- ---- this column is in both buffers
 
 column-in-from : (c : tie.In-loop Inv-loop μ-loop)
     → let a = start (c .before) .args in
-    StrideFits (length (a .from .now)) (a .from-start + c .before .loop .column) (a .from-stride) (a .height) 1
+    WordsFit (length (a .from .now)) (a .from-start + c .before .loop .column) (a .from-stride) (a .height)
 column-in-from c = column-fits (start (c .before) .pre .0) (c .loop-test .taken)
 
 column-in-to : (c : tie.In-loop Inv-loop μ-loop)
     → let a = start (c .before) .args in
-    StrideFits (length (a .to .now)) (a .to-start + c .before .loop .column) (a .to-stride) (a .height) 1
+    WordsFit (length (a .to .now)) (a .to-start + c .before .loop .column) (a .to-stride) (a .height)
 column-in-to c = column-fits (start (c .before) .pre .1) (c .loop-test .taken)
 
 -- ---- needs
@@ -40,14 +40,14 @@ column-in-to c = column-fits (start (c .before) .pre .1) (c .loop-test .taken)
 loop-holds : tie.Need-loop-holds Inv-loop μ-loop
 loop-holds c = columns-none
 
-add-copy-column : tie.Need-add-copy-column Inv-loop μ-loop
-add-copy-column c = let h = column-in-from c .row 0 (start (c .before) .pre .3) in omega arith
+add-scale-words : tie.Need-add-scale-words Inv-loop μ-loop
+add-scale-words c = let h = column-in-from c .inside 0 (start (c .before) .pre .3) in omega arith
 
-add-copy-column-2 : tie.Need-add-copy-column-2 Inv-loop μ-loop
-add-copy-column-2 c = let h = column-in-to (c .before) .row 0 (start (c .before .before) .pre .3) in omega arith
+add-scale-words-2 : tie.Need-add-scale-words-2 Inv-loop μ-loop
+add-scale-words-2 c = let h = column-in-to (c .before) .inside 0 (start (c .before .before) .pre .3) in omega arith
 
-copy-column-requires : tie.Need-copy-column-requires Inv-loop μ-loop
-copy-column-requires c κs =
+scale-words-requires : tie.Need-scale-words-requires Inv-loop μ-loop
+scale-words-requires c κs =
     let t = c .before in (column-in-from t, rw (t .before .loop .inv .length-kept) (column-in-to t))
 
 add-column : tie.Need-add-column Inv-loop μ-loop
@@ -63,7 +63,7 @@ loop-again c =
     let l = t .before in
     let a = start l .args in
     columns-more (a .gain) (a .from .now) (a .from-start) (a .from-stride) (l .loop .inv) (t .loop-test .taken)
-    (start l .pre .2) (d .copy-column .ensures)
+    (start l .pre .2) (d .scale-words .ensures)
 
 same-length : tie.Need-same-length Inv-loop μ-loop
 same-length c = search needs
@@ -78,9 +78,9 @@ copy-columns-spec =
     Inv-loop
     μ-loop
     loop-holds
-    add-copy-column
-    add-copy-column-2
-    copy-column-requires
+    add-scale-words
+    add-scale-words-2
+    scale-words-requires
     add-column
     loop-less
     loop-again

@@ -15,7 +15,7 @@ use Rattle.strips.specs.StripRecord.{placeHeld, wordHeld, stripRead, StripFits,
 use Rattle.strips.specs.declared.Strip.{Strip}
 use Rattle.squares.specs.LineBuffers.{rowWords}
 use Rattle.buffer.specs.Copies.{WordsFit, scaledFrom}
-use Rattle.buffer.specs.Written.{rowWritten}
+use Rattle.buffer.specs.Written.{written, rowWritten}
 use Rattle.link.specs.Lines.{linesInside, stripLine}
 use Rattle.number.specs.Numbers.{rowMajor}
 
@@ -119,13 +119,13 @@ module _ (strip : Strip) (place n : ℕ) where
 module _ (gain : ℕ) (strip : Strip) (strips : List ℕ) (place row places : ℕ) (before : List ℕ) where
   pub line-some : {n : ℕ} {after : List ℕ} → n ≡ linesInside strip place places
       → after
-      ≡ rowWritten (rowMajor rowWords row orderLimit)
+      ≡ written (λ i. rowMajor rowWords row orderLimit + i * 1)
       (scaledFrom gain strips (addressIn strip 0 place) (strip .«line_step»)) n before
       → after ≡ stripLine gain strip strips place row places before
   unfolding rowWritten stripLine
   line-some e f =
       (rw e at f)
-      ∙ written-same _ _ _ _ (linesInside strip place places) before (λ j h. refl)
+      ∙ written-same _ _ _ _ (linesInside strip place places) before (λ j h. omega arith)
       (λ j h. ap (gain ⊗_) (sym (read-inside strip place places strips j h)))
 
   pub line-none : linesInside strip place places ≡ 0 → before ≡ stripLine gain strip strips place row places before

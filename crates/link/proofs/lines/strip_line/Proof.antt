@@ -1,6 +1,7 @@
 -- `strip_line` puts the words of a place that lie in the block into their row.
 use native.Mathlib.Omega.{arith}
 use borrow.Author.Needs.{needs}
+use Rattle.buffer.proofs.Copies.{words-fit as row-words-fit}
 use Rattle.link.proofs.lines.EdgeReads.{lines-few, words-fit, first-word, line-some, line-none}
 use Rattle.link.proofs.lines.strip_line.Statement.{statement}
 use Rattle.link.proofs.lines.strip_line.Tie as tie
@@ -37,14 +38,15 @@ scale-words-requires c κs =
     let n = counted f in
     let a = start n in (
       rw (f .first-at .ensures, n .lines-inside .ensures) (words-fit (a .args .strip) (a .args .place) (a .args .places) (a .pre .strip-fits)),
-      omega (
-        arith,
-        a .pre .rows-in,
-        a .pre .long,
-        a .pre .few-places,
-        n .lines-inside .ensures,
-        lines-few (a .args .strip) (a .args .place) (a .args .places),
-      ),
+      row-words-fit _ _ _
+          (omega (
+            arith,
+            a .pre .rows-in,
+            a .pre .long,
+            a .pre .few-places,
+            n .lines-inside .ensures,
+            lines-few (a .args .strip) (a .args .place) (a .args .places),
+          )),
     )
 
 same-length : tie.Need-same-length
