@@ -1,2 +1,3 @@
 pub mod Numbers
 pub mod KindWords
+pub mod SignedBits

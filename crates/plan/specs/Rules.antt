@@ -6,6 +6,7 @@ use lib.IntN.{ℤ, pos, negsuc}
 use lib.Dec.{ltb, leb, eqb}
 use lib.ListN.{getD}
 use Rattle.number.specs.Numbers.{allBelow}
+use Rattle.number.specs.SignedBits.{inSigned}
 use Rattle.buffer.specs.Lists.{numberAt}
 use Rattle.grid.specs.Grid.{gridKept}
 use Rattle.plan.specs.declared.Pass.{Pass}
@@ -15,10 +16,9 @@ use Rattle.plan.specs.declared.Plan.{Plan}
 abbrev pub orderLimit : ℕ
 orderLimit = 8
 
--- From -134217728 to 134217727, the numbers of signed 28 bits: `negsuc n` is -(n + 1).
+-- From -134217728 to 134217727, the numbers of signed 28 bits.
 abbrev pub inSigned28 : ℤ → Bool
-inSigned28 (pos n) = ltb n 134217728
-inSigned28 (negsuc n) = ltb n 134217728
+inSigned28 value = inSigned 28 value
 
 -- Equal to 0.
 abbrev pub isZero : ℤ → Bool

@@ -1,10 +1,11 @@
 -- Plan words, document 01's table: what a payload of each kind holds and may be.
-use mathlib.Core.Bool.{Bool, _&&_, cond}
-use Prim.Native.Nat.{ℕ, suc, _-_, _/_, _%_, _^_}
-use lib.IntN.{ℤ, pos, negsuc}
-use lib.Dec.{ltb, leb, eqb}
+use mathlib.Core.Bool.{Bool, _&&_}
+use Prim.Native.Nat.{ℕ, _/_, _%_}
+use lib.IntN.{ℤ}
+use lib.Dec.{leb, eqb}
 use Rattle.plan.specs.Rules.{orderLimit}
 use Rattle.number.specs.Numbers.{within}
+use Rattle.number.specs.SignedBits.{twosComplement}
 use Rattle.grid.specs.Grid.{sizeLimit, sideLimit}
 
 -- Size, kind 1: the rows in bits 13 to 25.
@@ -44,10 +45,6 @@ endKind = 6
 -- End, kind 6: zero.
 abbrev pub endAllowed : ℕ → Bool
 endAllowed payload = eqb payload 0
-
--- A number of some bits as a signed one, two's complement: less 2^bits where its top bit is set.
-unfoldable pub twosComplement : (bits : ℕ) → ℕ → ℤ
-twosComplement bits n = cond (ltb n (2 ^ (bits - 1))) (pos n) (negsuc (2 ^ bits - suc n))
 
 -- Gain and coefficient, kinds 4 and 5: signed 28 bits.
 unfoldable pub signed28 : ℕ → ℤ

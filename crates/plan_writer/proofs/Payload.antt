@@ -1,9 +1,8 @@
 -- Laws of signed payloads: what the machine makes of a number, and that reading and writing a payload undo each other.
 -- Assumes nothing.
-use mathlib.Core.Path.{_≡_, refl, ap, _∙_}
+use mathlib.Core.Path.{_≡_, refl, _∙_}
 use mathlib.Core.Bool.{true, false}
-use mathlib.Core.Logic.{⊎-elim}
-use Prim.Native.Nat.{ℕ, suc, _-_, _<_}
+use Prim.Native.Nat.{ℕ, suc, _<_}
 use native.Mathlib.Omega.{arith}
 use lib.IntN.{ℤ, pos, negsuc, natAbs, _+ℤ_}
 use lib.Signed.{ltZ, nonNeg}
@@ -11,11 +10,10 @@ use lib.Dec.{T}
 use mir.Syntax.{w64, w32}
 use mir.Val.{SFits, Fits, toZ, ofZ}
 use mir.ValLaws.{toZ-ofZ}
-use borrow.Author.Tests.{lt-ltb, le-ltb, ltb-true}
+use borrow.Author.Tests.{le-ltb, ltb-true}
 use Rattle.plan.specs.Rules.{inSigned28}
-use Rattle.number.proofs.Tests.{lt-or-ge}
+use Rattle.number.proofs.SignedBits.{complement-kept, bits-of-complement, complement-of-bits}
 use Rattle.plan_reader.specs.PlanWords.{signed28}
-use Rattle.plan_reader.proofs.SignedPayload.{signed-low, signed-high}
 use Rattle.plan_writer.specs.WritePlan.{payload28}
 
 pub payload-below : (value : ℤ) → inSigned28 value ≡ true → payload28 value < 268435456
@@ -61,22 +59,15 @@ module _ (value read : ℤ) (e : read ≡ value) (kept : inSigned28 value ≡ tr
 
 -- The payload of a number of signed 28 bits is read as that number.
 pub signed-payload : (value : ℤ) → inSigned28 value ≡ true → signed28 (payload28 value) ≡ value
-unfolding payload28
-signed-payload (pos n) k = signed-low n (ltb-true n 134217728 k)
-signed-payload (negsuc n) k =
-    let h = ltb-true n 134217728 k in
-    let e : 268435456 - suc (268435456 - suc n) ≡ n = omega arith in
-    signed-high (268435456 - suc n) (omega arith) ∙ ap negsuc e
+unfolding payload28 signed28
+signed-payload value kept = complement-of-bits 28 (omega arith) value kept
 
 -- The number that a payload is read as has that payload.
 pub payload-signed : (payload : ℕ) → payload < 268435456 → payload28 (signed28 payload) ≡ payload
-unfolding payload28
-payload-signed payload h =
-    ⊎-elim (λ l. rw (signed-low payload l)) (λ l. rw (signed-high payload l) (omega arith)) (lt-or-ge payload 134217728)
+unfolding payload28 signed28
+payload-signed payload h = bits-of-complement 28 (omega arith) payload h
 
 -- It is a number of signed 28 bits.
 pub signed-kept : (payload : ℕ) → payload < 268435456 → inSigned28 (signed28 payload) ≡ true
-signed-kept payload h =
-    ⊎-elim (λ l. rw (signed-low payload l) (lt-ltb payload 134217728 l))
-    (λ l. rw (signed-high payload l) (lt-ltb (268435456 - suc payload) 134217728 (omega arith)))
-    (lt-or-ge payload 134217728)
+unfolding signed28
+signed-kept payload h = complement-kept 28 (omega arith) payload h

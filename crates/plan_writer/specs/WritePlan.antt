@@ -1,8 +1,8 @@
 -- The words of a plan, in the order of document 01's table, and the call that writes them.
 use mathlib.Core.Bool.{not}
 use mathlib.Core.List.{List, [], _∷_, _++_}
-use Prim.Native.Nat.{ℕ, suc, _+_, _-_, _*_}
-use lib.IntN.{ℤ, pos, negsuc}
+use Prim.Native.Nat.{ℕ, _+_, _*_}
+use lib.IntN.{ℤ}
 use lib.Dec.{ltb}
 use lib.ListN.{length, drop}
 use Rattle.refusal.specs.Refusals.{refusedFor, accepted}
@@ -14,13 +14,13 @@ use Rattle.plan.specs.Sizes.{wordCount}
 use Rattle.buffer.specs.Lists.{listOf, joined}
 use Rattle.plan_writer.specs.declared.PlanWritten.{PlanWritten}
 use Rattle.plan_writer.specs.declared.PlanWritten.the-variants.{Words, Refused}
-use Rattle.number.specs.KindWords.{payloadLimit, wordOf}
+use Rattle.number.specs.KindWords.{wordOf}
+use Rattle.number.specs.SignedBits.{signedBits}
 use Rattle.plan_reader.specs.PlanWords.{endKind}
 
--- The payload of a number of signed 28 bits, two's complement: `negsuc n` is -(n + 1).
+-- The payload of a number of signed 28 bits, two's complement.
 unfoldable pub payload28 : ℤ → ℕ
-payload28 (pos n) = n
-payload28 (negsuc n) = payloadLimit - suc n
+payload28 value = signedBits 28 value
 
 -- The payload of the size word: rows in bits 13 to 25, columns in bits 0 to 12.
 abbrev pub sizePayload : (rows columns : ℕ) → ℕ

@@ -2,16 +2,13 @@
 use mathlib.Core.Path.{_≡_, sym, _∙_}
 use Prim.Native.Nat.{ℕ, _<_, _≤_}
 use native.Mathlib.Omega.{arith}
-use lib.IntN.{ℤ, pos, _-ℤ_}
+use lib.IntN.{pos, _-ℤ_}
 use mir.Syntax.{w32, w64}
 use mir.Val.{SFits, toZ, ofZ}
-use mir.ValLaws.{toZ-pos, toZ-ofZ}
-use Rattle.plan_reader.proofs.SignedPayload.{complement-low, complement-high, lowered-back}
+use mir.ValLaws.{toZ-pos}
+use Rattle.number.proofs.SignedBits.{read-back, complement-low, complement-high}
+use Rattle.plan_reader.proofs.SignedPayload.{lowered-back}
 use Rattle.smooth_job.specs.Program.{signed32}
-
--- A signed answer, as the machine reads it back from its bits.
-pub read-back : {z answer : ℤ} → SFits w32 z → z ≡ answer → toZ w32 (ofZ w32 z) ≡ answer
-read-back {z} fits e = toZ-ofZ w32 z fits ∙ e
 
 pub decoded-low : (word : ℕ) → word < 2147483648 → toZ w32 word ≡ signed32 word
 unfolding signed32

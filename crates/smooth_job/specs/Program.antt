@@ -11,7 +11,7 @@ use Rattle.plan.specs.declared.Plan.{Plan}
 use Rattle.grid.specs.Grid.{sideLimit}
 use Rattle.plan.specs.Sizes.{wordLimit, neededPixels, orderSumLimit}
 use Rattle.buffer.specs.Lists.{wordAt, listOf}
-use Rattle.plan_reader.specs.PlanWords.{endKind, twosComplement}
+use Rattle.plan_reader.specs.PlanWords.{endKind}
 use Rattle.plan_reader.specs.ReadPlan.{planRows, planFrom}
 use Rattle.report.specs.Values.{Values}
 use Rattle.report.specs.Report.{report}
@@ -19,6 +19,7 @@ use Rattle.job_spec.specs.Calls.{Buffers, lists}
 use Rattle.whole_job.specs.WholeJob.{wholeAnswer, afterWholeJob}
 use Rattle.smooth_job.specs.declared.Smoothed.{Smoothed}
 use Rattle.number.specs.KindWords.{kindOf}
+use Rattle.number.specs.SignedBits.{twosComplement}
 
 -- ---- the input
 

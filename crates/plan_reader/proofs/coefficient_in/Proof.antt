@@ -3,7 +3,7 @@ use mathlib.Core.Path.{sym, ap, _∙_}
 use native.Mathlib.Omega.{arith}
 use borrow.Author.Needs.{needs}
 use Rattle.plan_reader.specs.PlanWords.{signed28}
-use Rattle.plan_reader.proofs.SignedPayload.{read-back}
+use Rattle.number.proofs.SignedBits.{read-back}
 use Rattle.plan_reader.proofs.RecordParts.{coefficient-read, coefficient-zero}
 use Rattle.plan_reader.proofs.coefficient_in.Statement.{statement}
 use Rattle.plan_reader.proofs.coefficient_in.Tie as tie

@@ -8,7 +8,7 @@ use Rattle.plan.specs.Rules.{orderLimit}
 use Rattle.buffer.specs.Lists.{listOf}
 use Rattle.buffer.proofs.Listed.{listed-none, filled-more, filled-all}
 use Rattle.plan_reader.specs.ReadPlan.{coefficientIn, passFrom}
-use Rattle.plan_reader.proofs.SignedPayload.{read-back}
+use Rattle.number.proofs.SignedBits.{read-back}
 use Rattle.plan_reader.proofs.coefficients_from.Statement.{statement}
 use Rattle.plan_reader.proofs.coefficients_from.Tie as tie
 

@@ -4,7 +4,7 @@ use Prim.Native.Nat.{_+_, _-_, _≤_}
 use native.Mathlib.Omega.{arith}
 use borrow.Author.Needs.{needs}
 use lib.ListN.{length, take, length-set}
-use Rattle.plan_reader.proofs.SignedPayload.{read-back}
+use Rattle.number.proofs.SignedBits.{read-back}
 use Rattle.plan.specs.Rules.{orderLimit}
 use Rattle.buffer.specs.Lists.{listOf, numberAt}
 use Rattle.buffer.proofs.Listed.{listed-none, filled-more, filled-all}

@@ -2,7 +2,7 @@
 use mathlib.Core.Path.{refl, ap, _∙_}
 use Prim.Native.Nat.{_+_}
 use borrow.Author.Needs.{needs}
-use Rattle.plan_reader.proofs.SignedPayload.{read-back}
+use Rattle.number.proofs.SignedBits.{read-back}
 use Rattle.plan_reader.proofs.RecordParts.{same-pass}
 use Rattle.plan_record.specs.Records.{sizeFrom, passOfRecord}
 use Rattle.plan_record.proofs.pass_of_record.Statement.{statement}

@@ -1,6 +1,6 @@
 -- `plan_record::plan_of_record` meets its contract, field by field. Assumes nothing.
 use mathlib.Core.Path.{refl, ap, _∙_}
-use Rattle.plan_reader.proofs.SignedPayload.{read-back}
+use Rattle.number.proofs.SignedBits.{read-back}
 use Rattle.plan_reader.proofs.RecordParts.{same-plan}
 use Rattle.plan_record.specs.Records.{sizeFrom, planOfRecord}
 use borrow.Author.Needs.{needs}

@@ -3,7 +3,7 @@ use native.Mathlib.Omega.{arith}
 use Prim.Native.Nat.{_-_, _≤_}
 use mathlib.Core.Path.{_≡_}
 use lib.ListN.{length, take}
-use Rattle.plan_reader.proofs.SignedPayload.{read-back}
+use Rattle.number.proofs.SignedBits.{read-back}
 use Rattle.plan_record.specs.Records.{passStart, recordLength}
 use Rattle.plan_record.proofs.RecordWords.{front, front-none, front-more, front-all}
 use borrow.Author.Needs.{needs}

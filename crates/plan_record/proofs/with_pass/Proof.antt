@@ -9,7 +9,7 @@ use Rattle.plan.specs.Rules.{orderLimit, coefficientAt}
 use lib.IntN.{pos}
 use native.Mathlib.Nat.{add-zero}
 use Rattle.word.proofs.Signs.{readBack}
-use Rattle.plan_reader.proofs.SignedPayload.{read-back}
+use Rattle.number.proofs.SignedBits.{read-back}
 use Rattle.plan_record.proofs.RecordWords.{copied-more, pass-filled}
 use Rattle.plan_record.specs.Records.{recordLength}
 use borrow.Author.Needs.{needs}

@@ -2,7 +2,7 @@
 use mathlib.Core.Path.{ap, _∙_}
 use Rattle.smooth_job.specs.Program.{signed32}
 use borrow.Author.Needs.{needs}
-use Rattle.smooth_job.proofs.Signed.{read-back}
+use Rattle.number.proofs.SignedBits.{read-back}
 use Rattle.smooth_job.proofs.height_at.Statement.{statement}
 use Rattle.smooth_job.proofs.height_at.Tie as tie
 

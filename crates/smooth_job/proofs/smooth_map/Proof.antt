@@ -6,7 +6,7 @@ use lib.ListN.{length, take, length-set}
 use lib.Seq.{length-take-le}
 use Rattle.buffer.proofs.Listed.{listed-none, filled-more}
 use Rattle.smooth_job.specs.Program.{pixelLimit, heightsIn}
-use Rattle.smooth_job.proofs.Signed.{read-back}
+use Rattle.number.proofs.SignedBits.{read-back}
 use borrow.Author.Needs.{needs}
 use Rattle.smooth_job.proofs.smooth_map.Statement.{statement}
 use Rattle.smooth_job.proofs.smooth_map.Tie as tie

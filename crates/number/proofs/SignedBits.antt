@@ -1,0 +1,54 @@
+-- Two's complement by the sign, its range, and that reading bits and taking bits undo each other, whatever the width;
+-- a number that the machine reads back from its bits. Assumes nothing.
+use mathlib.Core.Path.{_≡_, ap, _∙_}
+use mathlib.Core.Bool.{true}
+use mathlib.Core.Logic.{⊎-elim}
+use Prim.Native.Nat.{ℕ, zero, suc, _+_, _-_, _<_, _≤_, _^_}
+use native.Mathlib.Nat.{two-pow-succ}
+use native.Mathlib.Omega.{arith}
+use lib.IntN.{ℤ, pos, negsuc}
+use mir.Syntax.{Width}
+use mir.Val.{SFits, toZ, ofZ}
+use mir.ValLaws.{toZ-ofZ}
+use borrow.Author.Tests.{lt-ltb, le-ltb, ltb-true}
+use Rattle.number.specs.SignedBits.{inSigned, twosComplement, signedBits}
+use Rattle.number.proofs.Tests.{lt-or-ge}
+
+-- A signed answer, as the machine reads it back from its bits.
+pub read-back : {w : Width} {z answer : ℤ} → SFits w z → z ≡ answer → toZ w (ofZ w z) ≡ answer
+read-back {w} {z} fits e = toZ-ofZ w z fits ∙ e
+
+module _ (bits n : ℕ) where
+  pub complement-low : n < 2 ^ (bits - 1) → twosComplement bits n ≡ pos n
+  unfolding twosComplement
+  complement-low low = simp (lt-ltb n (2 ^ (bits - 1)) low)
+
+  pub complement-high : 2 ^ (bits - 1) ≤ n → twosComplement bits n ≡ negsuc (2 ^ bits - suc n)
+  unfolding twosComplement
+  complement-high high = simp (le-ltb n (2 ^ (bits - 1)) high)
+
+two-halves : (bits : ℕ) → 0 < bits → 2 ^ bits ≡ 2 ^ (bits - 1) + 2 ^ (bits - 1)
+two-halves zero some = absurd (omega arith)
+two-halves (suc fewer) some = let e : suc fewer - 1 ≡ fewer = omega arith in rw e (two-pow-succ fewer)
+
+module _ (bits : ℕ) (some : 0 < bits) where
+  -- What bits are read as is a number of so many signed bits,
+  pub complement-kept : (n : ℕ) → n < 2 ^ bits → inSigned bits (twosComplement bits n) ≡ true
+  complement-kept n h =
+      ⊎-elim (λ l. rw (complement-low bits n l) (lt-ltb n (2 ^ (bits - 1)) l))
+      (λ l. rw (complement-high bits n l) (lt-ltb (2 ^ bits - suc n) (2 ^ (bits - 1)) (omega (arith, two-halves bits some))))
+      (lt-or-ge n (2 ^ (bits - 1)))
+
+  -- and has these bits.
+  pub bits-of-complement : (n : ℕ) → n < 2 ^ bits → signedBits bits (twosComplement bits n) ≡ n
+  bits-of-complement n h =
+      ⊎-elim (λ l. rw (complement-low bits n l)) (λ l. rw (complement-high bits n l) (omega arith))
+      (lt-or-ge n (2 ^ (bits - 1)))
+
+  -- The bits of a number of so many signed bits are read as that number.
+  pub complement-of-bits : (z : ℤ) → inSigned bits z ≡ true → twosComplement bits (signedBits bits z) ≡ z
+  complement-of-bits (pos n) kept = complement-low bits n (ltb-true n (2 ^ (bits - 1)) kept)
+  complement-of-bits (negsuc n) kept =
+      let h = ltb-true n (2 ^ (bits - 1)) kept in
+      let e : 2 ^ bits - suc (2 ^ bits - suc n) ≡ n = omega (arith, two-halves bits some) in
+      complement-high bits (2 ^ bits - suc n) (omega (arith, two-halves bits some)) ∙ ap negsuc e
