@@ -1,4 +1,5 @@
 pub mod Ring
 pub mod Machine
-pub mod Signs
 pub mod Residues
+pub mod SignedReading
+pub mod Signs

@@ -3,7 +3,7 @@
 use mathlib.Core.Path.{_≡_, refl, ap, sym, _∙_}
 use mathlib.Core.Bool.{Bool, true, false, not, cond}
 use Prim.Native.Nat.{ℕ, suc, _+_, _*_, _-_, _%_, _≤_, _<_, _^_}
-use native.Mathlib.Nat.{add-mul-mod-self-left, mod-add-mod, add-mod-mod, mod-lt, zero-mod, add-comm}
+use native.Mathlib.Nat.{add-mul-mod-self-left, mod-add-mod, add-mod-mod, mod-lt, mod-eq-of-lt, zero-mod, add-comm}
 use native.Mathlib.Omega.{arith}
 use lib.IntN.{ℤ, pos, negsuc, subℕ, _+ℤ_}
 use lib.Dec.{T, ltb, ltb→lt, nltb→le}
@@ -56,3 +56,16 @@ pub residue-small : (a : ℤ) → residue a < 2 ^ 64
 unfolding residue modulus
 residue-small (pos n) = mod-lt _ (omega arith)
 residue-small (negsuc n) = mod-lt _ (omega arith)
+
+-- The residue of a number of signed 64 bits, by its sign.
+pub residue-not-negative : (n : ℕ) → n < 2 ^ 63 → n ≡ residue (pos n)
+unfolding residue modulus
+residue-not-negative n h = sym (mod-eq-of-lt (omega arith))
+
+pub residue-negative : (n : ℕ) → n < 2 ^ 63 → 18446744073709551615 - n ≡ residue (negsuc n)
+unfolding residue modulus minusOne
+residue-negative n h =
+    sym
+    (ap (_% 2 ^ 64) {y = (18446744073709551615 - n) + 2 ^ 64 * n} (omega arith)
+    ∙ add-mul-mod-self-left (18446744073709551615 - n) (2 ^ 64) n
+    ∙ mod-eq-of-lt (omega arith))

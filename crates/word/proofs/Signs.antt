@@ -1,16 +1,16 @@
--- A signed machine number by its sign, as code reads it: through its bits. Assumes nothing.
+-- A signed machine number by its sign, as code reads it and makes it: through its bits. Assumes nothing.
 use mathlib.Core.Path.{_≡_, refl, sym, ap, _∙_}
 use mathlib.Core.Bool.{true, false}
-use Prim.Native.Nat.{ℕ, suc, _+_, _*_, _-_, _%_, _<_, _^_}
+use Prim.Native.Nat.{ℕ, zero, suc, _-_, _<_, _≤_, _^_}
 use native.Mathlib.Omega.{arith}
-use native.Mathlib.Nat.{mod-eq-of-lt, add-mul-mod-self-left}
 use borrow.Author.Tests.{le-ltb, ltb-true}
 use lib.IntN.{ℤ, pos, negsuc, _-ℤ_}
 use lib.Signed.{ltZ}
 use mir.Syntax.{w64}
 use mir.Val.{SFits, toZ, ofZ}
-use mir.ValLaws.{toZ-ofZ}
-use Rattle.word.specs.Word.{modulus, minusOne, residue}
+use mir.ValLaws.{toZ-pos, toZ-ofZ}
+use Rattle.number.proofs.SignedBits.{complement-low, complement-high}
+use Rattle.word.specs.Word.{signed}
 
 -- What the machine reads back of a number's bits.
 abbrev pub readBack : ℤ → ℤ
@@ -52,14 +52,28 @@ not-negative (negsuc n) f e =
     let z : _≡_ {A = ℕ} 0 1 = cc in
     absurd (omega arith)
 
-pub residue-not-negative : (n : ℕ) → n < 2 ^ 63 → n ≡ residue (pos n)
-unfolding residue modulus
-residue-not-negative n h = sym (mod-eq-of-lt (omega arith))
+-- ---- a word read as signed
 
-pub residue-negative : (n : ℕ) → n < 2 ^ 63 → 18446744073709551615 - n ≡ residue (negsuc n)
-unfolding residue modulus minusOne
-residue-negative n h =
-    sym
-    (ap (_% 2 ^ 64) {y = (18446744073709551615 - n) + 2 ^ 64 * n} (omega arith)
-    ∙ add-mul-mod-self-left (18446744073709551615 - n) (2 ^ 64) n
-    ∙ mod-eq-of-lt (omega arith))
+pub signed-low : (word : ℕ) → word < 2 ^ 63 → toZ w64 word ≡ signed word
+unfolding signed
+signed-low word low = toZ-pos w64 word low ∙ sym (complement-low 64 word low)
+
+-- From 2^63 on, by the complement of the word.
+module _ (word : ℕ) (high : 2 ^ 63 ≤ word) (bounded : word < 2 ^ 64) where
+  lowered : negsuc 0 -ℤ toZ w64 (18446744073709551615 - word) ≡ negsuc (18446744073709551615 - word)
+  lowered =
+      rw (toZ-pos w64 (18446744073709551615 - word) (omega arith)) (by (18446744073709551615 - word))
+    where
+      by : (n : ℕ) → negsuc 0 -ℤ pos n ≡ negsuc n
+      by zero = refl
+      by (suc n) = ap negsuc (omega arith)
+
+  pub lowered-fits : SFits w64 (negsuc 0 -ℤ toZ w64 (18446744073709551615 - word))
+  lowered-fits = rw lowered (record { sfits = omega arith })
+
+  pub signed-high : readBack (negsuc 0 -ℤ toZ w64 (18446744073709551615 - word)) ≡ signed word
+  unfolding signed
+  signed-high =
+      toZ-ofZ w64 _ lowered-fits
+      ∙ lowered
+      ∙ sym (complement-high 64 word high ∙ ap negsuc (omega arith))

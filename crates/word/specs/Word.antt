@@ -1,7 +1,8 @@
--- Words of 64 bits as numbers modulo 2^64.
+-- Words of 64 bits as numbers modulo 2^64, the residue of a signed number, and a word read as signed.
 -- Each operation reduces its result, so that the laws of the ring hold of all numbers, reduced or not.
 use Prim.Native.Nat.{ℕ, suc, _+_, _*_, _%_}
 use lib.IntN.{ℤ, pos, negsuc}
+use Rattle.number.specs.SignedBits.{twosComplement}
 
 infixl 60 _⊕_ _⊖_
 infixl 70 _⊗_
@@ -29,3 +30,7 @@ a ⊖ b = (a + minusOne * b) % modulus
 unfoldable pub residue : ℤ → ℕ
 residue (pos n) = n % modulus
 residue (negsuc n) = (minusOne * suc n) % modulus
+
+-- A word, so below 2^64, read as a signed number: the one from -2^63 to 2^63 - 1 with that residue (`SignedReading`).
+unfoldable pub signed : ℕ → ℤ
+signed word = twosComplement 64 word

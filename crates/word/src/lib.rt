@@ -1,6 +1,6 @@
-// Words of 64 bits modulo 2^64: sum, difference, product, and the residues of signed numbers.
+// Words of 64 bits modulo 2^64: sum, difference, product, the residues of signed numbers, and words read as signed.
 ghost use mathlib.Core.Path.{_≡_};
-ghost use Rattle.word.specs.Word.{_⊕_, _⊖_, _⊗_, residue};
+ghost use Rattle.word.specs.Word.{_⊕_, _⊖_, _⊗_, residue, signed};
 
 // a + b modulo 2^64.
 pub fn add(a: u64, b: u64) -> u64
@@ -45,4 +45,15 @@ pub fn residue_of_height(height: i32) -> u64
     ensures { λ r. ⌜ r ≡ residue height ⌝ }
 {
     residue(height as i64)
+}
+
+// A word read as a signed number, two's complement. It compiles to nothing.
+pub fn signed(word: u64) -> i64
+    ensures { λ r. ⌜ r ≡ signed word ⌝ }
+{
+    if word < 9223372036854775808 {
+        word as i64
+    } else {
+        -1 - (18446744073709551615 - word) as i64
+    }
 }

@@ -3,7 +3,8 @@ use Prim.Native.Nat.{_-_}
 use mathlib.Core.Path.{sym, ap, _∙_}
 use native.Mathlib.Omega.{arith}
 use Rattle.word.specs.Word.{residue}
-use Rattle.word.proofs.Signs.{Negative, NotNegative, negative, not-negative, residue-negative, residue-not-negative}
+use Rattle.word.proofs.Residues.{residue-negative, residue-not-negative}
+use Rattle.word.proofs.Signs.{Negative, NotNegative, negative, not-negative}
 use Rattle.word.proofs.residue.Statement.{statement}
 use Rattle.word.proofs.residue.Tie as tie
 
