@@ -155,15 +155,15 @@ pub extern "C" fn mzg_rectangle(
     bottom: usize,
     right: usize,
     table: &[u64],
-    sum: &mut u64,
+    sum: &mut i64,
 ) -> u64
     ensures { λ r. ⌜ (r ≡ codeOf (rectangleCall (planOfRecord (now (plan .entry))) (now (table .entry)) top left bottom right .answer)) × (now (sum .exit) ≡ rectangleCall (planOfRecord (now (plan .entry))) (now (table .entry)) top left bottom right .value) ⌝ }
 {
     let taken = plan_record::plan_of_record(plan);
     let answer = rectangle::rectangle_sum(taken, top, left, bottom, right, table);
     match answer {
-        RectangleSum::Sum(word) => {
-            *sum = word;
+        RectangleSum::Sum(total) => {
+            *sum = total;
             0
         }
         RectangleSum::Refused(refusal) => {

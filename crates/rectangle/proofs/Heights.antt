@@ -1,4 +1,5 @@
--- On a summed-area table the call's sum is the heights' sum. Assumes nothing.
+-- On a summed-area table the call's sum is the heights' sum; on any table it is the word of the corners, read as
+-- signed. Assumes nothing.
 use mathlib.Core.Path.{_≡_, refl, sym, ap, _∙_, fun-ext}
 use mathlib.Core.Bool.{true}
 use mathlib.Core.List.{List, [], _++_}
@@ -6,27 +7,29 @@ use Prim.Native.Nat.{ℕ, zero, suc, _+_, _-_, _<_, _≤_}
 use native.Mathlib.Omega.{arith}
 use lib.IntN.{ℤ, pos, negsuc}
 use lib.ListN.{length, getD, drop, replicate, length-append, List·getD-append}
-use Rattle.word.specs.Word.{modulus, minusOne, residue}
+use Rattle.word.specs.Word.{modulus, minusOne, residue, signed}
 use Rattle.plan.specs.declared.Pass.{Pass}
 use Rattle.plan.specs.declared.Plan.{Plan}
 use Rattle.plan.specs.Rules.{orderLimit, coefficientAt, passAt, keepsRules}
 use Rattle.plan.specs.Sizes.{neededPixels}
 use Rattle.word.proofs.Residues.{residue-zero}
+use Rattle.word.proofs.SignedReading.{signed-reading}
 use Rattle.buffer.specs.Lists.{wordAt, numberAt}
 use Rattle.buffer.proofs.Listed.{listed-length, listed-at}
 use Rattle.passes.specs.Filter.{Filter}
 use Rattle.passes.specs.Passes.{passesOver, serialPasses}
 use Rattle.buffer.specs.Pixel.{heightAt, heightMap}
-use Rattle.passes.specs.Table.{runningSum, unchanged, firstAlone, summedAreaTable}
+use Rattle.passes.specs.Table.{runningSum, unchanged, firstAlone, summedAreaTable, rectangleSum}
 use Rattle.passes.proofs.Table.{rectangle-heights}
 use Rattle.filter.specs.PlanFilters.{filterOf, filtersOf, mapOf, serialResult, runningSumPass, unchangedPass, summedAreaPasses}
 use Rattle.number.specs.Numbers.{rowMajor}
 use Rattle.number.proofs.RowMajor.{row-of, column-of, place-below}
 use Rattle.serial.specs.Serial.{serialWords, serialOutput}
 use Rattle.serial.proofs.SerialAnswers.{long-enough, output-of-accepted}
-use Rattle.rectangle.specs.Rectangle.{tableOf}
-use Rattle.rectangle.specs.Heights.{SumsHeights}
+use Rattle.rectangle.specs.Rectangle.{tableOf, Inside}
+use Rattle.rectangle.specs.Heights.{heightSum, SumsHeights, GivesAtWord, SumsAtEnds}
 use Rattle.rectangle.proofs.SumAnswers.{accepted-when, given-accepted}
+use Rattle.rectangle.proofs.Bound.{sum-in-range}
 
 -- ---- the filters
 
@@ -103,17 +106,41 @@ module _ (plan : Plan) (kept : keepsRules plan ≡ true) (heights : List ℤ) (o
       ∙ listed-at _ (neededPixels plan) place 0 q
       ∙ rw (row-of (plan .grid .columns) y x b, column-of (plan .grid .columns) y x b)
 
-pub sums-heights : SumsHeights
-unfolding heightMap
-sums-heights plan kept passes heights output long room top left bottom right inside =
-    let table = serialOutput plan heights output in
+-- ---- the sums
+
+-- An accepted call gives what the word of the four corners is read as.
+gives-at-word : {word : ℕ} {sum : ℤ} → signed word ≡ sum → GivesAtWord word sum
+gives-at-word reads plan table kept long top left bottom right inside e =
     sym
     (given-accepted plan table top left bottom right
-    (accepted-when plan table top left bottom right kept (table-long plan kept heights output long room) inside)
-    (sym
-    (rectangle-heights (plan .grid .rows) (plan .grid .columns) _ (heightAt (plan .grid .columns) heights)
-    (λ y x a b.
-    table-at plan kept heights output long room y x a b
-    ∙ ap (λ (Z : ℕ → ℕ → ℕ). Z y x)
-    (passes-are plan passes (plan .grid .rows) (plan .grid .columns) (mapOf plan heights)))
-    top left bottom right (omega (arith, inside .top-bottom)) (omega (arith, inside .left-right)) (inside .bottom-low) (inside .right-low))))
+    (accepted-when plan table top left bottom right kept long inside) (sym (ap signed e ∙ reads)))
+
+pub sums-at-ends : SumsAtEnds
+sums-at-ends =
+    record {
+      at-zero = gives-at-word (signed-reading .at-zero);
+      at-greatest = gives-at-word (signed-reading .at-greatest);
+      at-least = gives-at-word (signed-reading .at-least);
+    }
+
+-- The word of the four corners is the residue of the heights' sum,
+module _ (plan : Plan) (kept : keepsRules plan ≡ true) (passes : plan .passes ≡ summedAreaPasses) (heights : List ℤ)
+    (output : List ℕ) (long : neededPixels plan ≤ length heights) (room : neededPixels plan ≤ length output) where
+  corners-word : (top left bottom right : ℕ) → Inside plan top left bottom right
+      → rectangleSum (tableOf plan (serialOutput plan heights output)) top left bottom right
+      ≡ residue (heightSum plan heights top left bottom right)
+  unfolding heightMap
+  corners-word top left bottom right inside =
+      rectangle-heights (plan .grid .rows) (plan .grid .columns) _ (heightAt (plan .grid .columns) heights)
+      (λ y x a b.
+      table-at plan kept heights output long room y x a b
+      ∙ ap (λ (Z : ℕ → ℕ → ℕ). Z y x)
+      (passes-are plan passes (plan .grid .rows) (plan .grid .columns) (mapOf plan heights)))
+      top left bottom right (omega (arith, inside .top-bottom)) (omega (arith, inside .left-right)) (inside .bottom-low) (inside .right-low)
+
+-- and read as signed it is that sum, which is small enough.
+pub sums-heights : SumsHeights
+sums-heights plan kept passes heights output fit long room top left bottom right inside =
+    gives-at-word (signed-reading .no-other _ (sum-in-range plan kept heights fit top left bottom right inside)) plan _ kept
+    (table-long plan kept heights output long room) top left bottom right inside
+    (corners-word plan kept passes heights output long room top left bottom right inside)

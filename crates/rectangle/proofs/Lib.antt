@@ -1,3 +1,4 @@
 pub mod CornerPlaces
 pub mod SumAnswers
+pub mod Bound
 pub mod Heights

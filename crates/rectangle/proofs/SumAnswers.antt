@@ -3,6 +3,7 @@ use mathlib.Core.Path.{_≡_, _∙_}
 use mathlib.Core.Bool.{true, false, not}
 use mathlib.Core.List.{List, [], _∷_}
 use Prim.Native.Nat.{ℕ, _≤_}
+use lib.IntN.{ℤ, pos}
 use lib.Dec.{ltb, leb}
 use lib.ListN.{length}
 use borrow.Author.Tests.{le-ltb, lt-leb, ltb-false, leb-false}
@@ -11,6 +12,7 @@ use Rattle.refusal.specs.Refusals.{refusedFor, Answer, accepted, refused}
 use Rattle.refusal.specs.Table.{Row, _at_when_, firstDue, firstOf, Given}
 use Rattle.refusal.proofs.Table.{tests-rows, none-of}
 use Rattle.number.proofs.Tests.{or-left, or-right}
+use Rattle.word.specs.Word.{signed}
 use Rattle.plan.specs.declared.Plan.{Plan}
 use Rattle.plan.specs.declared.Sizes.{Sizes}
 use Rattle.plan.specs.declared.PlanSizes.{PlanSizes}
@@ -81,12 +83,12 @@ module _ (plan : Plan) (table : List ℕ) (top left bottom right : ℕ) where
 
   -- Beside the answer: the sum of an accepted call, 0 of a refused one.
   pub given-accepted : rectangleCall plan table top left bottom right .answer ≡ accepted
-      → {sum : ℕ} → sum ≡ rectangleSum (tableOf plan table) top left bottom right
-      → _≡_ {A = Given ℕ} (record { answer = accepted; value = sum }) (rectangleCall plan table top left bottom right)
+      → {sum : ℤ} → sum ≡ signed (rectangleSum (tableOf plan table) top left bottom right)
+      → _≡_ {A = Given ℤ} (record { answer = accepted; value = sum }) (rectangleCall plan table top left bottom right)
   unfolding rectangleCall
   given-accepted e f = rw (e, f)
 
   pub given-refused : {number place : ℕ} → rectangleCall plan table top left bottom right .answer ≡ refused number place
-      → _≡_ {A = Given ℕ} (record { answer = refused number place; value = 0 }) (rectangleCall plan table top left bottom right)
+      → _≡_ {A = Given ℤ} (record { answer = refused number place; value = pos 0 }) (rectangleCall plan table top left bottom right)
   unfolding rectangleCall
   given-refused e = rw e

@@ -1,12 +1,15 @@
--- The rectangle sum as a call: document 01, the paragraph on the rectangle sum and refusals 6, 7 and 12.
+-- The rectangle sum as a call: document 01, the paragraph on the rectangle sum and refusals 6, 7 and 12; document 02,
+-- CR 2.
 use mathlib.Core.Bool.{Bool, not, _||_}
 use mathlib.Core.List.{List, [], _∷_}
 use Prim.Native.Nat.{ℕ, _<_, _≤_}
+use lib.IntN.{ℤ, pos}
 use lib.Dec.{ltb, leb}
 use lib.ListN.{length}
 use Rattle.refusal.specs.Refusals.{refusedFor, accepted}
 use Rattle.refusal.specs.Table.{_at_when_, firstDue, Given, given}
 use Rattle.number.specs.Numbers.{rowMajor}
+use Rattle.word.specs.Word.{signed}
 use Rattle.plan.specs.declared.Plan.{Plan}
 use Rattle.plan.specs.Rules.{keepsRules}
 use Rattle.plan.specs.Sizes.{neededPixels}
@@ -31,8 +34,8 @@ abbrev pub outside : Plan → (top left bottom right : ℕ) → Bool
 outside plan top left bottom right =
     leb bottom top || (leb right left || (ltb (plan .grid .rows) bottom || ltb (plan .grid .columns) right))
 
--- The sum over a rectangle, a number from 0 to 2^64 - 1; 0 beside a refusal.
-unfoldable pub rectangleCall : Plan → List ℕ → (top left bottom right : ℕ) → Given ℕ
+-- The sum over a rectangle, from -2^63 to 2^63 - 1: the word of the four corners, read as signed; 0 beside a refusal.
+unfoldable pub rectangleCall : Plan → List ℕ → (top left bottom right : ℕ) → Given ℤ
 rectangleCall plan table top left bottom right =
     given
     (firstDue
@@ -40,9 +43,9 @@ rectangleCall plan table top left bottom right =
     ∷ 7 at 0 when ltb (length table) (neededPixels plan)
     ∷ 12 at 0 when outside plan top left bottom right
     ∷ []))
-    (rectangleSum (tableOf plan table) top left bottom right) 0
+    (signed (rectangleSum (tableOf plan table) top left bottom right)) (pos 0)
 
 -- Document 01's number and place, and the sum, of each case that `rectangle_sum` answers.
-abbrev pub sumGiven : RectangleSum → Given ℕ
+abbrev pub sumGiven : RectangleSum → Given ℤ
 sumGiven (Sum sum) = record { answer = accepted; value = sum }
-sumGiven (Refused refusal) = record { answer = refusedFor refusal; value = 0 }
+sumGiven (Refused refusal) = record { answer = refusedFor refusal; value = pos 0 }

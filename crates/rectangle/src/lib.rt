@@ -15,11 +15,11 @@ ghost use Rattle.rectangle.specs.Rectangle.{tableOf, Inside, outside, re
 
 // The sum, or why there is none.
 pub enum RectangleSum {
-    Sum(u64),
+    Sum(i64),
     Refused(Refusal),
 }
 
-// The sum over the rows from `top` to before `bottom` and the columns from `left` to before `right`.
+// The sum over the rows from `top` to before `bottom` and the columns from `left` to before `right`, read as signed.
 pub fn rectangle_sum(
     plan: Plan,
     top: usize,
@@ -33,7 +33,10 @@ pub fn rectangle_sum(
     let outcome = answer(plan, top, left, bottom, right, table);
     match outcome {
         Outcome::Refused(refusal) => RectangleSum::Refused(refusal),
-        Outcome::Accepted => RectangleSum::Sum(corners(plan, top, left, bottom, right, table)),
+        Outcome::Accepted => {
+            let joined = corners(plan, top, left, bottom, right, table);
+            RectangleSum::Sum(word::signed(joined))
+        }
     }
 }
 
@@ -78,6 +81,7 @@ fn outside(plan: Plan, top: usize, left: usize, bottom: usize, right: usize) -> 
     Outcome::Accepted
 }
 
+// The word of the four corners.
 fn corners(plan: Plan, top: usize, left: usize, bottom: usize, right: usize, table: &[u64]) -> u64
     requires { ⌜ (neededPixels plan ≤ length (now table)) × Inside plan top left bottom right ⌝ }
     ensures { λ r. ⌜ r ≡ rectangleSum (tableOf plan (now (table .entry))) top left bottom right ⌝ }

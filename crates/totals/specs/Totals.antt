@@ -1,5 +1,5 @@
--- The totals that an operator reads: the table of a job with all its tasks done gives the heights' sums. Document 01,
--- the paragraph on the rectangle sum.
+-- The totals that an operator reads: the table of a job with all its tasks done gives the heights' sums, as whole
+-- numbers. Document 01, the paragraph on the rectangle sum; document 02, CR 2.
 use mathlib.Core.Path.{_≡_}
 use mathlib.Core.List.{List}
 use Prim.Native.Nat.{ℕ, _≤_}
@@ -11,7 +11,7 @@ use Rattle.plan.specs.Sizes.{neededPixels, taskCount}
 use Rattle.tasks.specs.Tasks.{BlockTask}
 use Rattle.job_spec.specs.Calls.{Buffers, startAnswer, started, afterCalls}
 use Rattle.job_spec.specs.Demand3.{countAfter}
-use Rattle.rectangle.specs.Heights.{SumsOver}
+use Rattle.rectangle.specs.Heights.{HeightsFit, SumsOver}
 use Rattle.filter.specs.PlanFilters.{summedAreaPasses}
 
 -- Calls that make a whole job: start accepts the plan with the lent marks and strips, map and output have h×w words,
@@ -26,9 +26,10 @@ pub record WholeJob (plan : Plan) (heights : List ℤ) (lent : Buffers) (calls :
 abbrev pub jobOutput : Plan → List ℤ → Buffers → List BlockTask → List ℕ
 jobOutput plan heights lent calls = afterCalls plan heights calls (started plan lent) .output
 
--- The table that a whole job with the passes of the summed-area table made gives the sums of the heights.
+-- The table that a whole job with the passes of the summed-area table made of a map of 32-bit heights gives the sums of
+-- the heights.
 abbrev pub JobSumsHeights : Type 0
 JobSumsHeights =
     (plan : Plan) (heights : List ℤ) (lent : Buffers) (calls : List BlockTask) → WholeJob plan heights lent calls
-    → plan .passes ≡ summedAreaPasses
+    → plan .passes ≡ summedAreaPasses → HeightsFit plan heights
     → SumsOver plan heights (jobOutput plan heights lent calls)

@@ -2,6 +2,7 @@
 use mathlib.Core.Path.{refl}
 use Rattle.mulzhegat.proofs.Places.{rectangle-refused}
 use borrow.Author.Needs.{needs}
+use Rattle.number.proofs.SignedBits.{read-back}
 use Rattle.mulzhegat.proofs.mzg_rectangle.Statement.{statement}
 use Rattle.mulzhegat.proofs.mzg_rectangle.Tie as tie
 
@@ -24,7 +25,8 @@ refusal-code-requires c κs =
 returns : tie.Need-returns
 returns c =
     let m = c .before .before .before in
-    rw (← (m .before .plan-of-record .ensures), ← (m .rectangle-sum .ensures), c .before .answer .given .1) (refl, refl)
+    rw (← (m .before .plan-of-record .ensures), ← (m .rectangle-sum .ensures), c .before .answer .given .1)
+    (refl, read-back (search needs) refl)
 
 returns-2 : tie.Need-returns-2
 returns-2 c =

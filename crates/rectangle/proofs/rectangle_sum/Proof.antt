@@ -2,6 +2,8 @@
 use mathlib.Core.Path.{sym, ap, _∙_}
 use borrow.Author.Needs.{needs}
 use Rattle.refusal.specs.Table.{answerOf}
+use Rattle.number.proofs.SignedBits.{read-back}
+use Rattle.word.specs.Word.{signed}
 use Rattle.rectangle.proofs.SumAnswers.{accepted-fits, given-accepted, given-refused}
 use Rattle.rectangle.proofs.rectangle_sum.Statement.{statement}
 use Rattle.rectangle.proofs.rectangle_sum.Tie as tie
@@ -30,14 +32,19 @@ returns c =
     let refuses = sym (r .answer .ensures) ∙ ap answerOf (k .outcome .given .1) in
     given-refused (a .plan) (a .table .now) (a .top) (a .left) (a .bottom) (a .right) refuses
 
+signed-requires : tie.Need-signed-requires
+signed-requires c κs = search needs
+
 returns-2 : tie.Need-returns-2
 returns-2 c =
-    let r = c .before .before .before in
+    let s = c .before in
+    let r = s .before .before .before in
     let a = r .before .before .args in
-    let accepts = sym (r .answer .ensures) ∙ ap answerOf (c .before .enum-told .given .1) in
-    given-accepted (a .plan) (a .table .now) (a .top) (a .left) (a .bottom) (a .right) accepts (c .corners .ensures)
+    let accepts = sym (r .answer .ensures) ∙ ap answerOf (s .before .enum-told .given .1) in
+    given-accepted (a .plan) (a .table .now) (a .top) (a .left) (a .bottom) (a .right) accepts
+    (read-back (search needs) (c .signed .ensures ∙ ap signed (s .corners .ensures)))
 
 pub rectangle-sum-spec : {M : Type 1} → statement M
 rectangle-sum-spec =
     tie.close
-    (tie.spec answer-requires enum-known-outcome enum-told corners-requires returns returns-2)
+    (tie.spec answer-requires enum-known-outcome enum-told corners-requires signed-requires returns returns-2)
