@@ -11,10 +11,10 @@ use Rattle.buffer.specs.Lists.{listOf, byPlace}
 use Rattle.buffer.specs.Pixel.{heightMap}
 use Rattle.passes.specs.Table.{runningSum, unchanged, summedAreaTable, rectangleSum}
 
--- The words that the definitions compute, and those that they should.
-pub record Example : Type 0 where
-  pub computed : List ℕ
-  pub expected : List ℕ
+-- What the definitions compute, and what they should.
+pub record Example (A : Type 0) : Type 0 where
+  pub computed : A
+  pub expected : A
 
 -- The filter with a gain and the coefficients d1 to dr, given as signed numbers.
 unfoldable pub filterOf : ℤ → List ℤ → Filter
@@ -28,7 +28,7 @@ passesOf down up right left (suc (suc zero)) = right
 passesOf down up right left (suc (suc (suc t))) = left
 
 -- A map of h rows and w columns after the first t passes.
-unfoldable pub passesExample : (ℕ → Filter) → (h w : ℕ) → List ℤ → (t : ℕ) → List ℤ → Example
+unfoldable pub passesExample : (ℕ → Filter) → (h w : ℕ) → List ℤ → (t : ℕ) → List ℤ → Example (List ℕ)
 passesExample filters h w heights t words =
     record {
       computed = listOf (byPlace w (serialPasses filters h w (heightMap w heights) t)) (h * w);
@@ -36,7 +36,7 @@ passesExample filters h w heights t words =
     }
 
 -- A rectangle of the summed-area table of a map.
-unfoldable pub rectangleExample : (h w : ℕ) → List ℤ → (top left bottom right : ℕ) → ℕ → Example
+unfoldable pub rectangleExample : (h w : ℕ) → List ℤ → (top left bottom right : ℕ) → ℕ → Example (List ℕ)
 rectangleExample h w heights top left bottom right sum =
     record {
       computed = rectangleSum (serialPasses summedAreaTable h w (heightMap w heights) 4) top left bottom right ∷ [];
@@ -69,7 +69,7 @@ oneToSix = pos 1 ∷ pos 2 ∷ pos 3 ∷ pos 4 ∷ pos 5 ∷ pos 6 ∷ []
 
 -- The column after down and after up; the rows after right and after left; document 01's row 1, 0, 0; its rectangle
 -- (0,1,2,3), and (1,1,2,3), whose corners all count.
-unfoldable pub passesExamples : List Example
+unfoldable pub passesExamples : List (Example (List ℕ))
 passesExamples =
     passesExample (passesOf forth back unchanged unchanged) 4 1 column 1 (pos 1 ∷ minus 1 ∷ pos 1 ∷ pos 2 ∷ [])
     ∷ passesExample (passesOf forth back unchanged unchanged) 4 1 column 2 (minus 24 ∷ minus 8 ∷ pos 6 ∷ pos 4 ∷ [])

@@ -61,7 +61,7 @@ finishedOutput job =
     (replicate (neededPixels (job .plan)) 7)
 
 -- What the definitions compute in a job, beside the words that are to be found.
-unfoldable pub jobExamples : WorkedJob → List Example
+unfoldable pub jobExamples : WorkedJob → List (Example (List ℕ))
 jobExamples job =
     record { computed = collectedStrips job; expected = map residue (job .stripsCollected) }
     ∷ record { computed = linkedStrips job; expected = map residue (job .stripsLinked) }
@@ -141,5 +141,5 @@ tableJob =
     }
 
 -- All of them.
-unfoldable pub blocksExamples : List Example
+unfoldable pub blocksExamples : List (Example (List ℕ))
 blocksExamples = jobExamples columnJob ++ (jobExamples rowJob ++ jobExamples tableJob)

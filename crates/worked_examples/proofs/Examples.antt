@@ -1,8 +1,9 @@
 -- The definitions compute what document 01 gives in its starred examples, and the words of the jobs worked by hand.
 -- Assumes nothing.
 use mathlib.Core.Path.{refl}
-use Rattle.word.specs.Word.{modulus, minusOne, _⊕_, _⊖_, _⊗_, residue}
+use Rattle.word.specs.Word.{modulus, minusOne, _⊕_, _⊖_, _⊗_, residue, signed}
 use Rattle.number.specs.Numbers.{allBelow, total}
+use Rattle.number.specs.SignedBits.{twosComplement}
 use Rattle.plan.specs.Rules.{coefficientsKept, passKept, passesKept, keepsRules}
 use Rattle.grid.specs.Grid.{gridKept, blockCount, blockExtent, blockRow, blockColumn, blockArea, blockPixelPlace, neighbour, goesOn}
 use Rattle.plan.specs.Sizes.{sizesOf}
@@ -23,10 +24,10 @@ use Rattle.tasks.specs.Verdict.{blocksOf, lookedAt, leastBrokenOf, leastBroken,
 use Rattle.task_words.specs.Strips.{stripPlace, insideBlock, edgeWord, stripWord, nearestFirst, pastEdges, stripWrittenTo, slotWritten}
 use Rattle.task_words.specs.Writes.{aloneWord, collected, linkWord, linked, finishWord, blockWritten, finished}
 use Rattle.job_spec.specs.Calls.{startAnswer, unmarked, marksAfterStart, stripsAfterStart, started, lentRows, taskAnswer, stripsAfter, outputAfter, performed, afterTask, afterCalls}
-use Rattle.worked_examples.specs.Examples.{serialExample, rectangleExample, afterJob, outputExample, stripsExample, jobExamples, starred, ExamplesHold}
+use Rattle.worked_examples.specs.Examples.{serialExample, rectangleExample, afterJob, outputExample, stripsExample, jobExamples, starred, furtherRectangles, ExamplesHold}
 
 pub examples-hold : ExamplesHold
-unfolding modulus minusOne _⊕_ _⊖_ _⊗_ residue allBelow coefficientsKept passKept passesKept keepsRules blockCount
+unfolding modulus minusOne _⊕_ _⊖_ _⊗_ residue twosComplement signed allBelow coefficientsKept passKept passesKept keepsRules blockCount
     blockExtent gridKept blockArea sizesOf listOf joined passPlace wordRows headRows coefficientRows passRows passesRows endRows sideRows planRows readPlan history
     output lessFeedback filterStep filterLine filterLines passesOver serialPasses pixel heightMap cornerOf rectangleSum filterOf
     written serialAnswer serialWords serialOutput rectangleCall hasTask exists needsOf allDone total hasBit isMarked spareClear
@@ -34,5 +35,5 @@ unfolding modulus minusOne _⊕_ _⊖_ _⊗_ residue allBelow coefficientsKept p
     goesOn stripPlace insideBlock edgeWord stripWord nearestFirst pastEdges stripWrittenTo rowWritten slotWritten aloneWord
     collected linkWord linked finishWord blockWritten rectangleWritten finished startAnswer unmarked cleared marksAfterStart stripsAfterStart
     started lentRows taskAnswer stripsAfter outputAfter performed afterTask afterCalls serialExample rectangleExample afterJob
-    outputExample stripsExample jobExamples starred
+    outputExample stripsExample jobExamples starred furtherRectangles
 examples-hold = refl

@@ -1,6 +1,6 @@
 -- The starred examples of document 01, with document 02's changes, in one list, each through the definition that the
--- contract of its call cites; and two jobs worked by hand, their strips word by word after the collects and after all
--- tasks.
+-- contract of its call cites; further rectangles, and two jobs worked by hand, their strips word by word after the
+-- collects and after all tasks.
 use mathlib.Core.Path.{_≡_}
 use mathlib.Core.List.{List, [], _∷_, _++_, map}
 use Prim.Native.Nat.{ℕ}
@@ -23,15 +23,15 @@ use Rattle.filter.specs.PlanFilters.{summedAreaPasses, passOf, unchangedPass, r
 -- ---- plan words
 
 -- An answer as document 01's number and place.
-abbrev pub numberAndPlace : Answer → List ℕ
-numberAndPlace answer = numberIn answer ∷ placeIn answer ∷ []
+abbrev pub numberAndPlace : Answer → List ℤ
+numberAndPlace answer = pos (numberIn answer) ∷ pos (placeIn answer) ∷ []
 
 -- What the plan's reader answers to a list of words.
-abbrev pub readingExample : List ℕ → List ℕ → Example
-readingExample words answer = record { computed = numberAndPlace (readPlan words .answer); expected = answer }
+abbrev pub readingExample : List ℕ → List ℕ → Example (List ℤ)
+readingExample words answer = record { computed = numberAndPlace (readPlan words .answer); expected = map pos answer }
 
--- The words of a plan of one pixel with a block word, a pass word for down and its coefficients; the other passes have order
--- 0, and all gains are 1.
+-- The words of a plan of one pixel with a block word, a pass word for down and its coefficients; the other passes have
+-- order 0, and all gains are 1.
 abbrev planWords : ℕ → ℕ → List ℕ → List ℕ
 planWords block down coefficients =
     (0x10002001 ∷ block ∷ down ∷ 0x40000001 ∷ [])
@@ -59,13 +59,13 @@ gainAlone gain = passOf gain []
 
 -- ---- the serial passes
 
+-- Words, and numbers whose residues they should be.
+abbrev wordsExample : List ℕ → List ℤ → Example (List ℤ)
+wordsExample words numbers = record { computed = map pos words; expected = map (λ number. pos (residue number)) numbers }
+
 -- The output of the serial passes over a map, begun on words of 7.
-unfoldable pub serialExample : Plan → List ℤ → List ℤ → Example
-serialExample plan heights words =
-    record {
-      computed = serialOutput plan heights (replicate (neededPixels plan) 7);
-      expected = map residue words;
-    }
+unfoldable pub serialExample : Plan → List ℤ → List ℤ → Example (List ℤ)
+serialExample plan heights words = wordsExample (serialOutput plan heights (replicate (neededPixels plan) 7)) words
 
 -- 1 2 3 / 4 5 6
 abbrev oneToSix : List ℤ
@@ -85,13 +85,18 @@ up = passOf (minus 1) (pos 2 ∷ [])
 
 -- ---- a rectangle
 
--- What the rectangle sum answers on the table that the serial passes leave of 1 2 3 / 4 5 6: number, place and sum.
-unfoldable pub rectangleExample : (top left bottom right : ℕ) → (number place sum : ℕ) → Example
-rectangleExample top left bottom right number place sum =
-    let given = rectangleCall tablePlan (serialOutput tablePlan oneToSix (replicate 6 7)) top left bottom right in
+-- 1 -2 3 / -4 5 -6
+abbrev aboveAndBelow : List ℤ
+aboveAndBelow = pos 1 ∷ minus 2 ∷ pos 3 ∷ minus 4 ∷ pos 5 ∷ minus 6 ∷ []
+
+-- What the rectangle sum answers on the table that the serial passes leave of a map of two rows and three columns:
+-- number, place and sum.
+unfoldable pub rectangleExample : List ℤ → (top left bottom right : ℕ) → (number place : ℕ) → (sum : ℤ) → Example (List ℤ)
+rectangleExample heights top left bottom right number place sum =
+    let given = rectangleCall tablePlan (serialOutput tablePlan heights (replicate 6 7)) top left bottom right in
     record {
-      computed = numberIn (given .answer) ∷ placeIn (given .answer) ∷ given .value ∷ [];
-      expected = number ∷ place ∷ sum ∷ [];
+      computed = numberAndPlace (given .answer) ++ (given .value ∷ []);
+      expected = pos number ∷ pos place ∷ sum ∷ [];
     }
 
 -- ---- jobs
@@ -124,17 +129,15 @@ twoBlocks forth back =
     ∷ [])
 
 -- The output after a list of calls.
-unfoldable pub outputExample : Plan → List ℤ → List BlockTask → List ℤ → Example
-outputExample plan heights calls words =
-    record { computed = afterJob plan heights calls .output; expected = map residue words }
+unfoldable pub outputExample : Plan → List ℤ → List BlockTask → List ℤ → Example (List ℤ)
+outputExample plan heights calls words = wordsExample (afterJob plan heights calls .output) words
 
 -- The strips after a list of calls.
-unfoldable pub stripsExample : Plan → List ℤ → List BlockTask → List ℤ → Example
-stripsExample plan heights calls words =
-    record { computed = afterJob plan heights calls .strips; expected = map residue words }
+unfoldable pub stripsExample : Plan → List ℤ → List BlockTask → List ℤ → Example (List ℤ)
+stripsExample plan heights calls words = wordsExample (afterJob plan heights calls .strips) words
 
 -- A job of two blocks worked by hand: the strips after the collects, and the strips and the output after all tasks.
-unfoldable pub jobExamples : WorkedJob → (forth back : ℕ) → List Example
+unfoldable pub jobExamples : WorkedJob → (forth back : ℕ) → List (Example (List ℤ))
 jobExamples job forth back =
     stripsExample (job .plan) (job .heights) collectBoth (job .stripsCollected)
     ∷ stripsExample (job .plan) (job .heights) (twoBlocks forth back) (job .stripsLinked)
@@ -149,12 +152,11 @@ columnPlan = record { grid = record { rows = 3; columns = 1; side = 2 }; passes 
 
 -- The starred examples, in the document's order. Order 9 stands for order 5 by request CR 1; order 8 beside order 4
 -- holds the limit from below.
-unfoldable pub starred : List Example
+unfoldable pub starred : List (Example (List ℤ))
 starred =
     serialExample tablePlan oneToSix (pos 1 ∷ pos 3 ∷ pos 6 ∷ pos 5 ∷ pos 12 ∷ pos 21 ∷ [])
-    ∷ rectangleExample 0 1 2 3 0 0 16
-    ∷ rectangleExample 1 0 2 1 0 0 4
-    ∷ rectangleExample 0 0 0 3 12 0 0
+    ∷ rectangleExample oneToSix 0 1 2 3 0 0 (pos 16)
+    ∷ rectangleExample oneToSix 0 0 0 3 12 0 (pos 0)
     ∷ serialExample (planOf 3 1 down unchangedPass unchangedPass unchangedPass) oneThenZeros (pos 6 ∷ minus 12 ∷ pos 24 ∷ [])
     ∷ serialExample (planOf 3 1 down up unchangedPass unchangedPass) oneThenZeros (minus 126 ∷ pos 60 ∷ minus 24 ∷ [])
     ∷ outputExample columnPlan oneThenZeros (twoBlocks 1 2) (minus 126 ∷ pos 60 ∷ minus 24 ∷ [])
@@ -171,9 +173,19 @@ starred =
     ∷ readingExample (planWords 0x20000009 0x30000009 (coefficientsOfOne 9)) (3 ∷ 2 ∷ [])
     ∷ []
 
--- The starred examples, and the strips and outputs of two jobs of order 2 whose last block is short.
-abbrev pub examples : List Example
-examples = starred ++ (jobExamples columnJob 1 2 ++ jobExamples rowJob 3 4)
+-- Further rectangles: document 01's second; and by request CR 2, of a map with heights below 0, totals below 0 of a row
+-- and of the whole map, and a total of 0.
+unfoldable pub furtherRectangles : List (Example (List ℤ))
+furtherRectangles =
+    rectangleExample oneToSix 1 0 2 1 0 0 (pos 4)
+    ∷ rectangleExample aboveAndBelow 1 0 2 3 0 0 (minus 5)
+    ∷ rectangleExample aboveAndBelow 0 0 2 3 0 0 (minus 3)
+    ∷ rectangleExample aboveAndBelow 0 1 2 3 0 0 (pos 0)
+    ∷ []
+
+-- The starred examples, further rectangles, and strips and outputs of two jobs of order 2 whose last block is short.
+abbrev pub examples : List (Example (List ℤ))
+examples = starred ++ (furtherRectangles ++ (jobExamples columnJob 1 2 ++ jobExamples rowJob 3 4))
 
 -- The definitions compute what is given, in every example.
 abbrev pub ExamplesHold : Type 0
