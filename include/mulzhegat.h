@@ -155,13 +155,18 @@ uint64_t mzg_report(const mzg_plan *plan, const uint32_t *marks, size_t marks_le
 /* Runs the four passes over the whole map. Needs sizes.pixels map and output words. Refused: 6, 7. */
 uint64_t mzg_serial(const mzg_plan *plan, const int32_t *map, size_t map_len, uint64_t *output, size_t output_len);
 
-/* Gives the sum over rows top to bottom - 1 and columns left to right - 1 from a finished summed-area table S, modulo
- * 2^64: S(bottom-1, right-1) - S(top-1, right-1) - S(bottom-1, left-1) + S(top-1, left-1), a row or column of -1
- * counting as 0. Heights have 32 bits and a map no more than 2^24 of them, so that the sum of a summed-area table, read
- * as int64_t, is exact. The record, the length and the rectangle are tested, not that the table is a summed-area table.
- * Needs sizes.pixels table words. Refused: 6, 7, 12; the sum is then 0. */
+/* Gives the sum over rows top to bottom - 1 and columns left to right - 1 from a finished summed-area table S: the word
+ * S(bottom-1, right-1) - S(top-1, right-1) - S(bottom-1, left-1) + S(top-1, left-1) modulo 2^64, a row or column of -1
+ * counting as 0, read as signed: the word itself below 2^63, and less 2^64 from there on.
+ * On the summed-area table of a map this is the exact sum of the heights, negative for a pocket below the datum:
+ * heights have 32 bits and a map no more than 2^24 of them, so that the sum lies between -2^55 and 2^55. On any other
+ * table it is what the four words make of it, from -2^63 (where they make 2^63) to 2^63 - 1; where they make 0 it is 0.
+ * The record, the length and the rectangle are tested, not that plan and table are those of a summed-area table.
+ * The sum is signed: print it with PRId64, and make a count signed before dividing by it.
+ * Needs sizes.pixels table words. Refused: 6, 7, 12; the sum is then 0, as that of an accepted call can be: look at the
+ * answer first. */
 uint64_t mzg_rectangle(const mzg_plan *plan, size_t top, size_t left, size_t bottom, size_t right,
-                       const uint64_t *table, size_t table_len, uint64_t *sum);
+                       const uint64_t *table, size_t table_len, int64_t *sum);
 
 #ifdef __cplusplus
 }

@@ -121,15 +121,18 @@ int main(void)
     printf("%" PRIu64 " tasks done in %u rounds, %u calls came too early, tally %" PRIu64 "\n",
            progress.marked, rounds, early, progress.tally);
 
-    /* The total over rows 1 to 3 and columns 2 to 5, and the same heights added one by one. Totals are modulo 2^64, so
-     * read as signed they show negative ones too. */
-    uint64_t total;
-    accept("rectangle", mzg_rectangle(&plan, 1, 2, 4, 6, output, (size_t)sizes.pixels, &total));
-    int64_t added = 0;
-    for (size_t row = 1; row < 4; row++)
-        for (size_t column = 2; column < 6; column++)
-            added += map[row * 7 + column];
-    printf("total %" PRId64 ", added one by one %" PRId64 "\n", (int64_t)total, added);
+    /* Two totals, the second below the datum, and the same heights added one by one. */
+    int64_t total;
+    static const size_t rectangles[2][4] = { { 1, 2, 4, 6 }, { 2, 6, 5, 7 } };
+    for (size_t i = 0; i < 2; i++) {
+        size_t top = rectangles[i][0], left = rectangles[i][1], bottom = rectangles[i][2], right = rectangles[i][3];
+        accept("rectangle", mzg_rectangle(&plan, top, left, bottom, right, output, (size_t)sizes.pixels, &total));
+        int64_t added = 0;
+        for (size_t row = top; row < bottom; row++)
+            for (size_t column = left; column < right; column++)
+                added += map[row * 7 + column];
+        printf("total %" PRId64 ", added one by one %" PRId64 "\n", total, added);
+    }
 
     /* A refused call says why: this rectangle has no rows. */
     uint64_t answer = mzg_rectangle(&plan, 2, 2, 2, 6, output, (size_t)sizes.pixels, &total);

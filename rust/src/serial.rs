@@ -12,7 +12,7 @@ extern "C" {
         right: usize,
         table: *const u64,
         table_len: usize,
-        sum: *mut u64,
+        sum: *mut i64,
     ) -> u64;
 }
 
@@ -54,18 +54,30 @@ impl Rectangle {
     }
 }
 
-/// Gives the sum over a rectangle of a finished summed-area table, modulo 2^64. The table needs rows * columns words.
+/// Gives the sum over a rectangle of a finished summed-area table: the exact sum of the heights in it, below 0 where
+/// the heights below the datum outweigh those above. On any other table it is the word that the four corners make
+/// modulo 2^64, read as signed. The table needs rows * columns words.
 ///
 /// # Errors
 /// 6, 7, 12.
-pub fn rectangle(plan: &Plan, rectangle: Rectangle, table: &[u64]) -> Result<u64, Refusal> {
+///
+/// # Example
+/// ```
+/// use mulzhegat::serial::{self, Rectangle};
+/// use mulzhegat::Plan;
+/// let plan = Plan::summed(2, 3, 2);
+/// let mut table = [0; 6];
+/// serial::run(&plan, &[1, -2, 3, -4, 5, -6], &mut table).unwrap();
+/// assert_eq!(serial::rectangle(&plan, Rectangle::new(1, 0, 2, 3), &table), Ok(-5));
+/// ```
+pub fn rectangle(plan: &Plan, rectangle: Rectangle, table: &[u64]) -> Result<i64, Refusal> {
     let mut sum = 0;
     rectangle_into(plan, rectangle, table, &mut sum)?;
     Ok(sum)
 }
 
-/// Gives the sum over a rectangle in a word, which is 0 beside a refusal.
-pub fn rectangle_into(plan: &Plan, rectangle: Rectangle, table: &[u64], sum: &mut u64) -> Result<(), Refusal> {
+/// Writes the sum over a rectangle to `sum`, 0 beside a refusal.
+pub fn rectangle_into(plan: &Plan, rectangle: Rectangle, table: &[u64], sum: &mut i64) -> Result<(), Refusal> {
     let Rectangle { top, left, bottom, right } = rectangle;
     // SAFETY: the record and the table are readable, the table for its length, and the sum is writable; borrowed
     // mutably, it overlaps nothing.

@@ -194,8 +194,8 @@ pub fn serial(plan: &Plan, map: &[i32], output: &mut [u64]) -> Result<(), Refusa
     Ok(())
 }
 
-/// Sums over a rectangle, given as top, left, bottom, right.
-pub fn rectangle(plan: &Plan, rectangle: [usize; 4], table: &[u64]) -> Result<u64, Refusal> {
+/// Sums over a rectangle, given as top, left, bottom, right; a sum is from -2^63 to 2^63 - 1.
+pub fn rectangle(plan: &Plan, rectangle: [usize; 4], table: &[u64]) -> Result<i64, Refusal> {
     let [top, left, bottom, right] = rectangle;
     let job = Job::of(plan)?;
     job.check_lengths(&[(table.len(), job.pixels())])?;
@@ -205,13 +205,11 @@ pub fn rectangle(plan: &Plan, rectangle: [usize; 4], table: &[u64]) -> Result<u6
     // The table at the row and the column before, each counted from 1; 0 for row or column -1.
     let before = |row: usize, column: usize| match (row, column) {
         (0, _) | (_, 0) => 0,
-        _ => table[(row - 1) * job.columns + column - 1],
+        _ => i128::from(table[(row - 1) * job.columns + column - 1]),
     };
-    let (plus, minus) = ([(bottom, right), (top, left)], [(top, right), (bottom, left)]);
-    let sum = |corners: [(usize, usize); 2]| {
-        corners.iter().fold(0u64, |sum, &(row, column)| sum.wrapping_add(before(row, column)))
-    };
-    Ok(sum(plus).wrapping_sub(sum(minus)))
+    let sum = before(bottom, right) - before(top, right) - before(bottom, left) + before(top, left);
+    let word = sum.rem_euclid(1 << 64);
+    Ok(if word < 1 << 63 { word as i64 } else { (word - (1 << 64)) as i64 })
 }
 
 /// The mark of a block of which nothing is done.
@@ -536,6 +534,8 @@ mod tests {
         assert_eq!(rectangle(&plan, [0, 1, 2, 3], &output), Ok(16));
         assert_eq!(rectangle(&plan, [1, 0, 2, 1], &output), Ok(4));
         assert_eq!(rectangle(&plan, [0, 0, 0, 3], &output), Err(Refusal::RectangleOutside));
+        let (_, _, output) = whole_job(&plan, &[1, -2, 3, -4, 5, -6]);
+        assert_eq!(rectangle(&plan, [1, 0, 2, 3], &output), Ok(-5));
     }
 
     #[test]

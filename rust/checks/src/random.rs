@@ -108,6 +108,12 @@ impl Random {
         (0..length).map(|_| self.height()).collect()
     }
 
+    /// A rectangle of a map of this size, not empty: top, left, bottom, right.
+    pub fn rectangle(&mut self, rows: usize, columns: usize) -> [usize; 4] {
+        let (top, left) = (self.below(rows), self.below(columns));
+        [top, left, self.between(top + 1, rows), self.between(left + 1, columns)]
+    }
+
     /// Words of any value.
     pub fn words(&mut self, length: usize) -> Vec<u64> {
         (0..length).map(|_| self.word()).collect()

@@ -75,6 +75,12 @@ pub fn serial(plan: &Plan, map: &[i32]) -> Vec<u64> {
     last
 }
 
+/// The heights in a rectangle (top, left, bottom, right) added one by one, in numbers that cannot wrap.
+pub fn total(map: &[i32], columns: usize, rectangle: [usize; 4]) -> i128 {
+    let [top, left, bottom, right] = rectangle;
+    (top..bottom).flat_map(|row| &map[row * columns..][left..right]).map(|&height| i128::from(height)).sum()
+}
+
 #[cfg(test)]
 mod tests {
     use super::*;

@@ -13,6 +13,15 @@ CLAIM(tasks_are_the_last_size, offsetof(mzg_sizes, tasks) == 6 * 8);
 CLAIM(progress_is_5_words, sizeof(mzg_progress) == 5 * 8);
 CLAIM(ready_is_word_2, offsetof(mzg_progress, ready) == 2 * 8);
 
+/* A total is signed. */
+int64_t total_of(const mzg_plan *plan, const uint64_t *table);
+
+int64_t total_of(const mzg_plan *plan, const uint64_t *table)
+{
+    int64_t total;
+    return mzg_rectangle(plan, 0, 0, 1, 1, table, 1, &total) == MZG_ACCEPTED ? total : 0;
+}
+
 /* Answers are compared with the constants, and taken apart, without a cast. */
 uint64_t block_of_a_broken_mark(uint64_t answer);
 

@@ -5,6 +5,7 @@ use checks::model::{self, Job, NOTHING_DONE};
 use checks::random::{self, Random, Reached};
 use checks::records::{all_orders, broken_record};
 use checks::reference;
+use mulzhegat::serial::Rectangle;
 use mulzhegat::{job, plan, serial, Pass, Plan, Progress, Refusal, DOWN, LEFT, RIGHT, UP};
 
 /// The three buffers that calls may write, with the words around them.
@@ -559,6 +560,22 @@ fn whole_job_in_random_order(plan: &Plan, random: &mut Random) {
     trial.compare();
     let done = done_by(&trial);
     check_the_list(&mut trial, &done, &output_before);
+}
+
+#[test]
+fn totals_on_the_tables_of_jobs_are_sums_of_heights() {
+    let mut random = random::of_test("totals_on_the_tables_of_jobs_are_sums_of_heights");
+    for _ in 0..100 * random::rounds() {
+        let (rows, columns) = (random.between(1, 20), random.between(1, 20));
+        let plan = Plan::summed(rows, columns, random.between(1, 32));
+        let map = random.heights(rows * columns);
+        let (_, table) = perform_what_the_report_names(&plan, &map);
+        for _ in 0..20 {
+            let [top, left, bottom, right] = random.rectangle(rows, columns);
+            let sum = serial::rectangle(&plan, Rectangle::new(top, left, bottom, right), &table).map(i128::from);
+            assert_eq!(sum, Ok(reference::total(&map, columns, [top, left, bottom, right])));
+        }
+    }
 }
 
 #[test]

@@ -30,6 +30,15 @@ fn example_rectangles_of_the_summed_table() {
 }
 
 #[test]
+fn example_rectangle_below_the_datum() {
+    let plan = Plan::summed(2, 3, 2);
+    let table = run(&plan, &[1, -2, 3, -4, 5, -6]);
+    assert_eq!(serial::rectangle(&plan, Rectangle::new(1, 0, 2, 3), &table), Ok(-5));
+    assert_eq!(serial::rectangle(&plan, Rectangle::new(0, 1, 2, 3), &table), Ok(0));
+    assert_eq!(serial::rectangle(&plan, Rectangle::new(0, 0, 2, 3), &table), Ok(-3));
+}
+
+#[test]
 fn example_empty_rectangle_is_refused_12() {
     let mut sum = 77;
     let answer =
@@ -159,7 +168,7 @@ fn short_buffers_are_refused_7_and_broken_records_6_before() {
 }
 
 /// Sums over a rectangle and compares with the model.
-fn sum_and_compare(plan: &Plan, corners: [usize; 4], table: &[u64]) -> Result<u64, Refusal> {
+fn sum_and_compare(plan: &Plan, corners: [usize; 4], table: &[u64]) -> Result<i64, Refusal> {
     let [top, left, bottom, right] = corners;
     let mut sum = 0x7777;
     let answer = serial::rectangle_into(plan, Rectangle::new(top, left, bottom, right), table, &mut sum);
@@ -195,18 +204,49 @@ fn all_rectangles_of_small_tables() {
 #[test]
 fn rectangles_of_summed_tables_are_sums_of_heights() {
     let mut random = random::of_test("rectangles_of_summed_tables_are_sums_of_heights");
+    let (mut below, mut above) = (0, 0);
     for _ in 0..300 * random::rounds() {
         let (rows, columns) = (random.between(1, 40), random.between(1, 40));
         let plan = Plan::summed(rows, columns, random.between(1, 32));
         let map = random.heights(rows * columns);
         let table = run(&plan, &map);
         for _ in 0..20 {
-            let (top, left) = (random.below(rows), random.below(columns));
-            let (bottom, right) = (random.between(top + 1, rows), random.between(left + 1, columns));
-            let heights = (top..bottom).flat_map(|row| &map[row * columns..][left..right]);
-            let expected: i64 = heights.map(|&height| i64::from(height)).sum();
-            assert_eq!(sum_and_compare(&plan, [top, left, bottom, right], &table), Ok(expected as u64));
+            let corners = random.rectangle(rows, columns);
+            let expected = reference::total(&map, columns, corners);
+            assert_eq!(sum_and_compare(&plan, corners, &table).map(i128::from), Ok(expected));
+            below += usize::from(expected < 0);
+            above += usize::from(expected > 0);
         }
+    }
+    assert!(below > 1_000 && above > 1_000, "{below} sums below 0, {above} above");
+}
+
+/// All heights the least, all the greatest: no allowed map has a lower or a higher total.
+#[test]
+fn totals_of_the_largest_maps_are_exact() {
+    let plan = Plan::summed(4096, 4096, 32);
+    let mut table = vec![0; 1 << 24];
+    for (height, total) in [(i32::MIN, -(1 << 55)), (i32::MAX, (1 << 55) - (1 << 24))] {
+        serial::run(&plan, &vec![height; 1 << 24], &mut table).unwrap();
+        let corners = [[0, 0, 4096, 4096], [1, 2, 4096, 4095], [4095, 0, 4096, 4096], [17, 18, 2049, 1026]];
+        assert_eq!(sum_and_compare(&plan, corners[0], &table), Ok(total));
+        for [top, left, bottom, right] in corners {
+            let pixels = ((bottom - top) * (right - left)) as i128;
+            let sum = sum_and_compare(&plan, [top, left, bottom, right], &table).map(i128::from);
+            assert_eq!(sum, Ok(pixels * i128::from(height)));
+        }
+    }
+}
+
+/// Words that are no sums of heights: the sum is the word read as signed.
+#[test]
+fn totals_of_other_tables_at_zero_and_at_both_ends() {
+    let words = [(0, 0), ((1 << 63) - 1, i64::MAX), (1 << 63, i64::MIN), (u64::MAX, -1), (1 << 62, 1 << 62)];
+    for (word, sum) in words {
+        assert_eq!(sum_and_compare(&Plan::summed(1, 1, 1), [0, 0, 1, 1], &[word]), Ok(sum));
+        // The same word from four corners, of which the last is 5 + 7 + word - 3.
+        let table = [3, 5, 7, word.wrapping_add(9)];
+        assert_eq!(sum_and_compare(&Plan::summed(2, 2, 1), [1, 1, 2, 2], &table), Ok(sum));
     }
 }
 
@@ -247,6 +287,6 @@ fn rectangle_refuses_6_then_7_then_12() {
             }
         }
         assert_eq!(sum_and_compare(&plan, bad, &table), Err(Refusal::RectangleOutside));
-        assert_eq!(sum_and_compare(&plan, good, &table), Ok(table[pixels - 1]));
+        assert_eq!(sum_and_compare(&plan, good, &table), Ok(table[pixels - 1] as i64));
     }
 }
