@@ -1,22 +1,18 @@
 -- Two's complement by the sign, its range, and that reading bits and taking bits undo each other, whatever the width;
--- a number that the machine reads back from its bits. Assumes nothing.
-use mathlib.Core.Path.{_≡_, ap, _∙_}
+-- what the machine makes of it. Assumes nothing.
+use mathlib.Core.Path.{_≡_, sym, ap, _∙_}
 use mathlib.Core.Bool.{true}
 use mathlib.Core.Logic.{⊎-elim}
 use Prim.Native.Nat.{ℕ, zero, suc, _+_, _-_, _<_, _≤_, _^_}
 use native.Mathlib.Nat.{two-pow-succ}
 use native.Mathlib.Omega.{arith}
-use lib.IntN.{ℤ, pos, negsuc}
-use mir.Syntax.{Width}
-use mir.Val.{SFits, toZ, ofZ}
-use mir.ValLaws.{toZ-ofZ}
+use lib.IntN.{ℤ, pos, negsuc, _-ℤ_}
+use mir.Syntax.{Width, w64}
+use mir.Val.{hbits, SFits, toZ, ofZ}
+use mir.ValLaws.{toZ-pos, toZ-ofZ}
 use borrow.Author.Tests.{lt-ltb, le-ltb, ltb-true}
 use Rattle.number.specs.SignedBits.{inSigned, twosComplement, signedBits}
 use Rattle.number.proofs.Tests.{lt-or-ge}
-
--- A signed answer, as the machine reads it back from its bits.
-pub read-back : {w : Width} {z answer : ℤ} → SFits w z → z ≡ answer → toZ w (ofZ w z) ≡ answer
-read-back {w} {z} fits e = toZ-ofZ w z fits ∙ e
 
 module _ (bits n : ℕ) where
   pub complement-low : n < 2 ^ (bits - 1) → twosComplement bits n ≡ pos n
@@ -52,3 +48,25 @@ module _ (bits : ℕ) (some : 0 < bits) where
       let h = ltb-true n (2 ^ (bits - 1)) kept in
       let e : 2 ^ bits - suc (2 ^ bits - suc n) ≡ n = omega (arith, two-halves bits some) in
       complement-high bits (2 ^ bits - suc n) (omega (arith, two-halves bits some)) ∙ ap negsuc e
+
+-- ---- the machine
+
+-- A signed answer, as the machine reads it back from its bits.
+pub read-back : {w : Width} {z answer : ℤ} → SFits w z → z ≡ answer → toZ w (ofZ w z) ≡ answer
+read-back {w} {z} fits e = toZ-ofZ w z fits ∙ e
+
+-- Below the top bit a number is read as itself;
+pub read-low : (w : Width) (bits n : ℕ) → n < 2 ^ (bits - 1) → n < 2 ^ hbits w → toZ w n ≡ twosComplement bits n
+read-low w bits n low fits = toZ-pos w n fits ∙ sym (complement-low bits n low)
+
+lowered : (limit n : ℕ) → n < limit → limit < 2 ^ 63 → toZ w64 n -ℤ pos limit ≡ negsuc (limit - suc n)
+lowered zero n bounded small = absurd (omega arith)
+lowered (suc most) n bounded small = rw (toZ-pos w64 n (omega arith)) (simp (lt-ltb n (suc most) bounded))
+
+-- with the top bit set, 2^bits is taken away, on 64 bits.
+module _ (bits n : ℕ) (bounded : n < 2 ^ bits) (small : 2 ^ bits < 2 ^ 63) where
+  pub lowered-fits : SFits w64 (toZ w64 n -ℤ pos (2 ^ bits))
+  lowered-fits = rw (lowered (2 ^ bits) n bounded small) (record { sfits = omega arith })
+
+  pub read-high : 2 ^ (bits - 1) ≤ n → toZ w64 (ofZ w64 (toZ w64 n -ℤ pos (2 ^ bits))) ≡ twosComplement bits n
+  read-high high = read-back lowered-fits (lowered (2 ^ bits) n bounded small ∙ sym (complement-high bits n high))

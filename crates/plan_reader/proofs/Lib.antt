@@ -1,5 +1,4 @@
 pub mod Conjunction
-pub mod SignedPayload
 pub mod PassPlaces
 pub mod RefusalRows
 pub mod RecordParts

@@ -9,7 +9,7 @@ use lib.Signed.{ltZ}
 use mir.Syntax.{w64}
 use mir.Val.{SFits, toZ, ofZ}
 use mir.ValLaws.{toZ-pos, toZ-ofZ}
-use Rattle.number.proofs.SignedBits.{complement-low, complement-high}
+use Rattle.number.proofs.SignedBits.{complement-high, read-back}
 use Rattle.word.specs.Word.{signed}
 
 -- What the machine reads back of a number's bits.
@@ -54,26 +54,20 @@ not-negative (negsuc n) f e =
 
 -- ---- a word read as signed
 
-pub signed-low : (word : ℕ) → word < 2 ^ 63 → toZ w64 word ≡ signed word
-unfolding signed
-signed-low word low = toZ-pos w64 word low ∙ sym (complement-low 64 word low)
-
--- From 2^63 on, by the complement of the word.
+-- From 2^63 on: -1 less the word's complement.
 module _ (word : ℕ) (high : 2 ^ 63 ≤ word) (bounded : word < 2 ^ 64) where
-  lowered : negsuc 0 -ℤ toZ w64 (18446744073709551615 - word) ≡ negsuc (18446744073709551615 - word)
-  lowered =
+  complemented : negsuc 0 -ℤ toZ w64 (18446744073709551615 - word) ≡ negsuc (18446744073709551615 - word)
+  complemented =
       rw (toZ-pos w64 (18446744073709551615 - word) (omega arith)) (by (18446744073709551615 - word))
     where
       by : (n : ℕ) → negsuc 0 -ℤ pos n ≡ negsuc n
       by zero = refl
       by (suc n) = ap negsuc (omega arith)
 
-  pub lowered-fits : SFits w64 (negsuc 0 -ℤ toZ w64 (18446744073709551615 - word))
-  lowered-fits = rw lowered (record { sfits = omega arith })
+  pub complemented-fits : SFits w64 (negsuc 0 -ℤ toZ w64 (18446744073709551615 - word))
+  complemented-fits = rw complemented (record { sfits = omega arith })
 
   pub signed-high : readBack (negsuc 0 -ℤ toZ w64 (18446744073709551615 - word)) ≡ signed word
   unfolding signed
   signed-high =
-      toZ-ofZ w64 _ lowered-fits
-      ∙ lowered
-      ∙ sym (complement-high 64 word high ∙ ap negsuc (omega arith))
+      read-back complemented-fits (complemented ∙ sym (complement-high 64 word high ∙ ap negsuc (omega arith)))

@@ -1,7 +1,7 @@
 -- `smooth_job::decode_signed32` meets its contract: each sign is a law of Signed. Assumes nothing.
 use native.Mathlib.Omega.{arith}
 use borrow.Author.Needs.{needs}
-use Rattle.plan_reader.proofs.SignedPayload.{lowered-fits}
+use Rattle.number.proofs.SignedBits.{lowered-fits}
 use Rattle.smooth_job.proofs.Signed.{narrowed-fits, decoded-low, decoded-high}
 use Rattle.smooth_job.proofs.decode_signed32.Statement.{statement}
 use Rattle.smooth_job.proofs.decode_signed32.Tie as tie
@@ -13,7 +13,7 @@ cast-result-2 : tie.Need-cast-result-2
 cast-result-2 c = search needs
 
 sub-result : tie.Need-sub-result
-sub-result c = lowered-fits 4294967296 (c .before .args .word) (omega arith) (omega arith)
+sub-result c = lowered-fits 32 (c .before .args .word) (omega arith) (omega arith)
 
 cast-result-3 : tie.Need-cast-result-3
 cast-result-3 c = narrowed-fits _ (c .if1 .left) (omega arith)

@@ -1,7 +1,10 @@
 -- `word::signed` is the signed reading: a word from 2^63 on by its complement. Assumes nothing.
 use native.Mathlib.Omega.{arith}
 use borrow.Author.Needs.{needs}
-use Rattle.word.proofs.Signs.{signed-low, lowered-fits, signed-high}
+use mir.Syntax.{w64}
+use Rattle.number.proofs.SignedBits.{read-low}
+use Rattle.word.specs.Word.{signed}
+use Rattle.word.proofs.Signs.{complemented-fits, signed-high}
 use Rattle.word.proofs.signed.Statement.{statement}
 use Rattle.word.proofs.signed.Tie as tie
 
@@ -15,10 +18,11 @@ cast-result-2 : tie.Need-cast-result-2
 cast-result-2 c = search needs
 
 sub-result-2 : tie.Need-sub-result-2
-sub-result-2 c = lowered-fits _ (c .if1 .left) (omega arith)
+sub-result-2 c = complemented-fits _ (c .if1 .left) (omega arith)
 
 returns : tie.Need-returns
-returns c = signed-low _ (c .if1 .taken)
+unfolding signed
+returns c = read-low w64 64 (c .before .args .word) (c .if1 .taken) (c .if1 .taken)
 
 returns-2 : tie.Need-returns-2
 returns-2 c = signed-high _ (c .if1 .left) (omega arith)
