@@ -79,9 +79,10 @@ module _ {plan : Plan} {k : ℕ} (block : BlockOf plan k) (filters : ℕ → Fil
         (blockPass (shapeOf (plan .grid) k) t (filters t) work)
     unfolding blockPass shapeOf
     passed =
-        windowPass-passed t (workWindow h w) (filters t) (filters t .order) (H t) work
+        windowPass-passed t (workWindow h w) (filters t) (filters t .order) work
         (window-fits (axisOf t) (directionOf t) (filters t .order) _ (shape-fits block)
         (omega (arith, order-limited-at plan (block .kept) t below)) (holds .sized))
+        (H t)
         (record { near = λ l i a b c. near l i a (omega arith); far = λ l i a b c. absurd (omega arith) })
 
     pub holds-more : Holds plan k filters H Z (t + 1) (blockPass (shapeOf (plan .grid) k) t (filters t) work)

@@ -13,9 +13,9 @@ use Rattle.plan.specs.declared.Pass.{Pass}
 use Rattle.plan.specs.declared.Plan.{Plan}
 use Rattle.plan.specs.Rules.{passAt}
 use Rattle.buffer.specs.Lists.{wordAt, numberAt}
-use Rattle.passes.specs.Gains.{filterWithGain, gainsFrom, gainsFirst}
+use Rattle.passes.specs.Gains.{filterWithGain, gainsFrom}
 use Rattle.filter.specs.PlanFilters.{filterOf, filtersOf}
-use Rattle.filter.specs.FilterWords.{filterWith, filterWords, withGain, gainsFirstWords}
+use Rattle.filter.specs.FilterWords.{filterWith, filterWords, withGain, gainsFirstFilters, gainsFirstWords}
 use Rattle.filter.proofs.Buffers.{HoldsBelow}
 
 residues-at : (l : List ℤ) (k : ℕ) → wordAt (map residue l) k ≡ residue (numberAt l k)
@@ -57,7 +57,7 @@ gainsFirstWords-other plan zero e = absurd (e refl)
 gainsFirstWords-other plan (suc pass) e = refl
 
 pub gainsFirstWords-filter : (plan : Plan) (pass : ℕ)
-    → filterWith (gainsFirstWords plan pass) ≡ gainsFirst (filtersOf plan) 4 pass
+    → filterWith (gainsFirstWords plan pass) ≡ gainsFirstFilters plan pass
 unfolding gainsFirstWords
 gainsFirstWords-filter plan zero = withGain-filter _ _
 gainsFirstWords-filter plan (suc pass) = withGain-filter _ _

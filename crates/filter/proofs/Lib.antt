@@ -1,9 +1,9 @@
 pub mod Buffers
 pub mod Filters
 pub mod Turns
-pub mod Unchanged
 pub mod InPlace
 pub mod TwoPlaces
+pub mod WindowWords
 pub mod Windows
 pub mod Scaling
 pub mod Numbers

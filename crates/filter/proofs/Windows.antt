@@ -1,7 +1,6 @@
 -- Windows: where the lines of a window lie, that they fit the buffer and are apart, and that a pass over a window is
 -- the filter over its lines, for both axes and both directions. Assumes nothing.
 use mathlib.Core.Path.{_≡_, refl, sym, ap, _∙_}
-use mathlib.Core.Bool.{Bool, true, false}
 use mathlib.Core.List.{List}
 use mathlib.Core.Logic.{_≢_}
 use Prim.Native.Nat.{ℕ, suc, _+_, _-_, _*_, _<_, _≤_}
@@ -9,6 +8,7 @@ use native.Mathlib.Nat.{mul-le-mul-left, mul-le-mul-right, add-mul}
 use native.Mathlib.Decide.{decLt}
 use native.Mathlib.Omega.{arith}
 use lib.ListN.{length}
+use borrow.Author.Tests.{lt-ltb, le-ltb}
 use Rattle.buffer.specs.Lists.{wordAt}
 use Rattle.passes.specs.Line.{wordsBefore}
 use Rattle.passes.specs.Filter.{Filter, filterStep}
@@ -16,14 +16,15 @@ use Rattle.axis.specs.Axis.{Axis, columns, rows, Direction, forward, backward, 
 use Rattle.passes.specs.Passes.{reflect, filterLine, filterLines}
 use Rattle.passes.proofs.Line.{output-reads, wordsBefore-inside, wordsBefore-past}
 use Rattle.passes.proofs.Linear.{filterStep-reads}
-use Rattle.passes.proofs.Passes.{reflect-lt, reflect-twice}
+use Rattle.passes.proofs.Passes.{reflect-lt, reflect-twice, filterLines-reads}
 use Rattle.filter.specs.declared.Lines.{Lines}
 use Rattle.filter.specs.declared.Window.{Window}
-use Rattle.filter.specs.Kernel.{linePlace, LinesFit, Apart}
+use Rattle.filter.specs.Kernel.{linePlace, filterInPlace, LinesFit, Apart}
 use Rattle.number.specs.Numbers.{rowMajor}
-use Rattle.filter.specs.Windows.{windowLines, windowPass, windowPlace, windowOf, beyond, wordsBesideWindow, WindowFits}
+use Rattle.filter.specs.Windows.{windowLines, windowPlace, windowOf, beyond, wordsBesideWindow, historyBeside, passWord, windowPass, WindowFits}
 use Rattle.number.proofs.RowMajor.{place-below, same-row-column}
 use Rattle.filter.proofs.InPlace.{Filtered, filtered}
+use Rattle.filter.proofs.WindowWords.{InWindow, window-written, window-is}
 
 sub-mul : (y t w : ℕ) → t ≤ y → (y - t) * w + t * w ≡ y * w
 sub-mul y t w h = let e : y ≡ (y - t) + t = omega arith in sym (ap (_* w) e ∙ add-mul (y - t) t w)
@@ -161,23 +162,11 @@ lines-fit a backward W q fits =
 
 -- ---- a pass over a window
 
--- Buffer b has at each pixel of the window the word of the filter over the window's lines, H l standing for the words
--- beyond line l, and everywhere else the word of buffer a.
-pub record Passed (a : Axis) (d : Direction) (W : Window) (f : Filter) (H : ℕ → ℕ → ℕ) (before after : List ℕ) : Type 0
-  where
-    pub length-kept : length after ≡ length before
-    pub at : (y x : ℕ) → y < W .height → x < W .width
-        → windowOf W after y x ≡ filterLines a d f (along a (W .height) (W .width)) H (windowOf W before) y x
-    pub elsewhere : (z : ℕ)
-        → ((y x : ℕ) → y < W .height → x < W .width → z ≢ windowPlace W y x)
-        → wordAt after z ≡ wordAt before z
-
--- The histories are the words beside the window, q of each line, and 0 past these.
-pub record Histories (a : Axis) (d : Direction) (W : Window) (f : Filter) (q : ℕ) (H : ℕ → ℕ → ℕ) (buffer : List ℕ) : Type 0
-  where
-    pub near : (l k : ℕ) → l < across a (W .height) (W .width) → k < q → k < f .order
-        → wordsBesideWindow a d W buffer l k ≡ H l k
-    pub far : (l k : ℕ) → l < across a (W .height) (W .width) → q ≤ k → k < f .order → 0 ≡ H l k
+-- A buffer has at each pixel of the window the word of the filter over the window's lines, H l standing for the words
+-- beyond line l, and everywhere else the word that it had before.
+abbrev pub Passed : Axis → Direction → Window → Filter → (H : ℕ → ℕ → ℕ) → (before after : List ℕ) → Type 0
+Passed a d W f H before after =
+    InWindow W (filterLines a d f (along a (W .height) (W .width)) H (windowOf W before)) before after
 
 -- What holds of each line holds of each pixel.
 by-line : (a : Axis) (h w : ℕ) (X : ℕ → ℕ → ℕ) (line : ℕ → ℕ → ℕ)
@@ -203,10 +192,13 @@ line-pixel : (a : Axis) (W : Window) (l i : ℕ)
 line-pixel columns W l i = refl
 line-pixel rows W l i = refl
 
-module _ (a : Axis) (d : Direction) (W : Window) (f : Filter) (q : ℕ) (H : ℕ → ℕ → ℕ) (before : List ℕ)
-    (fits : WindowFits (length before) a d W q) (histories : Histories a d W f q H before) where
+module _ (a : Axis) (d : Direction) (W : Window) (f : Filter) (q : ℕ) (before : List ℕ)
+    (fits : WindowFits (length before) a d W q) where
   abbrev L : Lines
   L = windowLines a d W q
+
+  abbrev H : ℕ → ℕ → ℕ
+  H = historyBeside a d W q before
 
   abbrev m : ℕ
   m = along a (W .height) (W .width)
@@ -223,17 +215,16 @@ module _ (a : Axis) (d : Direction) (W : Window) (f : Filter) (q : ℕ) (H : ℕ
   word-is buffer l j h =
       ap (wordAt buffer) (place-is l j h) ∙ line-word a (wordAt buffer) (windowPlace W) l (reflect d m j)
 
-  history-is : (l k : ℕ) → l < across a (W .height) (W .width) → k < f .order
-      → wordsBefore (λ k. 0) (λ t. wordAt before (linePlace L l t)) q k ≡ H l k
-  history-is l k h e =
+  history-is : (l k : ℕ) → wordsBefore (λ k. 0) (λ t. wordAt before (linePlace L l t)) q k ≡ H l k
+  history-is l k =
       elim (decLt k q) [
         | yes b ↦
-            wordsBefore-inside (λ k. 0) _ q k b
+            rw (lt-ltb k q b)
+            (wordsBefore-inside (λ k. 0) _ q k b
             ∙ ap (wordAt before)
             (line-place a d W q fits l (q - suc k) (omega arith)
-            ∙ ap (lineOf a (rowMajor (W .stride)) (lineIn a W l)) (index-beside d _ m q k (fits .start) b))
-            ∙ histories .near l k h b e
-        | no b ↦ wordsBefore-past (λ k. 0) _ q k (omega arith) ∙ histories .far l k h (omega arith) e
+            ∙ ap (lineOf a (rowMajor (W .stride)) (lineIn a W l)) (index-beside d _ m q k (fits .start) b)))
+        | no b ↦ rw (le-ltb k q (omega arith)) (wordsBefore-past (λ k. 0) _ q k (omega arith))
       ]
 
   -- The words of a line as the kernel leaves them.
@@ -246,7 +237,7 @@ module _ (a : Axis) (d : Direction) (W : Window) (f : Filter) (q : ℕ) (H : ℕ
       ap (lineOf a (windowOf W after) l) (sym (reflect-twice d m i e))
       ∙ sym (word-is after l j b)
       ∙ u .at l j h b
-      ∙ output-reads (filterStep f) (f .order) (filterStep-reads f) _ (H l) _ _ (λ k c. history-is l k h c) j
+      ∙ output-reads (filterStep f) (f .order) (filterStep-reads f) _ (H l) _ _ (λ k c. history-is l k) j
       (λ k c. word-is before l k (omega arith))
 
   passed-at : (after : List ℕ) → Filtered L f q before m after → Passed a d W f H before after
@@ -262,46 +253,58 @@ module _ (a : Axis) (d : Direction) (W : Window) (f : Filter) (q : ℕ) (H : ℕ
             (p ∙ place-is l i c));
       }
 
--- A pass over a window is the filter over its lines.
-pub windowPass-passed : (pass : ℕ) (W : Window) (f : Filter) (q : ℕ) (H : ℕ → ℕ → ℕ) (before : List ℕ)
-    → WindowFits (length before) (axisOf pass) (directionOf pass) W q
-    → Histories (axisOf pass) (directionOf pass) W f q H before
-    → Passed (axisOf pass) (directionOf pass) W f H before (windowPass pass W q f before)
-unfolding windowPass
-windowPass-passed pass W f q H before fits histories =
-    let a : Axis = axisOf pass in
-    let d : Direction = directionOf pass in
-    passed-at a d W f q H before fits histories _
-    (filtered (windowLines a d W q) f q (q + along a (W .height) (W .width)) before (lines-fit a d W q fits)
-    (lines-apart a d W q fits) (along a (W .height) (W .width)) (omega arith))
+-- ---- with other histories
 
--- ---- windows with no history
+-- The histories are the words beside the window, q of each line, and 0 past these.
+pub record Histories (a : Axis) (d : Direction) (W : Window) (f : Filter) (q : ℕ) (H : ℕ → ℕ → ℕ) (buffer : List ℕ) : Type 0
+  where
+    pub near : (l k : ℕ) → l < across a (W .height) (W .width) → k < q → k < f .order
+        → wordsBesideWindow a d W buffer l k ≡ H l k
+    pub far : (l k : ℕ) → l < across a (W .height) (W .width) → q ≤ k → k < f .order → 0 ≡ H l k
 
-nothing-forward : (b : Bool) → ifForward b 0 ≡ 0
-nothing-forward false = refl
-nothing-forward true = refl
+-- A history that the words beside the window are.
+history-beside : (a : Axis) (d : Direction) (W : Window) (f : Filter) (q : ℕ) (H : ℕ → ℕ → ℕ) (buffer : List ℕ)
+    → Histories a d W f q H buffer → (l k : ℕ) → l < across a (W .height) (W .width) → k < f .order
+    → historyBeside a d W q buffer l k ≡ H l k
+history-beside a d W f q H buffer histories l k h e =
+    elim (decLt k q) [
+      | yes b ↦ rw (lt-ltb k q b) (histories .near l k h b e)
+      | no b ↦ rw (le-ltb k q (omega arith)) (histories .far l k h (omega arith) e)
+    ]
 
-nothing-backward : (b : Bool) → ifBackward b 0 ≡ 0
-nothing-backward false = refl
-nothing-backward true = refl
+module _ (pass : ℕ) (W : Window) (f : Filter) (q : ℕ) (before : List ℕ)
+    (fits : WindowFits (length before) (axisOf pass) (directionOf pass) W q) where
+  abbrev a : Axis
+  a = axisOf pass
 
-along-same : (a : Axis) (x : ℕ) → along a x x ≡ x
-along-same columns x = refl
-along-same rows x = refl
+  abbrev d : Direction
+  d = directionOf pass
 
-pub fits-alone : {n : ℕ} (a : Axis) (d : Direction) (W : Window) → 0 < W .height → 0 < W .width
-    → W .left + W .width ≤ W .stride → (W .top + W .height) * W .stride ≤ n → WindowFits n a d W 0
-fits-alone a d W tall wide in-row in-buffer =
-    let e : ifForward (isBackward d) 0 ≡ 0 = nothing-forward (isBackward d) in
-    let none : along a (ifBackward (isBackward d) 0) 0 ≡ 0 = rw nothing-backward (along-same a 0) in
-    let none-across : along a 0 (ifBackward (isBackward d) 0) ≡ 0 = rw nothing-backward (along-same a 0) in
-    record {
-      tall = tall;
-      wide = wide;
-      start = omega arith;
-      in-row = omega arith;
-      in-buffer = rw none (omega arith);
-    }
+  -- What the kernel leaves is the buffer after the pass.
+  pub kernel-pass : filterInPlace (windowLines a d W q) f q (along a (W .height) (W .width)) before
+      ≡ windowPass pass W q f before
+  unfolding windowPass
+  kernel-pass =
+      window-is before fits _
+      (passed-at a d W f q before fits _
+      (filtered (windowLines a d W q) f q (q + along a (W .height) (W .width)) before (lines-fit a d W q fits)
+      (lines-apart a d W q fits) (along a (W .height) (W .width)) (omega arith)))
+
+  -- A pass with the outputs before each line as given.
+  pub windowPass-passed : (H : ℕ → ℕ → ℕ) → Histories a d W f q H before
+      → Passed a d W f H before (windowPass pass W q f before)
+  unfolding windowPass
+  windowPass-passed H histories =
+      let u = window-written before fits (passWord pass W q f before) in
+      record {
+        length-kept = u .length-kept;
+        at =
+            λ y x h k.
+            u .at y x h k
+            ∙ filterLines-reads a d f (W .height) (W .width) _ H _ (windowOf W before)
+            (history-beside a d W f q H before histories) (λ y x h k. refl) y x h k;
+        elsewhere = u .elsewhere;
+      }
 
 pub no-history : (a : Axis) (d : Direction) (W : Window) (f : Filter) (buffer : List ℕ)
     → Histories a d W f 0 (λ l k. 0) buffer

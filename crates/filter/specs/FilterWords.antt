@@ -32,6 +32,10 @@ withGain gain words = record { gain = gain; order = words .order; coefficients =
 unfoldable pub gainsAfter : Plan → (pass last : ℕ) → ℕ
 gainsAfter plan pass last = gainsFrom (filtersOf plan) (suc pass) (last - pass)
 
--- The words of a plan's filters with the gains of all four passes in the first, and gain 1 in the others.
+-- A plan's filters with the gains of all four passes in the first, and gain 1 in the others,
+abbrev pub gainsFirstFilters : Plan → ℕ → Filter
+gainsFirstFilters plan = gainsFirst (filtersOf plan) 4
+
+-- and their words.
 unfoldable pub gainsFirstWords : Plan → ℕ → FilterWords
-gainsFirstWords plan pass = withGain (gainsFirst (filtersOf plan) 4 pass .gain) (filterWords (passAt plan pass))
+gainsFirstWords plan pass = withGain (gainsFirstFilters plan pass .gain) (filterWords (passAt plan pass))

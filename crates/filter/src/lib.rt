@@ -367,8 +367,9 @@ fn scale_window(buffer: &mut [u64], window: Window, gain: u64)
     }
 }
 
-// Pass 0, 1, 2 or 3 (down, up, right, left) over a window, each line after `history` words of the buffer that stand
-// before it. The gain comes first, to all words at once, which leaves a filter of gain 1.
+// Pass 0, 1, 2 or 3 (down, up, right, left) over a window, each line after the `history` words beside it in the buffer,
+// on the side where the pass comes from, and 0 past these. The gain comes first, to all words at once, which leaves a
+// filter of gain 1.
 pub fn run_pass(
     buffer: &mut [u64],
     window: Window,

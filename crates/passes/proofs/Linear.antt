@@ -5,7 +5,7 @@ use mathlib.Core.Bool.{Bool, true, false}
 use Prim.Native.Nat.{ℕ, zero, suc, _%_, _<_, _^_}
 use native.Mathlib.Omega.{arith}
 use Rattle.word.specs.Word.{modulus, _⊕_, _⊖_, _⊗_}
-use Rattle.word.proofs.Ring.{add-sub, sub-sub, mul-add, mul-sub, mul-left-comm, zero-mul, one-mul, reduce-sub, reduce-mul, sub-small, mul-small}
+use Rattle.word.proofs.Ring.{add-sub, sub-sub, mul-add, mul-sub, mul-left-comm, zero-mul, reduce-sub, reduce-mul, sub-small, mul-small}
 use Rattle.passes.specs.Filter.{Filter, lessFeedback, filterStep}
 use Rattle.passes.proofs.Line.{Reads, Commutes}
 
@@ -30,11 +30,10 @@ pub filterStep-small : (f : Filter) (v : ℕ) (h : ℕ → ℕ) → filterStep f
 unfolding filterStep
 filterStep-small f v h = lessFeedback-small _ _ _ h (mul-small _ _)
 
--- Order 0 and gain 1 leave a word as it is.
-pub filterStep-unchanged : (f : Filter) (v : ℕ) (h : ℕ → ℕ) → f .order ≡ 0 → f .gain ≡ 1
-    → filterStep f v h ≡ v % modulus
+-- A step of order 0 is the gain alone.
+pub filterStep-scales : (f : Filter) (v : ℕ) (h : ℕ → ℕ) → f .order ≡ 0 → filterStep f v h ≡ f .gain ⊗ v
 unfolding filterStep lessFeedback
-filterStep-unchanged f v h e g = ap₂ (λ r c. lessFeedback (f .coefficient) r (c ⊗ v) h) e g ∙ one-mul v
+filterStep-scales f v h none = ap (λ r. lessFeedback (f .coefficient) r (f .gain ⊗ v) h) none
 
 -- ---- linear ways of combining
 

@@ -4,13 +4,14 @@
 use mathlib.Core.Path.{_≡_, refl, ap, _∙_}
 use Prim.Native.Nat.{ℕ, zero, suc, _%_, _<_, _^_}
 use native.Mathlib.Omega.{arith}
-use Rattle.word.specs.Word.{modulus}
+use Rattle.word.specs.Word.{modulus, _⊗_}
+use Rattle.word.proofs.Ring.{one-mul}
 use Rattle.passes.specs.Line.{output}
 use Rattle.passes.specs.Filter.{Filter, filterStep}
 use Rattle.axis.specs.Axis.{Axis, columns, rows, Direction, forward, backward, axisOf, directionOf, along, across}
 use Rattle.passes.specs.Passes.{reflect, filterLine, filterLines, passesOver, serialPasses}
 use Rattle.passes.proofs.Line.{output-reads, output-commutes}
-use Rattle.passes.proofs.Linear.{Linear, filterStep-reads, filterStep-small, filterStep-linear, filterStep-unchanged}
+use Rattle.passes.proofs.Linear.{Linear, filterStep-reads, filterStep-small, filterStep-linear, filterStep-scales}
 
 pub reflect-lt : (d : Direction) (n i : ℕ) → i < n → reflect d n i < n
 reflect-lt forward n i h = h
@@ -50,12 +51,17 @@ pub filterLine-small : (d : Direction) (f : Filter) (n : ℕ) (p x : ℕ → ℕ
 unfolding filterLine output
 filterLine-small d f n p x i = filterStep-small f _ _
 
--- A pass of order 0 and gain 1 leaves a line as it is.
+-- A pass of order 0 is its gain alone,
+filterLine-scales : (d : Direction) (f : Filter) (n : ℕ) (p x : ℕ → ℕ) (i : ℕ) → f .order ≡ 0 → i < n
+    → filterLine d f n p x i ≡ f .gain ⊗ x i
+unfolding filterLine output
+filterLine-scales d f n p x i none h =
+    filterStep-scales f _ _ none ∙ ap (λ k. f .gain ⊗ x k) (reflect-twice d n i h)
+
+-- and with gain 1 it leaves a line as it is.
 pub filterLine-unchanged : (d : Direction) (f : Filter) (n : ℕ) (p x : ℕ → ℕ) (i : ℕ) → f .order ≡ 0 → f .gain ≡ 1
     → i < n → filterLine d f n p x i ≡ x i % modulus
-unfolding filterLine output
-filterLine-unchanged d f n p x i e g h =
-    filterStep-unchanged f _ _ e g ∙ ap (λ k. x k % modulus) (reflect-twice d n i h)
+filterLine-unchanged d f n p x i e g h = filterLine-scales d f n p x i e h ∙ ap (_⊗ x i) g ∙ one-mul (x i)
 
 -- ---- all lines
 
@@ -77,6 +83,13 @@ filterLines-reads columns d f h w G H X Y e g y x p q =
     filterLine-reads d f h (G x) (H x) _ _ (λ k. e x k q) (λ j b. g j x b q) y p
 filterLines-reads rows d f h w G H X Y e g y x p q =
     filterLine-reads d f w (G y) (H y) _ _ (λ k. e y k p) (λ j b. g y j p b) x q
+
+-- A pass of order 0 is its gain alone.
+pub filterLines-scales : (a : Axis) (d : Direction) (f : Filter) (h w : ℕ) (H X : ℕ → ℕ → ℕ) (y x : ℕ) → f .order ≡ 0
+    → y < h → x < w → filterLines a d f (along a h w) H X y x ≡ f .gain ⊗ X y x
+unfolding filterLines
+filterLines-scales columns d f h w H X y x none p q = filterLine-scales d f h (H x) (λ i. X i x) y none p
+filterLines-scales rows d f h w H X y x none p q = filterLine-scales d f w (H y) (X y) x none q
 
 pub filterLines-small : (a : Axis) (d : Direction) (f : Filter) (n : ℕ) (H X : ℕ → ℕ → ℕ) (y x : ℕ)
     → filterLines a d f n H X y x < 2 ^ 64

@@ -26,14 +26,15 @@ use Rattle.number.proofs.RowMajor.{place-below, same-row-column}
 use Rattle.filter.proofs.Windows.{Passed, Histories, windowPass-passed, no-history}
 use Rattle.buffer.specs.Written.{rowWritten}
 use Rattle.buffer.proofs.Written.{written-length, written-other, written-at}
-use Rattle.serial.specs.Stages.{rowsRead, mapRows, historyRows, serialFilters, rowsPassed}
+use Rattle.filter.specs.FilterWords.{gainsFirstFilters}
+use Rattle.serial.specs.Stages.{rowsRead, mapRows, historyRows, rowsPassed}
 use Rattle.serial.proofs.Stages.{rows-in-map, rows-fit}
 
 module _ (plan : Plan) (heights : List ℤ) where
   -- The words after the first t passes, all gains in the first.
   abbrev pub after : ℕ → ℕ → ℕ → ℕ
   after t =
-      serialPasses (serialFilters plan) (plan .grid .rows) (plan .grid .columns) (heightMap (plan .grid .columns) heights) t
+      serialPasses (gainsFirstFilters plan) (plan .grid .rows) (plan .grid .columns) (heightMap (plan .grid .columns) heights) t
 
   -- Row y of a buffer holds the words after the first t passes.
   abbrev pub RowIs : List ℕ → ℕ → ℕ → Type 0
@@ -150,14 +151,14 @@ module _ (plan : Plan) (heights : List ℤ) where
     histories rows d f b t done = no-history rows d (mapRows plan top height) f b
 
     passed : (pass : ℕ) (b : List ℕ) → neededPixels plan ≤ length b
-        → HistoryIs (axisOf pass) (directionOf pass) (serialFilters plan pass) b (suc pass)
-        → Passed (axisOf pass) (directionOf pass) (mapRows plan top height) (serialFilters plan pass)
+        → HistoryIs (axisOf pass) (directionOf pass) (gainsFirstFilters plan pass) b (suc pass)
+        → Passed (axisOf pass) (directionOf pass) (mapRows plan top height) (gainsFirstFilters plan pass)
         (beyondRows (axisOf pass) (directionOf pass) (after (suc pass))) b (rowsPassed plan top height pass b)
     unfolding rowsPassed
     passed pass b long done =
-        windowPass-passed pass (mapRows plan top height) (serialFilters plan pass) _ _ b
-        (rows-fit plan kept (length b) top height tall inside long _ _)
-        (histories (axisOf pass) (directionOf pass) (serialFilters plan pass) b (suc pass) done)
+        windowPass-passed pass (mapRows plan top height) (gainsFirstFilters plan pass) _ b
+        (rows-fit plan kept (length b) top height tall inside long _ _) _
+        (histories (axisOf pass) (directionOf pass) (gainsFirstFilters plan pass) b (suc pass) done)
 
     -- A filter over the lines of these rows, after the rows before them, is the filter over the lines of the map.
     rows-part : (a : Axis) (d : Direction) (f : Filter) (X Y : ℕ → ℕ → ℕ)
@@ -174,20 +175,20 @@ module _ (plan : Plan) (heights : List ℤ) where
         filterLine-reads d f (plan .grid .columns) (λ i. 0) (λ i. 0) (Y j) (X (top + j)) (λ i c. refl) (λ i c. e j i h c) x k
 
     row-done : (pass : ℕ) (b : List ℕ) → neededPixels plan ≤ length b
-        → HistoryIs (axisOf pass) (directionOf pass) (serialFilters plan pass) b (suc pass)
+        → HistoryIs (axisOf pass) (directionOf pass) (gainsFirstFilters plan pass) b (suc pass)
         → ((y : ℕ) → top ≤ y → y < top + height → RowIs b pass y) → (j : ℕ) → j < height
         → RowIs (rowsPassed plan top height pass b) (suc pass) (top + j)
     unfolding serialPasses passesOver
     row-done pass b long done ready j h x k =
         sym (window-word (rowsPassed plan top height pass b) top height j x)
         ∙ passed pass b long done .at j x h k
-        ∙ rows-part (axisOf pass) (directionOf pass) (serialFilters plan pass) (after pass)
+        ∙ rows-part (axisOf pass) (directionOf pass) (gainsFirstFilters plan pass) (after pass)
         (windowOf (mapRows plan top height) b)
         (λ j x h k. window-word b top height j x ∙ ready (top + j) (omega arith) (omega arith) x k) j x h k
 
     -- A pass over rows that the passes before it have left.
     pub pass-step : (pass : ℕ) (b : List ℕ) → neededPixels plan ≤ length b
-        → HistoryIs (axisOf pass) (directionOf pass) (serialFilters plan pass) b (suc pass)
+        → HistoryIs (axisOf pass) (directionOf pass) (gainsFirstFilters plan pass) b (suc pass)
         → ((y : ℕ) → top ≤ y → y < top + height → RowIs b pass y)
         → Step top height (suc pass) b (rowsPassed plan top height pass b)
     pass-step pass b long done ready =

@@ -22,7 +22,8 @@ use Rattle.passes.proofs.Gains.{gains-first}
 use Rattle.filter.specs.PlanFilters.{filterOf, filtersOf}
 use Rattle.number.proofs.RowMajor.{row-below, column-below}
 use Rattle.serial.specs.Serial.{serialWords}
-use Rattle.serial.specs.Stages.{rowsRead, serialFilters, bandRows, bandCount, bandTop, bandHeight, bandPassed, bandsReadDown, bandFinished, lastBand, bandsPassedUp, bandsFinished}
+use Rattle.filter.specs.FilterWords.{gainsFirstFilters}
+use Rattle.serial.specs.Stages.{rowsRead, bandRows, bandCount, bandTop, bandHeight, bandPassed, bandsReadDown, bandFinished, lastBand, bandsPassedUp, bandsFinished}
 use Rattle.serial.proofs.FirstWords.{first-words}
 use Rattle.serial.proofs.Stages.{some-bands}
 use Rattle.serial.proofs.MapRows.{after, RowIs, SameRest, Step, read-step, pass-step}
@@ -37,7 +38,7 @@ gains-moved plan heights y x =
     (gains-first (filtersOf plan) (plan .grid .rows) (plan .grid .columns) (λ u l k. 0)
     (heightMap (plan .grid .columns) heights) 3 y x
     ∙ ap
-    (λ H. passesOver (serialFilters plan) (plan .grid .rows) (plan .grid .columns) H
+    (λ H. passesOver (gainsFirstFilters plan) (plan .grid .rows) (plan .grid .columns) H
     (heightMap (plan .grid .columns) heights) 4 y x)
     (fun-ext λ u. fun-ext λ l. fun-ext λ k. mul-zero _))
 

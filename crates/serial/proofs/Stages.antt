@@ -17,7 +17,7 @@ use Rattle.filter.specs.declared.FilterWords.{FilterWords}
 use Rattle.filter.specs.FilterWords.{filterWith, gainsFirstWords}
 use Rattle.filter.specs.Windows.{windowPass, WindowFits}
 use Rattle.filter.proofs.Filters.{gainsFirstWords-filter}
-use Rattle.filter.proofs.Windows.{fits-alone}
+use Rattle.filter.proofs.WindowWords.{fits-alone}
 use Rattle.serial.specs.declared.Band.{Band}
 use Rattle.serial.specs.Stages.{rowsRead, RowsFit, mapRows, historyRows, rowsPassed, bandRows, bandCount, bandOf, bandPassed, bandsReadDown, bandFinished, lastBand, bandsPassedUp, bandsFinished}
 

@@ -8,13 +8,11 @@ use Rattle.grid.specs.Grid.{blockCount, blockExtent}
 use Rattle.plan.specs.declared.Plan.{Plan}
 use Rattle.plan.specs.Rules.{orderLimit, keepsRules}
 use Rattle.plan.specs.Sizes.{neededPixels}
-use Rattle.passes.specs.Filter.{Filter}
-use Rattle.passes.specs.Gains.{gainsFirst}
 use Rattle.axis.specs.Axis.{Axis, columns, rows, Direction, forward, backward, axisOf, directionOf}
 use Rattle.filter.specs.declared.Window.{Window}
 use Rattle.buffer.specs.Copies.{heightsFrom}
 use Rattle.buffer.specs.Written.{rowWritten}
-use Rattle.filter.specs.PlanFilters.{filtersOf}
+use Rattle.filter.specs.FilterWords.{gainsFirstFilters}
 use Rattle.filter.specs.Windows.{windowPass}
 use Rattle.serial.specs.declared.Band.{Band}
 
@@ -49,15 +47,11 @@ historyRows columns forward mapHeight top height = top
 historyRows columns backward mapHeight top height = mapHeight - (top + height)
 historyRows rows d mapHeight top height = 0
 
--- The filters of the passes: those of the plan, with all gains in the first.
-abbrev pub serialFilters : Plan → ℕ → Filter
-serialFilters plan = gainsFirst (filtersOf plan) 4
-
 -- The output after a pass over these rows, with all rows before them for history.
 unfoldable pub rowsPassed : Plan → (top height pass : ℕ) → List ℕ → List ℕ
 rowsPassed plan top height pass output =
     windowPass pass (mapRows plan top height) (historyRows (axisOf pass) (directionOf pass) (plan .grid .rows) top height)
-    (serialFilters plan pass) output
+    (gainsFirstFilters plan pass) output
 
 -- The side of a band, which is a block of the map's rows: `BAND` of src/lib.rt is the same number.
 abbrev pub bandRows : ℕ

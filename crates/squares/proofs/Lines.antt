@@ -67,10 +67,10 @@ pub lines-fit : (n count places pass : ℕ) → 0 < count → count ≤ lineRows
 lines-fit n count places pass a b c d e = rw (row-axis pass) (lines-fit-along n count places _ a b c d e)
 
 -- A pass by another name of its axis and its direction.
-pub passed-along : {a b : Axis} {d e : Direction} {W : Window} {f : Filter} {before after : List ℕ} → a ≡ b → d ≡ e
+pub passed-along : {a b : Axis} {d e : Direction} {W : Window} (f : Filter) {before after : List ℕ} → a ≡ b → d ≡ e
     → Passed a d W f (wordsBesideWindow a d W before) before after
     → Passed b e W f (wordsBesideWindow b e W before) before after
-passed-along p q passed = rw (← p, ← q) passed
+passed-along f p q passed = rw (← p, ← q) passed
 
 -- ---- one pass more
 
@@ -180,9 +180,9 @@ module _ (filters : ℕ → Filter) (places t m : ℕ) (before : List ℕ) where
       now : Passed rows (directionOf (t + m)) W (filters (t + m))
           (wordsBesideWindow rows (directionOf (t + m)) W b) b passed
       now =
-          passed-along (row-axis (t + m)) (row-direction (t + m))
-          (windowPass-passed (rowPass (t + m)) W (filters (t + m)) orderLimit _ b
-          (lines-fit (length b) count places (t + m) some-count few-count some few long)
+          passed-along (filters (t + m)) (row-axis (t + m)) (row-direction (t + m))
+          (windowPass-passed (rowPass (t + m)) W (filters (t + m)) orderLimit b
+          (lines-fit (length b) count places (t + m) some-count few-count some few long) _
           (record {
             near = λ l k a b c. refl;
             far = λ l k a b c. absurd (omega (arith, fit .order-limited (t + m) h));

@@ -117,9 +117,9 @@ cross-passed filters course lines before cross pass b {loaded} {after} {row} r l
     passed : Passed columns (directionOf pass) W (filters pass) (wordsBesideWindow columns (directionOf pass) W loaded) loaded
         (windowPass pass W orderLimit (filters pass) loaded)
     passed =
-        passed-along (axis-columns pass b) refl
-        (windowPass-passed pass W (filters pass) orderLimit _ loaded
-        (response-fits (length loaded) pass course fits (kept ∙ cross .responses-long) b)
+        passed-along (filters pass) (axis-columns pass b) refl
+        (windowPass-passed pass W (filters pass) orderLimit loaded
+        (response-fits (length loaded) pass course fits (kept ∙ cross .responses-long) b) _
         (record {
           near = λ l k a b c. refl;
           far = λ l k a c d. absurd (omega (arith, few));
