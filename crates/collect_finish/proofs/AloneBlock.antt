@@ -18,11 +18,12 @@ use Rattle.filter.proofs.Filters.{filterWords-filter}
 use Rattle.grid.specs.Grid.{rowsOf, columnsOf}
 use Rattle.grid.specs.declared.BlockShape.{BlockShape}
 use Rattle.grid.specs.Shapes.{shapeOf}
-use Rattle.collect_finish.specs.Work.{workStride, workWindow, ClearOutside, blockPass}
+use Rattle.collect_finish.specs.Work.{workStride, workWindow, blockPass}
 use Rattle.collect_finish.specs.WorkFits.{BlockOf, ShapedBlock}
 use Rattle.collect_finish.proofs.WorkPlaces.{shape-fits, lines-small, extent-small, outside-block}
+use Rattle.collect_finish.proofs.WorkCells.{ClearOutside}
 use Rattle.collect_finish.proofs.Margins.{beside-place}
-use Rattle.collect_finish.proofs.BlockPasses.{Holds, holds-more, pass-elsewhere}
+use Rattle.collect_finish.proofs.BlockPasses.{Holds, holds-more, pass-in-place}
 
 -- The filters of collect: gain 1.
 abbrev pub collectFilters : Plan → ℕ → Filter
@@ -76,7 +77,7 @@ module _ {plan : Plan} {k : ℕ} (block : BlockOf plan k) (Z : ℕ → ℕ → �
               sized = more .sized;
               around =
                   λ z out.
-                  pass-elsewhere block (collectFilters plan) (λ u l i. 0) Z t below ordered work (alone .block) near z out
+                  pass-in-place block (collectFilters plan) (λ u l i. 0) Z t below ordered work (alone .block) .elsewhere z out
                   ∙ alone .clear .around z out;
             };
       }

@@ -21,7 +21,7 @@ use Rattle.task_words.proofs.Strips.{strip-same-words, slot-none, slot-next, sl
 use Rattle.collect_finish.specs.Work.{blockPass, workEdge}
 use Rattle.collect_finish.specs.WorkFits.{ShapedBlock, PassFits, StripMoves}
 use Rattle.collect_finish.proofs.WorkPlaces.{shape-in-work}
-use Rattle.collect_finish.proofs.BlockPasses.{PixelsRead, holds-start, clear-start}
+use Rattle.collect_finish.proofs.BlockPasses.{PixelsLoaded, holds-start, clear-start}
 use Rattle.collect_finish.proofs.AloneBlock.{collectFilters, Alone, alone-turn}
 use Rattle.collect_finish.proofs.AloneEdges.{alone-edge}
 
@@ -34,16 +34,16 @@ pub record Collecting (plan : Plan) (k : ℕ) (X : ℕ → ℕ → ℕ) (first s
 
 module _ {plan : Plan} {k : ℕ} {shape : BlockShape} (placed : ShapedBlock plan k shape) where
   pub collect-start : (heights : List ℤ) {strips work : List ℕ}
-      → PixelsRead plan shape heights work
+      → PixelsLoaded plan shape heights work
       → Collecting plan k (mapOf plan heights) strips strips 0 work
-  collect-start heights reads =
+  collect-start heights loads =
       record {
         counted = omega arith;
         length-kept = refl;
         alone =
             record {
-              block = holds-start placed heights reads (collectFilters plan) (λ u l i. 0);
-              clear = clear-start placed heights reads;
+              block = holds-start placed heights loads (collectFilters plan) (λ u l i. 0);
+              clear = clear-start placed heights loads;
             };
         written = sym (slot-none plan k _ _);
       }

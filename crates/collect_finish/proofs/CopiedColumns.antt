@@ -1,4 +1,5 @@
--- Rectangles that are written column after column: the start, one column more, and the end. Assumes nothing.
+-- Rectangles that are written column after column or group after group: the start, one column or group more, and
+-- the end. Assumes nothing.
 use mathlib.Core.Path.{_≡_, refl, sym, ap, _∙_}
 use mathlib.Core.List.{List}
 use mathlib.Core.Logic.{_≢_}
@@ -10,7 +11,7 @@ use lib.ListN.{length, set}
 use Rattle.word.specs.Word.{_⊗_}
 use Rattle.buffer.specs.Lists.{wordAt}
 use Rattle.buffer.specs.Copies.{scaledFrom, stridePlace, strideScaled, strideWritten, StrideFits, WordsFit}
-use Rattle.buffer.specs.Written.{written}
+use Rattle.buffer.specs.Written.{written, rectangleWritten}
 use Rattle.buffer.proofs.Written.{written-none, written-next, written-same, written-swap}
 use Rattle.buffer.proofs.Copies.{rectangle-none, rectangle-more, rectangle-length, rectangle-unchanged}
 
@@ -55,12 +56,45 @@ module _ (start stride : ℕ) (words : ℕ → ℕ → ℕ) (c : ℕ) (narrow : 
       ∙ rectangle-none row words (c + 1) before
   one-column-more (suc h) = rw (← add-one h) (one-row-more h (one-column-more h))
 
--- ---- the code's loop
+-- ---- the columns from column c on, into a list that has the columns before it
+
+module _ (start stride : ℕ) (words : ℕ → ℕ → ℕ) (c h : ℕ) (before : List ℕ) where
+  -- So many columns of h rows.
+  abbrev first-columns : ℕ → List ℕ
+  first-columns w = strideWritten start stride w words h before
+
+  -- The words from column c on.
+  abbrev group : ℕ → ℕ → ℕ
+  group y x = words y (c + x)
+
+  -- So many columns from column c on, into a list.
+  abbrev with-group : ℕ → List ℕ → List ℕ
+  with-group m list = strideWritten (start + c) stride m group h list
+
+  group-joins : (m : ℕ) → c + m ≤ stride → with-group m (first-columns c) ≡ first-columns (c + m)
+  group-joins zero narrow =
+      let none : c + 0 ≡ c = omega arith in
+      rw none
+      (rectangle-unchanged (stridePlace (start + c) stride) group 0 h _ (λ y x b d. absurd (omega arith)))
+  group-joins (suc m) narrow =
+      let whole : c + suc m ≡ c + m + 1 = omega arith in
+      rw (whole, ← add-one m)
+      (sym (one-column-more (start + c) stride group m (omega arith) (first-columns c) h)
+      ∙ written-same _ _ _ _ h _ (λ y b. omega arith) (λ y b. refl)
+      ∙ ap (with-column start stride words (c + m) (omega arith) before h) (group-joins m (omega arith))
+      ∙ one-column-more start stride words (c + m) (omega arith) before h)
+
+-- ---- the code's loops
 
 -- A column of a rectangle that fits.
 pub column-fits : {n start stride h w column : ℕ} → StrideFits n start stride h w → column < w
     → WordsFit n (start + column) stride h
 column-fits fits below = record { inside = λ y c. omega (arith, fits .row y c) }
+
+-- A group of it.
+pub group-fits : (column : ℕ) {n start stride h w width : ℕ} → StrideFits n start stride h w → column + width ≤ w
+    → StrideFits n (start + column) stride h width
+group-fits column fits below = record { row = λ y c. omega (arith, fits .row y c) }
 
 -- The first `column` of w columns are written.
 pub record ColumnsWritten (start stride w : ℕ) (words : ℕ → ℕ → ℕ) (h column : ℕ) (before after : List ℕ) : Type 0 where
@@ -75,6 +109,24 @@ module _ {to to-stride w : ℕ} {words : ℕ → ℕ → ℕ} {h : ℕ} {before 
         counted = omega arith;
         length-kept = refl;
         written = sym (rectangle-unchanged (stridePlace to to-stride) words 0 h before (λ y x b d. absurd (omega arith)));
+      }
+
+  -- A group of so many columns more.
+  pub next-group : (width : ℕ) {column : ℕ} {after next : List ℕ} {read : ℕ → ℕ → ℕ}
+      → ColumnsWritten to to-stride w words h column before after → column + width ≤ w → w ≤ to-stride
+      → ((y x : ℕ) → read y x ≡ words y (column + x)) → next ≡ strideWritten (to + column) to-stride width read h after
+      → ColumnsWritten to to-stride w words h (column + width) before next
+  unfolding rectangleWritten
+  next-group width {column} {after} inv below narrow same e =
+      let all =
+      e
+      ∙ written-same _ _ _ _ (h * width) after (λ q b. refl) (λ q b. same _ _)
+      ∙ ap (with-group to to-stride words column h before width) (inv .written)
+      ∙ group-joins to to-stride words column h before width (omega arith) in
+      record {
+        counted = below;
+        length-kept = ap length all ∙ rectangle-length (stridePlace to to-stride) words (column + width) h before;
+        written = all;
       }
 
   pub columns-all : {column : ℕ} {after : List ℕ} → ColumnsWritten to to-stride w words h column before after → w ≤ column

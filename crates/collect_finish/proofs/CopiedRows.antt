@@ -1,4 +1,5 @@
--- Rectangles that are written row after row: the start, one row more, and the end; and rows times a gain. Assumes nothing.
+-- Rectangles that are written row after row: the start, one row more, and the end; and rows times a gain. Assumes
+-- nothing.
 use mathlib.Core.Path.{_≡_, refl, ap, _∙_}
 use mathlib.Core.List.{List}
 use Prim.Native.Nat.{ℕ, _+_, _*_, _^_, _≤_, _<_}

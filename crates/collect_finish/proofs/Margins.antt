@@ -1,5 +1,5 @@
--- The margins of the work array: they lie apart from each other and from the block, and the rectangle of a strip that is
--- copied into one makes it what stands past the block's edge. Assumes nothing.
+-- The margins of the work array: they lie apart from each other and from the block, and the rectangle of a strip that
+-- is copied into one makes it what stands past the block's edge. Assumes nothing.
 use mathlib.Core.Path.{_≡_, refl, sym, ap, ap₂, _∙_}
 use mathlib.Core.Bool.{Bool, true, false, cond, false≢true}
 use mathlib.Core.List.{List}
@@ -25,9 +25,10 @@ use Rattle.grid.specs.declared.BlockShape.{BlockShape}
 use Rattle.strips.specs.declared.Strip.{Strip}
 use Rattle.strips.specs.StripRecord.{placeHeld, wordHeld, addressIn, stripRead}
 use Rattle.buffer.specs.Copies.{stridePlace, strideScaled, strideWritten}
-use Rattle.collect_finish.specs.Work.{workStride, workWords, workWindow, pixelIn, workPlace, ShapeFits, ClearOutside, marginStart, marginFirst, marginPlace, MarginClear, MarginLoaded}
+use Rattle.collect_finish.specs.Work.{workStride, workWords, workWindow, pixelIn, workPlace, ShapeFits, marginStart, marginFirst, marginPlace, MarginClear, MarginLoaded}
 use Rattle.buffer.proofs.Copies.{rectangle-length, rectangle-at, rectangle-other}
 use Rattle.collect_finish.proofs.WorkPlaces.{line-place, work-apart, work-below, lines-small, extent-small, across-below, along-below, outside-block}
+use Rattle.collect_finish.proofs.WorkCells.{ClearOutside}
 use Rattle.collect_finish.proofs.StripRectangles.{StripLies}
 use Rattle.grid.specs.Shapes.{shapeExtent, shapeLines}
 

@@ -12,7 +12,7 @@ use Rattle.plan.proofs.Record.{order-limited-at}
 use Rattle.grid.proofs.Extents.{extent-inside}
 use Rattle.axis.specs.Axis.{Axis, columns, rows, Direction, forward, backward, axisOf, along, across, isBackward, ifForward, ifBackward}
 use Rattle.filter.specs.Windows.{WindowFits}
-use Rattle.grid.specs.Grid.{blockRow, blockColumn, firstRow, rowsOf, columnsOf, blockPixelPlace}
+use Rattle.grid.specs.Grid.{sideLimit, blockRow, blockColumn, firstRow, rowsOf, columnsOf, blockPixelPlace}
 use Rattle.grid.proofs.Blocks.{block-row-below, block-column-below}
 use Rattle.number.proofs.RowMajor.{same-row-column, place-below}
 use Rattle.grid.specs.declared.Grid.{Grid}
@@ -26,21 +26,21 @@ use Rattle.collect_finish.specs.WorkFits.{BlockOf, ShapedBlock, StripMov
 
 -- ---- what fits
 
--- The block and the words past its edge lie in the work array.
-pub window-fits : (a : Axis) (d : Direction) {shape : BlockShape} (order n : ℕ) → ShapeFits shape → order ≤ orderLimit
-    → n ≡ workWords → WindowFits n a d (workWindow (shape .rows) (shape .columns)) order
-window-fits a d {shape} order n fits h e =
+-- A block and the words past its edge lie in the work array.
+pub window-fits : (a : Axis) (d : Direction) {h w : ℕ} (order n : ℕ) → (0 < h) × (h ≤ sideLimit) → (0 < w) × (w ≤ sideLimit)
+    → order ≤ orderLimit → n ≡ workWords → WindowFits n a d (workWindow h w) order
+window-fits a d {h} {w} order n high wide limited e =
     let room = by a d in
-    record { tall = fits .tall; wide = fits .wide; start = room .0; in-row = room .1; in-buffer = room .2 }
+    record { tall = high .0; wide = wide .0; start = room .0; in-row = room .1; in-buffer = room .2 }
   where
     by : (a : Axis) (d : Direction)
         → (ifForward (isBackward d) order ≤ along a orderLimit orderLimit)
-        × (orderLimit + shape .columns + along a 0 (ifBackward (isBackward d) order) ≤ workStride)
-        × ((orderLimit + shape .rows + along a (ifBackward (isBackward d) order) 0) * workStride ≤ n)
-    by columns forward = omega (arith, fits)
-    by columns backward = omega (arith, fits)
-    by rows forward = omega (arith, fits)
-    by rows backward = omega (arith, fits)
+        × (orderLimit + w + along a 0 (ifBackward (isBackward d) order) ≤ workStride)
+        × ((orderLimit + h + along a (ifBackward (isBackward d) order) 0) * workStride ≤ n)
+    by columns forward = omega arith
+    by columns backward = omega arith
+    by rows forward = omega arith
+    by rows backward = omega arith
 
 pub block-grid-fits : {shape : BlockShape} {n : ℕ} → ShapeFits shape → n ≡ workWords
     → StrideFits n workCorner workStride (shape .rows) (shape .columns)

@@ -12,14 +12,17 @@ use Rattle.plan.specs.Rules.{orderLimit}
 use Rattle.plan.specs.PaddedLine.{paddedLine}
 use Rattle.buffer.specs.Lists.{wordAt}
 use Rattle.passes.specs.Filter.{Filter}
+use Rattle.passes.specs.Passes.{filterLines, passesOver}
 use Rattle.axis.specs.Axis.{Axis, Direction, forward, backward, axisOf, directionOf, lineOf}
 use Rattle.filter.specs.declared.Window.{Window}
 use Rattle.number.specs.Numbers.{rowMajor}
-use Rattle.filter.specs.Windows.{windowPass}
+use Rattle.filter.specs.Windows.{windowWritten, wordsBesideWindow, windowPass}
+use Rattle.filter.specs.FilterWords.{gainsFirstFilters}
 use Rattle.grid.specs.Grid.{goesOn, sideLimit}
 use Rattle.plan.specs.Sizes.{orderOf}
 use Rattle.grid.specs.declared.BlockShape.{BlockShape}
 use Rattle.grid.specs.Shapes.{shapeOf, shapeExtent, shapeLines}
+use Rattle.task_words.specs.ScaledEdges.{scaledEdges}
 use Rattle.strips.specs.declared.Strip.{Strip}
 use Rattle.strips.specs.StripRecord.{stripRead, edgeStart}
 
@@ -46,19 +49,18 @@ pub record ShapeFits (shape : BlockShape) : Type 0 where
 abbrev pub pixelIn : ℕ → ℕ → ℕ
 pixelIn y x = rowMajor workStride (orderLimit + y) (orderLimit + x)
 
+-- The words of the block in the array.
+abbrev pub blockWords : List ℕ → ℕ → ℕ → ℕ
+blockWords work y x = wordAt work (pixelIn y x)
+
 -- The first word of the block.
 abbrev pub workCorner : ℕ
 workCorner = pixelIn 0 0
 
--- The array is 0 outside the block's cells.
-pub record ClearOutside (shape : BlockShape) (work : List ℕ) : Type 0 where
-  pub sized : length work ≡ workWords
-  pub around : (z : ℕ) → ((y x : ℕ) → y < shape .rows → x < shape .columns → z ≢ pixelIn y x) → wordAt work z ≡ 0
-
--- The array holds the block's words, and zeros around them.
-pub record BlockRead (shape : BlockShape) (words : ℕ → ℕ → ℕ) (work : List ℕ) : Type 0 where
-  pub clear : ClearOutside shape work
-  pub inside : (y x : ℕ) → y < shape .rows → x < shape .columns → wordAt work (pixelIn y x) ≡ words y x
+-- The array after the block's words have been put into it.
+abbrev pub blockLoaded : BlockShape → (words : ℕ → ℕ → ℕ) → List ℕ → List ℕ
+blockLoaded shape words work =
+    windowWritten (workWindow (shape .rows) (shape .columns)) words (shape .rows) work
 
 -- The place of an index of line l of the block, counted from the array's edge.
 abbrev pub workPlace : Axis → ℕ → ℕ → ℕ
@@ -97,9 +99,47 @@ pub record MarginLoaded (plan : Plan) (shape : BlockShape) (pass gain : ℕ) (st
 
 -- ---- passes
 
--- The array after a pass of a filter over the block.
+-- The words past line l of the block on the side where a pass comes from, nearest first, as the array has them: a pass
+-- reads as many as its order.
+abbrev pub marginWords : BlockShape → (pass : ℕ) → List ℕ → ℕ → ℕ → ℕ
+marginWords shape pass work =
+    wordsBesideWindow (axisOf pass) (directionOf pass) (workWindow (shape .rows) (shape .columns)) work
+
+-- The array after a pass of a filter over the block, the words of the margin standing past the block's edge: the pass's
+-- word at each pixel of the block, and what stood there at every other place.
 unfoldable pub blockPass : BlockShape → ℕ → Filter → List ℕ → List ℕ
 blockPass shape pass f work = windowPass pass (workWindow (shape .rows) (shape .columns)) (f .order) f work
+
+-- The same place by place.
+pub record BlockPassed (shape : BlockShape) (pass : ℕ) (f : Filter) (before after : List ℕ) : Type 0 where
+  pub inside : (y x : ℕ) → y < shape .rows → x < shape .columns
+      → blockWords after y x
+      ≡ filterLines (axisOf pass) (directionOf pass) f (shapeExtent shape pass) (marginWords shape pass before)
+      (blockWords before) y x
+  pub elsewhere : (z : ℕ) → ((y x : ℕ) → y < shape .rows → x < shape .columns → z ≢ pixelIn y x)
+      → wordAt after z ≡ wordAt before z
+  pub length-kept : length after ≡ length before
+
+-- This holds of every pass of an allowed order over a block that the array holds.
+abbrev pub PassesInPlace : Type 0
+PassesInPlace =
+    (shape : BlockShape) → ShapeFits shape → (pass : ℕ) (f : Filter) → f .order ≤ orderLimit → (work : List ℕ)
+    → length work ≡ workWords → BlockPassed shape pass f work (blockPass shape pass f work)
+
+-- The array after the first t passes of finish: at each pixel of the block their word over the words that stood there,
+-- all gains in the first pass and the strips past the block's edges times the gains of the passes after their own; at
+-- every other place what stood there, but for the margins of these passes, of which nothing is said.
+pub record PassesRun (plan : Plan) (k : ℕ) (shape : BlockShape) (strips : List ℕ) (t : ℕ) (before after : List ℕ) : Type 0
+  where
+    pub inside : (y x : ℕ) → y < shape .rows → x < shape .columns
+        → blockWords after y x
+        ≡ passesOver (gainsFirstFilters plan) (shape .rows) (shape .columns) (scaledEdges plan strips k 3) (blockWords before)
+        t y x
+    pub elsewhere : (z : ℕ)
+        → ((y x : ℕ) → y < shape .rows → x < shape .columns → z ≢ pixelIn y x)
+        → ((u l i : ℕ) → u < t → l < shapeLines shape u → i < orderOf plan u → z ≢ marginPlace plan shape u l i)
+        → wordAt after z ≡ wordAt before z
+    pub length-kept : length after ≡ length before
 
 -- ---- strips
 

@@ -1,16 +1,16 @@
--- Inner: what the functions of collect and finish ask of their callers. A buffer stands for its length where only that counts.
+-- Inner: what the functions of collect and finish ask of their callers. A buffer stands for its length where only that
+-- counts.
 use mathlib.Core.List.{List}
 use mathlib.Core.Path.{_≡_}
 use mathlib.Core.Bool.{true}
-use Prim.Native.Nat.{ℕ, _+_, _<_, _≤_}
+use Prim.Native.Nat.{ℕ, _<_, _≤_}
 use lib.ListN.{length}
 use Rattle.plan.specs.declared.Plan.{Plan}
 use Rattle.plan.specs.Rules.{orderLimit, keepsRules}
 use Rattle.plan.specs.Sizes.{neededMarks, neededStrips, neededPixels}
 use Rattle.grid.specs.declared.BlockShape.{BlockShape}
 use Rattle.grid.specs.Shapes.{shapeOf}
-use Rattle.buffer.specs.Copies.{StrideFits}
-use Rattle.collect_finish.specs.Work.{workWords, ShapeFits, ClearOutside, MarginClear}
+use Rattle.collect_finish.specs.Work.{workWords, ShapeFits, MarginClear}
 
 -- ---- a block of a plan
 
@@ -39,24 +39,19 @@ pub record FinishFits (plan : Plan) (k map strips output : ℕ) : Type 0 where
 
 -- ---- their pieces
 
--- A block of a buffer of n words, and a work array that is 0 around the block's cells.
-pub record LoadFits (n start stride : ℕ) (shape : BlockShape) (work : List ℕ) : Type 0 where
-  pub inside : StrideFits n start stride (shape .rows) (shape .columns)
-  pub held : ShapeFits shape
-  pub clear : ClearOutside shape work
-
--- One row of such a block.
-pub record RowFits (n start : ℕ) (shape : BlockShape) (row : ℕ) (work : List ℕ) : Type 0 where
-  pub inside : start + shape .columns ≤ n
-  pub row-below : row < shape .rows
-  pub held : ShapeFits shape
-  pub clear : ClearOutside shape work
-
 -- A pass of an order over a block in a work array of n words.
 pub record PassFits (order : ℕ) (shape : BlockShape) (n : ℕ) : Type 0 where
   pub limited : order ≤ orderLimit
   pub held : ShapeFits shape
   pub sized : n ≡ workWords
+
+-- The first passes of finish over a block in an array whose margins are 0.
+pub record ReadyToFinish (plan : Plan) (k : ℕ) (shape : BlockShape) (count strips : ℕ) (work : List ℕ) : Type 0 where
+  pub placed : ShapedBlock plan k shape
+  pub counted : count ≤ 4
+  pub strips-long : neededStrips plan ≤ strips
+  pub sized : length work ≡ workWords
+  pub clear : (pass : ℕ) → pass < 4 → MarginClear plan shape pass work
 
 -- A strip of a pass that goes from the list of strips to the work array, or back.
 pub record StripMoves (plan : Plan) (k pass : ℕ) (shape : BlockShape) (strips work : ℕ) : Type 0 where

@@ -13,10 +13,10 @@ ghost use Rattle.task_words.specs.Strips.{stripWritten};
 ghost use Rattle.filter.specs.PlanFilters.{mapOf};
 ghost use Rattle.task_words.specs.Writes.{collected, finished};
 ghost use Rattle.strips.specs.StripRecord.{stripBefore, EdgeFits};
-ghost use Rattle.buffer.specs.Copies.{scaledFrom, strideScaled, strideHeights, strideWritten, StrideFits};
+ghost use Rattle.buffer.specs.Copies.{scaledFrom, heightsFrom, strideScaled, strideHeights, strideWritten, StrideFits};
 ghost use Rattle.buffer.specs.Written.{rowWritten};
-ghost use Rattle.collect_finish.specs.Work.{workStride, workCorner, ClearOutside, BlockRead, workPlace, marginStart, MarginLoaded, blockPass, workEdge};
-ghost use Rattle.collect_finish.specs.WorkFits.{CollectFits, FinishFits, LoadFits, RowFits, PassFits, StripMoves, MarginFits};
+ghost use Rattle.collect_finish.specs.Work.{workStride, workCorner, ShapeFits, blockLoaded, workPlace, marginStart, MarginLoaded, blockPass, PassesRun, workEdge};
+ghost use Rattle.collect_finish.specs.WorkFits.{CollectFits, FinishFits, PassFits, ReadyToFinish, StripMoves, MarginFits};
 
 // The margin on each side of the block, the words of a row of the work array, and the first word of the block in it.
 const MARGIN: usize = plan::ORDER_LIMIT;
@@ -25,13 +25,11 @@ const STRIDE: usize = plan::PADDED_LINE;
 
 const CORNER: usize = MARGIN * STRIDE + MARGIN;
 
-// The words and the heights of a cache line of 64 bytes.
-const LINE_WORDS: usize = 8;
-
+// As many heights as a cache line of 64 bytes holds.
 const LINE_HEIGHTS: usize = 16;
 
-// Block k's four strips: the passes over its pixels, zeros around it. The passes run with gain 1; a strip takes the gains
-// of its pass and of those before it.
+// Block k's four strips: the passes over its pixels, zeros around it. The passes run with gain 1; a strip takes the
+// gains of its pass and of those before it.
 pub fn collect(plan: Plan, k: usize, map: &[i32], strips: &mut [u64])
     requires { ⌜ CollectFits plan k (length (now map)) (length (now strips)) ⌝ }
     ensures { λ _. ⌜ now (strips .exit) ≡ collected plan (mapOf plan (now (map .entry))) k (now (strips .entry)) ⌝ }
@@ -51,8 +49,7 @@ pub fn collect(plan: Plan, k: usize, map: &[i32], strips: &mut [u64])
     }
 }
 
-// Block k's output words: the four passes over its pixels, the neighbours' strips past its edges. The first pass runs with
-// all four gains, the others with gain 1; a strip takes the gains of the passes after its own.
+// Block k's output words: one copy of its pixels into the work array, the four passes there, one copy of its words out.
 pub fn finish(plan: Plan, k: usize, map: &[i32], strips: &[u64], output: &mut [u64])
     requires { ⌜ FinishFits plan k (length (now map)) (length (now strips)) (length (now output)) ⌝ }
     ensures { λ _. ⌜ now (output .exit) ≡ finished plan (mapOf plan (now (map .entry))) (now (strips .entry)) k (now (output .entry)) ⌝ }
@@ -60,16 +57,8 @@ pub fn finish(plan: Plan, k: usize, map: &[i32], strips: &[u64], output: &mut [u
     let grid = plan.grid;
     let shape = grid.block_shape(k);
     let mut work = [0; STRIDE * STRIDE];
-    touch_output(output, shape.start, grid.columns, shape, &mut work);
     load_block(map, shape.start, grid.columns, shape, &mut work);
-    let mut pass = 0;
-    while pass < 4 {
-        let gain = filter::gains_after(plan, pass, 3);
-        load_margin(plan, k, pass, gain, shape, strips, &mut work);
-        let words = filter::gains_first(plan, pass);
-        run_block_pass(shape, pass, words, &mut work);
-        pass += 1;
-    }
+    run_passes(plan, k, shape, strips, 4, &mut work);
     copy_rectangle(
         &work,
         CORNER,
@@ -83,57 +72,27 @@ pub fn finish(plan: Plan, k: usize, map: &[i32], strips: &[u64], output: &mut [u
     );
 }
 
-// A block's rows lie far apart in the map and in the output, and a copy waits for the cache lines of one row after another.
-// Where one word of each line has been read first, all of them are on their way together. The words read go into cells of
-// the block, which its pixels take afterwards, so that the compiler keeps the reads.
-fn touch_output_row(output: &[u64], start: usize, shape: BlockShape, row: usize, work: &mut [u64])
-    requires { ⌜ RowFits (length (now output)) start shape row (now work) ⌝ }
-    ensures { λ _. ⌜ ClearOutside shape (now (work .exit)) ⌝ }
+// The first `count` passes over the block in the work array (finish wants all four; what holds is said over their
+// number), the neighbours' strips past its edges: each goes into the margin before the pass that reads it. The first
+// pass runs with all four gains, the others with gain 1; a strip takes the gains of the passes after its own.
+fn run_passes(
+    plan: Plan,
+    k: usize,
+    shape: BlockShape,
+    strips: &[u64],
+    count: usize,
+    work: &mut [u64],
+)
+    requires { ⌜ ReadyToFinish plan k shape count (length (now strips)) (now work) ⌝ }
+    ensures { λ _. ⌜ PassesRun plan k shape (now (strips .entry)) count (now (work .entry)) (now (work .exit)) ⌝ }
 {
-    let work_start = CORNER + row * STRIDE;
-    let last = shape.columns - 1;
-    let mut i = 0;
-    while i < shape.columns + LINE_WORDS {
-        let column = number::lesser(i, last);
-        work[work_start + column] = output[start + column];
-        i += LINE_WORDS;
-    }
-}
-
-fn touch_output(output: &[u64], start: usize, stride: usize, shape: BlockShape, work: &mut [u64])
-    requires { ⌜ LoadFits (length (now output)) start stride shape (now work) ⌝ }
-    ensures { λ _. ⌜ ClearOutside shape (now (work .exit)) ⌝ }
-{
-    let mut row = 0;
-    while row < shape.rows {
-        touch_output_row(output, start + row * stride, shape, row, work);
-        row += 1;
-    }
-}
-
-// The same for the map.
-fn touch_map_row(map: &[i32], start: usize, shape: BlockShape, row: usize, work: &mut [u64])
-    requires { ⌜ RowFits (length (now map)) start shape row (now work) ⌝ }
-    ensures { λ _. ⌜ ClearOutside shape (now (work .exit)) ⌝ }
-{
-    let work_start = CORNER + row * STRIDE;
-    let last = shape.columns - 1;
-    let mut i = 0;
-    while i < shape.columns + LINE_HEIGHTS {
-        let column = number::lesser(i, last);
-        work[work_start + column] = buffer::read_pixel(map[start + column]);
-        i += LINE_HEIGHTS;
-    }
-}
-
-fn touch_map(map: &[i32], start: usize, stride: usize, shape: BlockShape, work: &mut [u64])
-    requires { ⌜ LoadFits (length (now map)) start stride shape (now work) ⌝ }
-    ensures { λ _. ⌜ ClearOutside shape (now (work .exit)) ⌝ }
-{
-    let mut row = 0;
-    while row < shape.rows {
-        touch_map_row(map, start + row * stride, shape, row, work);
-        row += 1;
+    let mut pass = 0;
+    while pass < count {
+        let gain = filter::gains_after(plan, pass, 3);
+        load_margin(plan, k, pass, gain, shape, strips, work);
+        let words = filter::gains_first(plan, pass);
+        run_block_pass(shape, pass, words, work);
+        pass += 1;
     }
 }
 
@@ -259,37 +218,66 @@ fn copy_rectangle(
     );
 }
 
-fn read_block(
+// The words of a row's heights. As many as a cache line holds are a loop of known length, which the compiler writes
+// out: a sign extension and a store for each.
+fn load_row(map: &[i32], map_start: usize, work: &mut [u64], work_start: usize, count: usize)
+    requires { ⌜ («map_start» + count ≤ length (now map)) × («work_start» + count ≤ length (now work)) ⌝ }
+    ensures { λ _. ⌜ now (work .exit) ≡ rowWritten «work_start» (heightsFrom (now (map .entry)) «map_start») count (now (work .entry)) ⌝ }
+{
+    if count == LINE_HEIGHTS {
+        buffer::read_heights(map, map_start, work, work_start, LINE_HEIGHTS);
+    } else {
+        buffer::read_heights(map, map_start, work, work_start, count);
+    }
+}
+
+// The words of some columns of heights, row by row, to a place of the work array.
+fn load_columns(
     map: &[i32],
     map_start: usize,
     map_stride: usize,
     work: &mut [u64],
+    work_start: usize,
     height: usize,
     width: usize,
 )
-    requires { ⌜ StrideFits (length (now map)) «map_start» «map_stride» height width × StrideFits (length (now work)) workCorner workStride height width ⌝ }
-    ensures { λ _. ⌜ now (work .exit) ≡ strideWritten workCorner workStride width (strideHeights (now (map .entry)) «map_start» «map_stride») height (now (work .entry)) ⌝ }
+    requires { ⌜ StrideFits (length (now map)) «map_start» «map_stride» height width × StrideFits (length (now work)) «work_start» workStride height width ⌝ }
+    ensures { λ _. ⌜ now (work .exit) ≡ strideWritten «work_start» workStride width (strideHeights (now (map .entry)) «map_start» «map_stride») height (now (work .entry)) ⌝ }
 {
     let mut row = 0;
     while row < height {
-        buffer::read_heights(
+        load_row(
             map,
             map_start + row * map_stride,
             work,
-            CORNER + row * STRIDE,
+            work_start + row * STRIDE,
             width,
         );
         row += 1;
     }
 }
 
-// The block's pixels into a work array that is 0 around them.
+// The block's pixels into the work array, in groups of columns as wide as a cache line. Its rows lie far apart in the
+// map, and a copy of whole rows waits for one row's lines after another's; of a group, the lines of many rows are on
+// their way together.
 fn load_block(map: &[i32], start: usize, stride: usize, shape: BlockShape, work: &mut [u64])
-    requires { ⌜ LoadFits (length (now map)) start stride shape (now work) ⌝ }
-    ensures { λ _. ⌜ BlockRead shape (strideHeights (now (map .entry)) start stride) (now (work .exit)) ⌝ }
+    requires { ⌜ StrideFits (length (now map)) start stride (shape .rows) (shape .columns) × StrideFits (length (now work)) workCorner workStride (shape .rows) (shape .columns) × ShapeFits shape ⌝ }
+    ensures { λ _. ⌜ now (work .exit) ≡ blockLoaded shape (strideHeights (now (map .entry)) start stride) (now (work .entry)) ⌝ }
 {
-    touch_map(map, start, stride, shape, work);
-    read_block(map, start, stride, work, shape.rows, shape.columns);
+    let mut column = 0;
+    while column < shape.columns {
+        let width = number::lesser(LINE_HEIGHTS, shape.columns - column);
+        load_columns(
+            map,
+            start + column,
+            stride,
+            work,
+            CORNER + column,
+            shape.rows,
+            width,
+        );
+        column += width;
+    }
 }
 
 // One pass over the block in the work array, the margin standing for the outputs past its edge.
@@ -358,7 +346,8 @@ fn load_margin(
     );
 }
 
-// Block k's strip of a pass from the work array, times a gain, zeros around the block; 0 where no neighbour needs the strip.
+// Block k's strip of a pass from the work array, times a gain, zeros around the block; 0 where no neighbour needs the
+// strip.
 fn write_strip(
     plan: Plan,
     k: usize,

@@ -5,8 +5,8 @@ use borrow.Author.Needs.{needs}
 use Rattle.plan.proofs.Record.{in-grid}
 use Rattle.filter.specs.PlanFilters.{mapOf}
 use Rattle.collect_finish.specs.WorkFits.{ShapedBlock}
-use Rattle.collect_finish.proofs.WorkPlaces.{shape-in-work, block-in-map}
-use Rattle.collect_finish.proofs.WorkCells.{blank-clear}
+use Rattle.collect_finish.proofs.WorkPlaces.{shape-in-work, block-in-work, block-in-map}
+use Rattle.collect_finish.proofs.WorkCells.{blank-sized}
 use Rattle.collect_finish.proofs.Collecting.{Collecting, collect-start, collect-pass, collect-strip, collect-turn, collect-end}
 use Rattle.collect_finish.proofs.collect.Statement.{statement}
 use Rattle.collect_finish.proofs.collect.Tie as tie
@@ -61,7 +61,7 @@ slice-aggregate-load-block c = search needs
 load-block-requires : tie.Need-load-block-requires Inv-loop μ-loop
 load-block-requires c κs =
     let b = c .before in
-    record { inside = block-in-map (placed b) (start b .pre .map-long); held = shape-in-work (placed b); clear = blank-clear _ }
+    (block-in-map (placed b) (start b .pre .map-long), block-in-work (placed b) blank-sized, shape-in-work (placed b))
 
 loop-holds : tie.Need-loop-holds Inv-loop μ-loop
 loop-holds c =

@@ -1,4 +1,5 @@
 -- `run_block_pass` is the pass of its filter over the block.
+use native.Mathlib.Omega.{arith}
 use borrow.Author.Needs.{needs}
 use Rattle.collect_finish.specs.Work.{blockPass}
 use Rattle.collect_finish.proofs.WorkPlaces.{window-fits}
@@ -8,7 +9,8 @@ use Rattle.collect_finish.proofs.run_block_pass.Tie as tie
 run-pass-requires : tie.Need-run-pass-requires
 run-pass-requires c κs =
     let fits = c .before .before .pre in
-    (fits .limited, window-fits _ _ _ _ (fits .held) (fits .limited) (fits .sized))
+    let held = fits .held in
+    (fits .limited, window-fits _ _ _ _ (omega (arith, held)) (omega (arith, held)) (fits .limited) (fits .sized))
 
 same-length : tie.Need-same-length
 same-length c = search needs

@@ -1,27 +1,27 @@
--- `read_block` has read the rows passed so far.
+-- `load_columns` has read the rows passed so far.
 use Prim.Native.Nat.{_+_, _*_, _-_, _≤_}
 use native.Mathlib.Omega.{arith}
 use borrow.Author.Needs.{needs}
 use lib.ListN.{length}
 use Rattle.buffer.specs.Copies.{strideHeights}
-use Rattle.collect_finish.specs.Work.{workStride, workCorner}
+use Rattle.collect_finish.specs.Work.{workStride}
 use Rattle.collect_finish.proofs.CopiedRows.{RowsWritten, rows-none, rows-more, rows-all}
-use Rattle.collect_finish.proofs.read_block.Statement.{statement}
-use Rattle.collect_finish.proofs.read_block.Tie as tie
+use Rattle.collect_finish.proofs.load_columns.Statement.{statement}
+use Rattle.collect_finish.proofs.load_columns.Tie as tie
 
 abbrev Inv-loop : tie.InvT-loop
-Inv-loop map map-start map-stride work₀ height width row₀ work row =
-    RowsWritten workCorner workStride width (strideHeights map map-start map-stride) height row work₀ work
+Inv-loop map map-start map-stride work₀ work-start height width row₀ work row =
+    RowsWritten work-start workStride width (strideHeights map map-start map-stride) height row work₀ work
 
 abbrev μ-loop : tie.MeasureT-loop
-μ-loop map map-start map-stride work₀ height width row₀ work row = height - row
+μ-loop map map-start map-stride work₀ work-start height width row₀ work row = height - row
 
 -- ---- stations
 
 abbrev start : tie.At-loop Inv-loop μ-loop → tie.Start Inv-loop μ-loop
 start c = c .before .before
 
-abbrev in-turn : tie.After-read-heights Inv-loop μ-loop → tie.In-loop Inv-loop μ-loop
+abbrev in-turn : tie.After-load-row Inv-loop μ-loop → tie.In-loop Inv-loop μ-loop
 in-turn c = c .before .before
 
 -- ---- this row is in both buffers
@@ -33,7 +33,7 @@ row-in-map c = start (c .before) .pre .0 .row _ (c .loop-test .taken)
 
 row-in-work : (c : tie.In-loop Inv-loop μ-loop)
     → let a = start (c .before) .args in
-    workCorner + c .before .loop .row * workStride + a .width ≤ length (a .work .now)
+    a .work-start + c .before .loop .row * workStride + a .width ≤ length (a .work .now)
 row-in-work c = start (c .before) .pre .1 .row _ (c .loop-test .taken)
 
 -- ---- needs
@@ -41,20 +41,20 @@ row-in-work c = start (c .before) .pre .1 .row _ (c .loop-test .taken)
 loop-holds : tie.Need-loop-holds Inv-loop μ-loop
 loop-holds c = rows-none
 
-mul-read-heights : tie.Need-mul-read-heights Inv-loop μ-loop
-mul-read-heights c = let h = row-in-map c in omega arith
+mul-load-row : tie.Need-mul-load-row Inv-loop μ-loop
+mul-load-row c = let h = row-in-map c in omega arith
 
-add-read-heights : tie.Need-add-read-heights Inv-loop μ-loop
-add-read-heights c = let h = row-in-map c in omega arith
+add-load-row : tie.Need-add-load-row Inv-loop μ-loop
+add-load-row c = let h = row-in-map c in omega arith
 
-mul-read-heights-2 : tie.Need-mul-read-heights-2 Inv-loop μ-loop
-mul-read-heights-2 c = let h = row-in-work (c .before) in omega arith
+mul-load-row-2 : tie.Need-mul-load-row-2 Inv-loop μ-loop
+mul-load-row-2 c = let h = row-in-work (c .before) in omega arith
 
-add-read-heights-2 : tie.Need-add-read-heights-2 Inv-loop μ-loop
-add-read-heights-2 c = let h = row-in-work (c .before) in omega arith
+add-load-row-2 : tie.Need-add-load-row-2 Inv-loop μ-loop
+add-load-row-2 c = let h = row-in-work (c .before) in omega arith
 
-read-heights-requires : tie.Need-read-heights-requires Inv-loop μ-loop
-read-heights-requires c κs =
+load-row-requires : tie.Need-load-row-requires Inv-loop μ-loop
+load-row-requires c κs =
     let t = c .before in (row-in-map t, rw (t .before .loop .inv .length-kept) (row-in-work t))
 
 add-row : tie.Need-add-row Inv-loop μ-loop
@@ -67,7 +67,7 @@ loop-again : tie.Need-loop-again Inv-loop μ-loop
 loop-again c =
     let d = c .before .before in
     let t = in-turn d in
-    rows-more (t .before .loop .inv) (t .loop-test .taken) (d .read-heights .ensures)
+    rows-more (t .before .loop .inv) (t .loop-test .taken) (d .load-row .ensures)
 
 same-length : tie.Need-same-length Inv-loop μ-loop
 same-length c = search needs
@@ -75,18 +75,18 @@ same-length c = search needs
 returns : tie.Need-returns Inv-loop μ-loop
 returns c = rows-all (c .before .loop .inv) (c .loop-test .left)
 
-pub read-block-spec : {M : Type 1} → statement M
-read-block-spec =
+pub load-columns-spec : {M : Type 1} → statement M
+load-columns-spec =
     tie.close
     (tie.spec
     Inv-loop
     μ-loop
     loop-holds
-    mul-read-heights
-    add-read-heights
-    mul-read-heights-2
-    add-read-heights-2
-    read-heights-requires
+    mul-load-row
+    add-load-row
+    mul-load-row-2
+    add-load-row-2
+    load-row-requires
     add-row
     loop-less
     loop-again
