@@ -1,9 +1,10 @@
 //! The benchmark: the library against two serial programs in Rust.
 //!
-//! `cargo run --release --bin bench [-- --quick] [--svg FILE] [--repetitions N]` prints Markdown tables; `--svg` draws
-//! the ratios. All ways run on the same map into the same output, turn by turn; every output is compared with that of
-//! the plain program, and the best time of each way counts. A block job's time has everything in it: start, and for
-//! each task the checks, the strips and the marks.
+//! `cargo run --release --bin bench [-- --quick] [--size N] [--side N] [--svg FILE] [--repetitions N]` prints Markdown
+//! tables; `--svg` draws the ratios, `--size` and `--side` leave one map and one block side. All ways run on the same
+//! map into the same output, turn by turn; every output is compared with that of the plain program, and the best time
+//! of each way counts. A block job's time has everything in it: start, and for each task the checks, the strips and the
+//! marks.
 
 mod baseline;
 mod chart;
@@ -17,21 +18,23 @@ use std::time::{Duration, Instant};
 /// What the command line asks for.
 struct Options {
     quick: bool,
+    size: Option<usize>,
+    side: Option<usize>,
     svg: Option<String>,
     repetitions: Option<usize>,
 }
 
 fn options() -> Options {
-    let mut options = Options { quick: false, svg: None, repetitions: None };
+    let mut options = Options { quick: false, size: None, side: None, svg: None, repetitions: None };
     let mut arguments = std::env::args().skip(1);
+    let number = |text: Option<String>| text.and_then(|text| text.parse().ok()).filter(|&number| number > 0);
     while let Some(argument) = arguments.next() {
         match argument.as_str() {
             "--quick" => options.quick = true,
+            "--size" => options.size = Some(number(arguments.next()).unwrap_or_else(|| usage())),
+            "--side" => options.side = Some(number(arguments.next()).unwrap_or_else(|| usage())),
             "--svg" => options.svg = Some(arguments.next().unwrap_or_else(|| usage())),
-            "--repetitions" => {
-                let number = arguments.next().and_then(|text| text.parse().ok()).filter(|&number| number > 0);
-                options.repetitions = Some(number.unwrap_or_else(|| usage()));
-            }
+            "--repetitions" => options.repetitions = Some(number(arguments.next()).unwrap_or_else(|| usage())),
             _ => usage(),
         }
     }
@@ -39,7 +42,7 @@ fn options() -> Options {
 }
 
 fn usage() -> ! {
-    eprintln!("usage: bench [--quick] [--svg FILE] [--repetitions N]");
+    eprintln!("usage: bench [--quick] [--size N] [--side N] [--svg FILE] [--repetitions N]");
     std::process::exit(2)
 }
 
@@ -127,16 +130,17 @@ fn kind_rows(label: &str, side: usize, job: &tasks::BlockJob, best: &[Duration; 
 fn measure_plan(
     label: &str,
     plan: &Plan,
+    sides: &[usize],
     map: &[i32],
     output: &mut [u64],
     repetitions: usize,
 ) -> (Vec<String>, Vec<String>, Group) {
     let size = plan.rows as usize;
     let filters = baseline::filters(plan);
-    let jobs = [32, 8].map(|side| {
-        let job = tasks::BlockJob::new(&Plan { side, ..*plan });
-        (side as usize, std::cell::RefCell::new(job), std::cell::Cell::new([Duration::MAX; 6]))
-    });
+    let jobs = Vec::from_iter(sides.iter().map(|&side| {
+        let job = tasks::BlockJob::new(&Plan { side: side as i64, ..*plan });
+        (side, std::cell::RefCell::new(job), std::cell::Cell::new([Duration::MAX; 6]))
+    }));
     let mut ways = vec![
         Way::new("plain Rust", |map, output| baseline::plain(map, output, size, size, &filters)),
         Way::new("strong Rust", |map, output| baseline::strong(map, output, size, size, &filters)),
@@ -175,17 +179,19 @@ fn measure_plan(
 fn main() {
     let options = options();
     println!("Processor: {}.", processor());
-    let sizes: &[(usize, usize)] = if options.quick { &[(1024, 3)] } else { &[(1024, 25), (4096, 11)] };
+    let usual: &[(usize, usize)] = if options.quick { &[(1024, 3)] } else { &[(1024, 25), (4096, 11)] };
+    let sizes = options.size.map_or(usual.to_vec(), |size| vec![(size, 11)]);
+    let sides = options.side.map_or(vec![32, 8], |side| vec![side]);
     println!("\n| map | way | best ms | ns a pixel | times plain | times strong |\n|---|---|--:|--:|--:|--:|");
     let (mut kinds, mut groups) = (Vec::new(), Vec::new());
-    for &(size, usual_repetitions) in sizes {
+    for (size, usual_repetitions) in sizes {
         let mut random = Random::new(size as u64);
         let map: Vec<i32> = (0..size * size).map(|_| random.word() as i32).collect();
         let mut output = vec![0; size * size];
         for (name, plan) in plans(size, 32, &mut random) {
             let repetitions = options.repetitions.unwrap_or(usual_repetitions);
             let label = format!("{size} x {size}, {name}");
-            let (rows, more_kinds, group) = measure_plan(&label, &plan, &map, &mut output, repetitions);
+            let (rows, more_kinds, group) = measure_plan(&label, &plan, &sides, &map, &mut output, repetitions);
             println!("{}", rows.join("\n"));
             kinds.extend(more_kinds);
             groups.push(group);
