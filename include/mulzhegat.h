@@ -5,7 +5,8 @@
  *
  *     y[i] = g * x[i] - d1 * y[i-1] - ... - dr * y[i-r]
  *
- * where i counts along the pass: from the bottom row for up, from the last column for left.
+ * where x is the map for down and the result of the pass before for the others, and i counts along the pass: from the
+ * bottom row for up, from the last column for left.
  *
  * Outputs outside the map count as 0, and all words are taken modulo 2^64. The passes run over the whole map in one
  * call (mzg_serial), or block by block in any order that respects the tasks' needs (mzg_start, mzg_task, mzg_report).
@@ -28,7 +29,7 @@
  * The functions keep no state between calls. Calls that share no buffer that one of them writes may run at the same
  * time; two mzg_task calls of one job must not. A job may be broken off between any two calls: keep plan, map, marks,
  * strips and output. Of a job that is taken up again only the kind and the spare bits of its marks are tested, not that
- * its buffers belong together: put a checksum over what you save. mzg_task takes about 25 KiB of stack, every other
+ * its buffers belong together: put a checksum over what you save. mzg_task takes less than 26 KiB of stack, every other
  * call less than 4 KiB.
  */
 #ifndef MULZHEGAT_H
@@ -135,11 +136,11 @@ uint64_t mzg_start(const mzg_plan *plan, uint32_t *marks, size_t marks_len, uint
  *     5 finish       always       own 0; 1 of above, 2 of below, 3 of left, 4 of right
  *
  * A need on a neighbour beyond the map falls away. Collect and the links write in the block's slot of the strips (its
- * part of side * (sum of the four orders) words; no caller needs its layout), finish writes the block's output words;
- * an accepted task also sets bit `task` of the block's mark, and nothing else changes. When all tasks are done, the
- * output is that of mzg_serial; it need not be set before. Lend the same map to every call of a job. Calls may come in
- * any order: one that comes too early is refused by 11 and may be repeated. An order without any 11: the tasks 0 to 5
- * one after another, each over the blocks by their number, 2 and 4 from the last block to the first (links that a block
+ * part of side * (sum of the four orders) words; no caller needs its layout), finish writes the block's output words,
+ * which are those of mzg_serial from then on; an accepted task also sets bit `task` of the block's mark, and nothing
+ * else changes. The output need not be set before. Lend the same map to every call of a job. Calls may come in any
+ * order: one that comes too early is refused by 11 and may be repeated. An order without any 11: the tasks 0 to 5 one
+ * after another, each over the blocks by their number, 2 and 4 from the last block to the first (links that a block
  * does not have are refused by 8).
  * Needs, for every task: sizes.pixels map and output words, sizes.marks marks, sizes.strips strip words.
  * Refused: 6, 7, 8, 9 (the marks of the block and of the neighbours in its needs are looked at), 10, 11. */

@@ -8,8 +8,8 @@
 //! refused call leaves every lent slice as it was; words past the needed length are never altered.
 //! `include/mulzhegat.h` has the same calls for C. What it asks of pointers (not null, aligned for their type, no two
 //! overlapping) holds here by borrowing: what a call writes is borrowed mutably. The archive must be of this crate's
-//! version: the length of a plan record follows [`MAX_ORDER`]. [`job::perform`] takes about 25 KiB of stack, every other
-//! call less than 4 KiB.
+//! version: the length of a plan record follows [`MAX_ORDER`]. [`job::perform`] takes less than 26 KiB of stack, every
+//! other call less than 4 KiB.
 
 pub mod job;
 pub mod plan;
