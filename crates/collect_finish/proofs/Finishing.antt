@@ -2,7 +2,6 @@
 -- Assumes nothing.
 use mathlib.Core.Path.{_≡_, refl, sym, ap, ap₂, _∙_}
 use mathlib.Core.List.{List}
-use mathlib.Core.Logic.{_≢_}
 use Prim.Native.Nat.{ℕ, zero, suc, _+_, _-_, _/_, _%_, _≤_, _<_}
 use native.Mathlib.Omega.{arith}
 use lib.IntN.{ℤ}
@@ -29,14 +28,14 @@ use Rattle.filter.specs.Windows.{wordsBesideWindow}
 use Rattle.filter.proofs.Filters.{gainsFirstWords-filter, gainsFirstWords-order}
 use Rattle.grid.specs.Grid.{rowsOf, columnsOf, blockPixelPlace, partOf, linesAcross}
 use Rattle.grid.specs.declared.BlockShape.{BlockShape}
-use Rattle.grid.specs.Shapes.{shapeOf, shapeLines}
+use Rattle.grid.specs.Shapes.{shapeOf}
 use Rattle.task_words.specs.Strips.{fromEdge, pastEdges}
 use Rattle.task_words.specs.ScaledEdges.{scaledEdges}
 use Rattle.task_words.specs.Writes.{finishWord, blockWritten, finished}
 use Rattle.task_words.proofs.StripReads.{from-edge-below}
 use Rattle.strips.specs.StripRecord.{stripBefore}
 use Rattle.strips.proofs.StripRecords.{past-edges-read}
-use Rattle.collect_finish.specs.Work.{workStride, workWords, workCorner, workWindow, pixelIn, blockWords, ShapeFits, marginPlace, MarginClear, MarginLoaded, blockPass, PassesRun}
+use Rattle.collect_finish.specs.Work.{workStride, workWords, workCorner, workWindow, pixelIn, OutsideBlock, blockWords, ShapeFits, OutsideMargin, MarginClear, MarginLoaded, blockPass, PassesRun}
 use Rattle.collect_finish.specs.WorkFits.{ShapedBlock, PassFits, ReadyToFinish, MarginFits}
 use Rattle.collect_finish.proofs.WorkPlaces.{shape-fits, shape-in-work}
 use Rattle.collect_finish.proofs.WorkCells.{cell-is}
@@ -48,17 +47,13 @@ unfolding filterOf
 finish-order plan zero = refl
 finish-order plan (suc t) = refl
 
--- A place outside the block and the margins of the first t passes.
-abbrev Outside : Plan → BlockShape → (t z : ℕ) → Type 0
-Outside plan shape t z =
-    ((y x : ℕ) → y < shape .rows → x < shape .columns → z ≢ pixelIn y x)
-    × ((u l i : ℕ) → u < t → l < shapeLines shape u → i < orderOf plan u → z ≢ marginPlace plan shape u l i)
-
--- After t of `count` passes over an array `first`: the work array holds the block, and what lies outside is as it was.
+-- After t of `count` passes over an array `first`: the work array holds the block, and what lies outside it and the
+-- margins of these passes is as it was.
 pub record Finishing (plan : Plan) (k : ℕ) (strips first : List ℕ) (count t : ℕ) (work : List ℕ) : Type 0 where
   pub counted : t ≤ count
   pub holds : Holds plan k (gainsFirstFilters plan) (scaledEdges plan strips k 3) (blockWords first) t work
-  pub others : (z : ℕ) → Outside plan (shapeOf (plan .grid) k) t z → wordAt work z ≡ wordAt first z
+  pub others : (z : ℕ) → OutsideBlock (shapeOf (plan .grid) k) z
+      → ((u : ℕ) → u < t → OutsideMargin plan (shapeOf (plan .grid) k) u z) → wordAt work z ≡ wordAt first z
 
 pub passes-start : {plan : Plan} {k : ℕ} {shape : BlockShape} {count n : ℕ} {strips work : List ℕ}
     → ReadyToFinish plan k shape count n work → Finishing plan k strips work count 0 work
@@ -67,7 +62,7 @@ passes-start fits =
     record {
       counted = omega arith;
       holds = record { sized = fits .sized; inside = λ y x p q. refl };
-      others = λ z out. refl;
+      others = λ z outside apart. refl;
     }
 
 module _ {plan : Plan} {k : ℕ} {shape : BlockShape} {count n : ℕ} {first : List ℕ}
@@ -102,11 +97,9 @@ module _ {plan : Plan} {k : ℕ} {shape : BlockShape} {count n : ℕ} {first : L
         record {
           at =
               λ l i b c.
-              inv .others _ (
-                margin-not-block plan whole fits t (limited t below) l i b c,
-                λ u m j h p q.
-                    margins-apart plan whole fits u t h below (limited u (omega (arith, below))) (limited t below) m j l i p q b c,
-              )
+              inv .others _ (margin-not-block plan whole fits t (limited t below) l i b c)
+              (λ u h m j p q.
+              margins-apart plan whole fits u t h below (limited u (omega (arith, below))) (limited t below) m j l i p q b c)
               ∙ (rw (placed .shaped) at (ready .clear t below)) .at l i b c;
         }
 
@@ -157,14 +150,14 @@ module _ {plan : Plan} {k : ℕ} {shape : BlockShape} {count n : ℕ} {first : L
             sized = loaded-holds .sized;
           }
 
-      still-others : (z : ℕ) → Outside plan whole (t + 1) z
+      still-others : (z : ℕ) → OutsideBlock whole z → ((u : ℕ) → u < t + 1 → OutsideMargin plan whole u z)
           → wordAt (blockPass whole t (gainsFirstFilters plan t) loaded) z ≡ wordAt first z
       unfolding shapeOf
-      still-others z out =
+      still-others z outside apart =
           pass-in-place (placed .block) (gainsFirstFilters plan) edges Z t below (finish-order plan t) loaded loaded-holds
-          .elsewhere z (out .0)
-          ∙ load .elsewhere z (λ l i b c. out .1 t l i (omega arith) b c)
-          ∙ inv .others z (out .0, λ u l i b. out .1 u l i (omega arith))
+          .elsewhere z outside
+          ∙ load .elsewhere z (apart t (omega arith))
+          ∙ inv .others z outside (λ u h. apart u (omega arith))
 
       pub finish-turn : {after : List ℕ} → after ≡ blockPass shape t (filterWith words) loaded
           → Finishing plan k strips first count (t + 1) after
@@ -188,7 +181,7 @@ module _ {plan : Plan} {k : ℕ} {shape : BlockShape} {count n : ℕ} {first : L
       rw (placed .shaped)
       record {
         inside = rw (← e) (inv .holds .inside);
-        elsewhere = λ z outside apart. inv .others z (outside, rw e apart);
+        elsewhere = λ z outside apart. inv .others z outside (rw e apart);
         length-kept = inv .holds .sized ∙ sym (ready .sized);
       }
 

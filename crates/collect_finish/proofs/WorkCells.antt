@@ -1,7 +1,6 @@
 -- The block's pixels in the work array: their places, and the array once they are put in. Assumes nothing.
 use mathlib.Core.Path.{_≡_, ap, _∙_, fun-ext}
 use mathlib.Core.List.{List}
-use mathlib.Core.Logic.{_≢_}
 use Prim.Native.Nat.{ℕ, _<_}
 use native.Mathlib.Omega.{arith}
 use lib.ListN.{length, replicate, length-replicate}
@@ -13,13 +12,13 @@ use Rattle.axis.specs.Axis.{columns, forward}
 use Rattle.filter.specs.Windows.{windowWritten}
 use Rattle.filter.proofs.WindowWords.{window-written}
 use Rattle.grid.specs.declared.BlockShape.{BlockShape}
-use Rattle.collect_finish.specs.Work.{workStride, workWords, workCorner, workWindow, pixelIn, ShapeFits, blockLoaded}
+use Rattle.collect_finish.specs.Work.{workStride, workWords, workCorner, workWindow, pixelIn, OutsideBlock, ShapeFits, blockLoaded}
 use Rattle.collect_finish.proofs.WorkPlaces.{window-fits}
 
 -- The array is 0 outside the block.
 pub record ClearOutside (shape : BlockShape) (work : List ℕ) : Type 0 where
   pub sized : length work ≡ workWords
-  pub around : (z : ℕ) → ((y x : ℕ) → y < shape .rows → x < shape .columns → z ≢ pixelIn y x) → wordAt work z ≡ 0
+  pub around : (z : ℕ) → OutsideBlock shape z → wordAt work z ≡ 0
 
 -- The array holds the block's words, and zeros around them.
 pub record BlockRead (shape : BlockShape) (words : ℕ → ℕ → ℕ) (work : List ℕ) : Type 0 where

@@ -49,6 +49,10 @@ pub record ShapeFits (shape : BlockShape) : Type 0 where
 abbrev pub pixelIn : ℕ → ℕ → ℕ
 pixelIn y x = rowMajor workStride (orderLimit + y) (orderLimit + x)
 
+-- A place that is no pixel of the block.
+abbrev pub OutsideBlock : BlockShape → ℕ → Type 0
+OutsideBlock shape z = (y x : ℕ) → y < shape .rows → x < shape .columns → z ≢ pixelIn y x
+
 -- The words of the block in the array.
 abbrev pub blockWords : List ℕ → ℕ → ℕ → ℕ
 blockWords work y x = wordAt work (pixelIn y x)
@@ -81,6 +85,11 @@ marginFirst plan shape pass = marginStart (directionOf pass) (orderOf plan pass)
 abbrev pub marginPlace : Plan → BlockShape → ℕ → ℕ → ℕ → ℕ
 marginPlace plan shape pass l i = workPlace (axisOf pass) l (marginFirst plan shape pass + i)
 
+-- A place that is none of the margin of a pass.
+abbrev pub OutsideMargin : Plan → BlockShape → (pass z : ℕ) → Type 0
+OutsideMargin plan shape pass z =
+    (l i : ℕ) → l < shapeLines shape pass → i < orderOf plan pass → z ≢ marginPlace plan shape pass l i
+
 -- The margin of a pass is 0.
 pub record MarginClear (plan : Plan) (shape : BlockShape) (pass : ℕ) (work : List ℕ) : Type 0 where
   pub at : (l i : ℕ) → l < shapeLines shape pass → i < orderOf plan pass
@@ -92,10 +101,7 @@ pub record MarginLoaded (plan : Plan) (shape : BlockShape) (pass gain : ℕ) (st
   pub length-kept : length after ≡ length before
   pub at : (l i : ℕ) → l < shapeLines shape pass → i < orderOf plan pass
       → wordAt after (marginPlace plan shape pass l i) ≡ gain ⊗ stripRead strip strips l i
-  pub elsewhere : (z : ℕ)
-      → ((l i : ℕ) → l < shapeLines shape pass → i < orderOf plan pass
-      → z ≢ marginPlace plan shape pass l i)
-      → wordAt after z ≡ wordAt before z
+  pub elsewhere : (z : ℕ) → OutsideMargin plan shape pass z → wordAt after z ≡ wordAt before z
 
 -- ---- passes
 
@@ -116,8 +122,7 @@ pub record BlockPassed (shape : BlockShape) (pass : ℕ) (f : Filter) (before af
       → blockWords after y x
       ≡ filterLines (axisOf pass) (directionOf pass) f (shapeExtent shape pass) (marginWords shape pass before)
       (blockWords before) y x
-  pub elsewhere : (z : ℕ) → ((y x : ℕ) → y < shape .rows → x < shape .columns → z ≢ pixelIn y x)
-      → wordAt after z ≡ wordAt before z
+  pub elsewhere : (z : ℕ) → OutsideBlock shape z → wordAt after z ≡ wordAt before z
   pub length-kept : length after ≡ length before
 
 -- This holds of every pass of an allowed order over a block that the array holds.
@@ -135,9 +140,7 @@ pub record PassesRun (plan : Plan) (k : ℕ) (shape : BlockShape) (strips : List
         → blockWords after y x
         ≡ passesOver (gainsFirstFilters plan) (shape .rows) (shape .columns) (scaledEdges plan strips k 3) (blockWords before)
         t y x
-    pub elsewhere : (z : ℕ)
-        → ((y x : ℕ) → y < shape .rows → x < shape .columns → z ≢ pixelIn y x)
-        → ((u l i : ℕ) → u < t → l < shapeLines shape u → i < orderOf plan u → z ≢ marginPlace plan shape u l i)
+    pub elsewhere : (z : ℕ) → OutsideBlock shape z → ((pass : ℕ) → pass < t → OutsideMargin plan shape pass z)
         → wordAt after z ≡ wordAt before z
     pub length-kept : length after ≡ length before
 
