@@ -28,6 +28,12 @@ const CORNER: usize = MARGIN * STRIDE + MARGIN;
 // As many heights as a cache line of 64 bytes holds.
 const LINE_HEIGHTS: usize = 16;
 
+// The rows of a rectangle in a buffer: where the first begins, and how far apart they begin.
+struct Rows {
+    start: usize,
+    stride: usize,
+}
+
 // Block k's four strips: the passes over its pixels, zeros around it. The passes run with gain 1; a strip takes the
 // gains of its pass and of those before it.
 pub fn collect(plan: Plan, k: usize, map: &[i32], strips: &mut [u64])
@@ -59,17 +65,15 @@ pub fn finish(plan: Plan, k: usize, map: &[i32], strips: &[u64], output: &mut [u
     let mut work = [0; STRIDE * STRIDE];
     load_block(map, shape.start, grid.columns, shape, &mut work);
     run_passes(plan, k, shape, strips, 4, &mut work);
-    copy_rectangle(
-        &work,
-        CORNER,
-        STRIDE,
-        output,
-        shape.start,
-        grid.columns,
-        shape.rows,
-        shape.columns,
-        1,
-    );
+    let source = Rows {
+        start: CORNER,
+        stride: STRIDE,
+    };
+    let target = Rows {
+        start: shape.start,
+        stride: grid.columns,
+    };
+    copy_rectangle(&work, source, output, target, shape.rows, shape.columns, 1);
 }
 
 // The first `count` passes over the block in the work array (finish wants all four; what holds is said over their
@@ -119,27 +123,25 @@ fn copy_row(
 // not count.
 fn copy_columns(
     from: &[u64],
-    from_start: usize,
-    from_stride: usize,
+    source: Rows,
     to: &mut [u64],
-    to_start: usize,
-    to_stride: usize,
+    target: Rows,
     height: usize,
     width: usize,
     gain: u64,
 )
-    requires { ⌜ StrideFits (length (now from)) «from_start» «from_stride» height width × StrideFits (length (now to)) «to_start» «to_stride» height width × (width ≤ «to_stride») × (0 < height) ⌝ }
-    ensures { λ _. ⌜ now (to .exit) ≡ strideWritten «to_start» «to_stride» width (strideScaled gain (now (from .entry)) «from_start» «from_stride») height (now (to .entry)) ⌝ }
+    requires { ⌜ StrideFits (length (now from)) (source .start) (source .stride) height width × StrideFits (length (now to)) (target .start) (target .stride) height width × (width ≤ target .stride) × (0 < height) ⌝ }
+    ensures { λ _. ⌜ now (to .exit) ≡ strideWritten (target .start) (target .stride) width (strideScaled gain (now (from .entry)) (source .start) (source .stride)) height (now (to .entry)) ⌝ }
 {
     let mut column = 0;
     while column < width {
         buffer::scale_words(
             from,
-            from_start + column,
-            from_stride,
+            source.start + column,
+            source.stride,
             to,
-            to_start + column,
-            to_stride,
+            target.start + column,
+            target.stride,
             height,
             gain,
         );
@@ -150,25 +152,23 @@ fn copy_columns(
 // A rectangle, times a gain, row by row.
 fn copy_rows(
     from: &[u64],
-    from_start: usize,
-    from_stride: usize,
+    source: Rows,
     to: &mut [u64],
-    to_start: usize,
-    to_stride: usize,
+    target: Rows,
     height: usize,
     width: usize,
     gain: u64,
 )
-    requires { ⌜ StrideFits (length (now from)) «from_start» «from_stride» height width × StrideFits (length (now to)) «to_start» «to_stride» height width ⌝ }
-    ensures { λ _. ⌜ now (to .exit) ≡ strideWritten «to_start» «to_stride» width (strideScaled gain (now (from .entry)) «from_start» «from_stride») height (now (to .entry)) ⌝ }
+    requires { ⌜ StrideFits (length (now from)) (source .start) (source .stride) height width × StrideFits (length (now to)) (target .start) (target .stride) height width ⌝ }
+    ensures { λ _. ⌜ now (to .exit) ≡ strideWritten (target .start) (target .stride) width (strideScaled gain (now (from .entry)) (source .start) (source .stride)) height (now (to .entry)) ⌝ }
 {
     let mut row = 0;
     while row < height {
         copy_row(
             from,
-            from_start + row * from_stride,
+            source.start + row * source.stride,
             to,
-            to_start + row * to_stride,
+            target.start + row * target.stride,
             width,
             gain,
         );
@@ -180,42 +180,20 @@ fn copy_rows(
 // over a few words costs more than the words.
 fn copy_rectangle(
     from: &[u64],
-    from_start: usize,
-    from_stride: usize,
+    source: Rows,
     to: &mut [u64],
-    to_start: usize,
-    to_stride: usize,
+    target: Rows,
     height: usize,
     width: usize,
     gain: u64,
 )
-    requires { ⌜ StrideFits (length (now from)) «from_start» «from_stride» height width × StrideFits (length (now to)) «to_start» «to_stride» height width × (width ≤ «to_stride») ⌝ }
-    ensures { λ _. ⌜ now (to .exit) ≡ strideWritten «to_start» «to_stride» width (strideScaled gain (now (from .entry)) «from_start» «from_stride») height (now (to .entry)) ⌝ }
+    requires { ⌜ StrideFits (length (now from)) (source .start) (source .stride) height width × StrideFits (length (now to)) (target .start) (target .stride) height width × (width ≤ target .stride) ⌝ }
+    ensures { λ _. ⌜ now (to .exit) ≡ strideWritten (target .start) (target .stride) width (strideScaled gain (now (from .entry)) (source .start) (source .stride)) height (now (to .entry)) ⌝ }
 {
     if width < height {
-        return copy_columns(
-            from,
-            from_start,
-            from_stride,
-            to,
-            to_start,
-            to_stride,
-            height,
-            width,
-            gain,
-        );
+        return copy_columns(from, source, to, target, height, width, gain);
     }
-    copy_rows(
-        from,
-        from_start,
-        from_stride,
-        to,
-        to_start,
-        to_stride,
-        height,
-        width,
-        gain,
-    );
+    copy_rows(from, source, to, target, height, width, gain);
 }
 
 // The words of a row's heights. As many as a cache line holds are a loop of known length, which the compiler writes
@@ -333,17 +311,17 @@ fn load_margin(
     let first = strip.first;
     let places = strip.past - first;
     let index = margin_start(pass, described.order, shape.extent(pass)) + first;
-    copy_rectangle(
-        strips,
-        strip.first_at(first),
-        axis::along(pass, strip.place_step, strip.line_step),
-        work,
-        work_place(pass, index),
-        STRIDE,
-        axis::along(pass, places, strip.lines),
-        axis::across(pass, places, strip.lines),
-        gain,
-    );
+    let source = Rows {
+        start: strip.first_at(first),
+        stride: axis::along(pass, strip.place_step, strip.line_step),
+    };
+    let target = Rows {
+        start: work_place(pass, index),
+        stride: STRIDE,
+    };
+    let height = axis::along(pass, places, strip.lines);
+    let width = axis::across(pass, places, strip.lines);
+    copy_rectangle(strips, source, work, target, height, width, gain);
 }
 
 // Block k's strip of a pass from the work array, times a gain, zeros around the block; 0 where no neighbour needs the
@@ -372,15 +350,14 @@ fn write_strip(
     }
     let index = strips::edge_start(pass, order, shape.extent(pass));
     let width = axis::across(pass, order, side);
-    copy_rectangle(
-        work,
-        work_place(pass, index),
-        STRIDE,
-        strips,
-        start,
-        width,
-        axis::along(pass, order, side),
-        width,
-        gain,
-    );
+    let height = axis::along(pass, order, side);
+    let source = Rows {
+        start: work_place(pass, index),
+        stride: STRIDE,
+    };
+    let target = Rows {
+        start: start,
+        stride: width,
+    };
+    copy_rectangle(work, source, strips, target, height, width, gain);
 }

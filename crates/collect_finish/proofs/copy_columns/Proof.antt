@@ -9,30 +9,33 @@ use Rattle.collect_finish.proofs.copy_columns.Statement.{statement}
 use Rattle.collect_finish.proofs.copy_columns.Tie as tie
 
 abbrev Inv-loop : tie.InvT-loop
-Inv-loop from from-start from-stride to₀ to-start to-stride height width gain column₀ to column =
-    ColumnsWritten to-start to-stride width (strideScaled gain from from-start from-stride) height column to₀ to
+Inv-loop from source to₀ target height width gain column₀ to column =
+    ColumnsWritten (target .start) (target .stride) width (strideScaled gain from (source .start) (source .stride)) height column to₀ to
 
 abbrev μ-loop : tie.MeasureT-loop
-μ-loop from from-start from-stride to₀ to-start to-stride height width gain column₀ to column = width - column
+μ-loop from source to₀ target height width gain column₀ to column = width - column
 
 -- ---- stations
 
 abbrev start : tie.At-loop Inv-loop μ-loop → tie.Start Inv-loop μ-loop
 start c = c .before .before .before
 
+abbrev at-turn : tie.After-struct-known2 Inv-loop μ-loop → tie.In-loop Inv-loop μ-loop
+at-turn c = c .before .before .before
+
 abbrev in-turn : tie.After-scale-words Inv-loop μ-loop → tie.In-loop Inv-loop μ-loop
-in-turn c = c .before .before
+in-turn c = at-turn (c .before)
 
 -- ---- this column is in both buffers
 
 column-in-from : (c : tie.In-loop Inv-loop μ-loop)
     → let a = start (c .before) .args in
-    WordsFit (length (a .from .now)) (a .from-start + c .before .loop .column) (a .from-stride) (a .height)
+    WordsFit (length (a .from .now)) (a .source .start + c .before .loop .column) (a .source .stride) (a .height)
 column-in-from c = column-fits (start (c .before) .pre .0) (c .loop-test .taken)
 
 column-in-to : (c : tie.In-loop Inv-loop μ-loop)
     → let a = start (c .before) .args in
-    WordsFit (length (a .to .now)) (a .to-start + c .before .loop .column) (a .to-stride) (a .height)
+    WordsFit (length (a .to .now)) (a .target .start + c .before .loop .column) (a .target .stride) (a .height)
 column-in-to c = column-fits (start (c .before) .pre .1) (c .loop-test .taken)
 
 -- ---- needs
@@ -41,14 +44,17 @@ loop-holds : tie.Need-loop-holds Inv-loop μ-loop
 loop-holds c = columns-none
 
 add-scale-words : tie.Need-add-scale-words Inv-loop μ-loop
-add-scale-words c = let h = column-in-from c .inside 0 (start (c .before) .pre .3) in omega arith
+add-scale-words c = let h = column-in-from (c .before) .inside 0 (start (c .before .before) .pre .3) in omega arith
 
 add-scale-words-2 : tie.Need-add-scale-words-2 Inv-loop μ-loop
-add-scale-words-2 c = let h = column-in-to (c .before) .inside 0 (start (c .before .before) .pre .3) in omega arith
+add-scale-words-2 c =
+    let t = at-turn c in
+    let h = column-in-to t .inside 0 (start (t .before) .pre .3) in
+    omega arith
 
 scale-words-requires : tie.Need-scale-words-requires Inv-loop μ-loop
 scale-words-requires c κs =
-    let t = c .before in (column-in-from t, rw (t .before .loop .inv .length-kept) (column-in-to t))
+    let t = at-turn c in (column-in-from t, rw (t .before .loop .inv .length-kept) (column-in-to t))
 
 add-column : tie.Need-add-column Inv-loop μ-loop
 add-column c = search needs
@@ -62,7 +68,7 @@ loop-again c =
     let t = in-turn d in
     let l = t .before in
     let a = start l .args in
-    columns-more (a .gain) (a .from .now) (a .from-start) (a .from-stride) (l .loop .inv) (t .loop-test .taken)
+    columns-more (a .gain) (a .from .now) (a .source .start) (a .source .stride) (l .loop .inv) (t .loop-test .taken)
     (start l .pre .2) (d .scale-words .ensures)
 
 same-length : tie.Need-same-length Inv-loop μ-loop

@@ -9,30 +9,33 @@ use Rattle.collect_finish.proofs.copy_rows.Statement.{statement}
 use Rattle.collect_finish.proofs.copy_rows.Tie as tie
 
 abbrev Inv-loop : tie.InvT-loop
-Inv-loop from from-start from-stride to₀ to-start to-stride height width gain row₀ to row =
-    RowsWritten to-start to-stride width (strideScaled gain from from-start from-stride) height row to₀ to
+Inv-loop from source to₀ target height width gain row₀ to row =
+    RowsWritten (target .start) (target .stride) width (strideScaled gain from (source .start) (source .stride)) height row to₀ to
 
 abbrev μ-loop : tie.MeasureT-loop
-μ-loop from from-start from-stride to₀ to-start to-stride height width gain row₀ to row = height - row
+μ-loop from source to₀ target height width gain row₀ to row = height - row
 
 -- ---- stations
 
 abbrev start : tie.At-loop Inv-loop μ-loop → tie.Start Inv-loop μ-loop
 start c = c .before .before .before
 
+abbrev at-turn : tie.After-struct-known4 Inv-loop μ-loop → tie.In-loop Inv-loop μ-loop
+at-turn c = c .before .before .before .before .before
+
 abbrev in-turn : tie.After-copy-row Inv-loop μ-loop → tie.In-loop Inv-loop μ-loop
-in-turn c = c .before .before
+in-turn c = at-turn (c .before)
 
 -- ---- this row is in both buffers
 
 row-in-from : (c : tie.In-loop Inv-loop μ-loop)
     → let a = start (c .before) .args in
-    a .from-start + c .before .loop .row * a .from-stride + a .width ≤ length (a .from .now)
+    a .source .start + c .before .loop .row * a .source .stride + a .width ≤ length (a .from .now)
 row-in-from c = start (c .before) .pre .0 .row _ (c .loop-test .taken)
 
 row-in-to : (c : tie.In-loop Inv-loop μ-loop)
     → let a = start (c .before) .args in
-    a .to-start + c .before .loop .row * a .to-stride + a .width ≤ length (a .to .now)
+    a .target .start + c .before .loop .row * a .target .stride + a .width ≤ length (a .to .now)
 row-in-to c = start (c .before) .pre .1 .row _ (c .loop-test .taken)
 
 -- ---- needs
@@ -41,20 +44,20 @@ loop-holds : tie.Need-loop-holds Inv-loop μ-loop
 loop-holds c = rows-none
 
 mul-copy-row : tie.Need-mul-copy-row Inv-loop μ-loop
-mul-copy-row c = let h = row-in-from c in omega arith
+mul-copy-row c = let h = row-in-from (c .before) in omega arith
 
 add-copy-row : tie.Need-add-copy-row Inv-loop μ-loop
-add-copy-row c = let h = row-in-from c in omega arith
+add-copy-row c = let h = row-in-from (c .before .before) in omega arith
 
 mul-copy-row-2 : tie.Need-mul-copy-row-2 Inv-loop μ-loop
-mul-copy-row-2 c = let h = row-in-to (c .before) in omega arith
+mul-copy-row-2 c = let h = row-in-to (c .before .before .before .before) in omega arith
 
 add-copy-row-2 : tie.Need-add-copy-row-2 Inv-loop μ-loop
-add-copy-row-2 c = let h = row-in-to (c .before) in omega arith
+add-copy-row-2 c = let h = row-in-to (at-turn c) in omega arith
 
 copy-row-requires : tie.Need-copy-row-requires Inv-loop μ-loop
 copy-row-requires c κs =
-    let t = c .before in (row-in-from t, rw (t .before .loop .inv .length-kept) (row-in-to t))
+    let t = at-turn c in (row-in-from t, rw (t .before .loop .inv .length-kept) (row-in-to t))
 
 add-row : tie.Need-add-row Inv-loop μ-loop
 add-row c = search needs
@@ -68,7 +71,7 @@ loop-again c =
     let t = in-turn d in
     let l = t .before in
     let a = start l .args in
-    scaled-more (a .gain) (a .from .now) (a .from-start) (a .from-stride) (l .loop .inv) (t .loop-test .taken)
+    scaled-more (a .gain) (a .from .now) (a .source .start) (a .source .stride) (l .loop .inv) (t .loop-test .taken)
     (d .copy-row .ensures)
 
 same-length : tie.Need-same-length Inv-loop μ-loop

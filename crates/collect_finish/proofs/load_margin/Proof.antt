@@ -26,7 +26,7 @@ abbrev at-margin : tie.After-along → tie.After-margin-start
 at-margin c = c .before .before
 
 abbrev at-steps : tie.After-across → tie.After-along
-at-steps c = c .before .before .before .before
+at-steps c = c .before .before .before
 
 -- ---- what is known there
 
@@ -79,7 +79,7 @@ along-requires : tie.Need-along-requires
 along-requires c κs = search needs
 
 work-place-requires : tie.Need-work-place-requires
-work-place-requires c κs = index-small (at-margin (c .before))
+work-place-requires c κs = index-small (at-margin c)
 
 along-requires-2 : tie.Need-along-requires-2
 along-requires-2 c κs = search needs
@@ -89,16 +89,17 @@ across-requires c κs = search needs
 
 copy-rectangle-requires : tie.Need-copy-rectangle-requires
 copy-rectangle-requires c κs =
-    let t = at-steps c in
+    let x = c .before in
+    let t = at-steps x in
     let m = at-margin t in
     let b = at-strip (m .before) in
     let first = t .before .first-at .ensures in
     let step = t .along .ensures in
-    let place = c .before .before .work-place .ensures in
-    let tall = c .before .along2 .ensures in (
-      strip-in-strips (start b .pre .moves) (b .strip-before .ensures) (start-is m) first step place tall (c .across .ensures),
-      strip-in-work (start b .pre .moves) (b .strip-before .ensures) (start-is m) first step place tall (c .across .ensures),
-      strip-narrow (start b .pre .moves) (b .strip-before .ensures) (start-is m) first step place tall (c .across .ensures),
+    let place = x .before .before .work-place .ensures in
+    let tall = x .before .along2 .ensures in (
+      strip-in-strips (start b .pre .moves) (b .strip-before .ensures) (start-is m) first step place tall (x .across .ensures),
+      strip-in-work (start b .pre .moves) (b .strip-before .ensures) (start-is m) first step place tall (x .across .ensures),
+      strip-narrow (start b .pre .moves) (b .strip-before .ensures) (start-is m) first step place tall (x .across .ensures),
     )
 
 same-length : tie.Need-same-length
@@ -107,7 +108,7 @@ same-length c = search needs
 returns : tie.Need-returns
 returns c =
     let d = c .before .before in
-    let x = d .before in
+    let x = d .before .before in
     let t = at-steps x in
     let m = at-margin t in
     let b = at-strip (m .before) in

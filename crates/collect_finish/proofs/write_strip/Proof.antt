@@ -39,11 +39,14 @@ at-extent c = c .before
 abbrev at-edge : tie.After-across → tie.After-edge-start
 at-edge c = c .before
 
-abbrev at-width : tie.After-work-place → tie.After-across
+abbrev at-width : tie.After-along → tie.After-across
 at-width c = c .before
 
-abbrev at-place : tie.After-along → tie.After-work-place
-at-place c = c .before .before
+abbrev at-height : tie.After-work-place → tie.After-along
+at-height c = c .before
+
+abbrev at-place : tie.After-copy-rectangle-arg → tie.After-work-place
+at-place c = c .before
 
 -- Where the strip starts in the work array.
 edge-is : (c : tie.After-edge-start)
@@ -111,25 +114,26 @@ edge-start-requires c κs = edge-asked (start (at-test (needed c .before)) .pre)
 across-requires : tie.Need-across-requires
 across-requires c κs = search needs
 
-work-place-requires : tie.Need-work-place-requires
-work-place-requires c κs =
-    let e = at-edge c in
-    omega (arith, edge-is e, edge-in-work (start (at-test (needed (at-extent e) .before)) .pre))
-
 along-requires : tie.Need-along-requires
 along-requires c κs = search needs
+
+work-place-requires : tie.Need-work-place-requires
+work-place-requires c κs =
+    let e = at-edge (at-width c) in
+    omega (arith, edge-is e, edge-in-work (start (at-test (needed (at-extent e) .before)) .pre))
 
 copy-rectangle-requires : tie.Need-copy-rectangle-requires
 copy-rectangle-requires c κs =
     let p = at-place c in
-    let x = at-width p in
+    let h = at-height p in
+    let x = at-width h in
     let e = at-edge x in
     let b = needed (at-extent e) .before in
     let starts = b .strip-start .ensures in
     let place = p .work-place .ensures in
     let wide = x .across .ensures in (
-      edge-fits (start (at-test b) .pre) starts (edge-is e) place (c .along .ensures) wide,
-      strip-in-strips (start (at-test b) .pre) starts (edge-is e) place (c .along .ensures) wide,
+      edge-fits (start (at-test b) .pre) starts (edge-is e) place (h .along .ensures) wide,
+      strip-in-strips (start (at-test b) .pre) starts (edge-is e) place (h .along .ensures) wide,
       omega arith,
     )
 
@@ -140,12 +144,13 @@ returns-2 : tie.Need-returns-2
 returns-2 c =
     let d = c .before .before in
     let p = at-place (d .before) in
-    let x = at-width p in
+    let h = at-height p in
+    let x = at-width h in
     let e = at-edge x in
     let t = needed (at-extent e) in
     let b = t .before in
     let a = start (at-test b) .args in
-    copied-strip (start (at-test b) .pre) (b .strip-start .ensures) (edge-is e) (p .work-place .ensures) (d .before .along .ensures)
+    copied-strip (start (at-test b) .pre) (b .strip-start .ensures) (edge-is e) (p .work-place .ensures) (h .along .ensures)
     (x .across .ensures) (a .gain) (a .work .now) (a .strips .now) (passed (goes-on-is (at-test (t .before))) (t .if1 .left))
     (d .copy-rectangle .ensures)
 
@@ -165,8 +170,8 @@ write-strip-spec =
     extent-requires
     edge-start-requires
     across-requires
-    work-place-requires
     along-requires
+    work-place-requires
     copy-rectangle-requires
     same-length-2
     returns-2)
