@@ -2,7 +2,9 @@
 // that is left of the job.
 //
 // The input has little-endian words of 32 bits: the plan up to its first word of kind 6, the heights, and pairs of a task and a
-// block. What is past the limits below is not looked at; a job that needs longer buffers is refused by 7.
+// block. What is past the limits below is not looked at. A job that needs more marks or strips than there is room for is
+// refused by 7 or 14 at its start; with too many pixels, or heights missing, each call is refused by 15 and none is
+// accepted.
 use libc::STDIN_FILENO;
 use libc::STDOUT_FILENO;
 use plan::Plan;

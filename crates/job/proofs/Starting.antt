@@ -1,26 +1,26 @@
 -- The marks that start leaves, one after another; and the ways out of start.
 -- Assumes nothing.
 use mathlib.Core.Path.{_≡_, ap, sym, _∙_}
-use mathlib.Core.List.{List, [], _∷_}
+use mathlib.Core.List.{List}
 use Prim.Native.Nat.{ℕ, _+_, _≤_}
-use lib.Dec.{ltb}
 use lib.ListN.{length, set}
-use borrow.Author.Tests.{ltb-false}
 use Rattle.refusal.specs.declared.Refusal.{Refusal}
 use Rattle.refusal.specs.declared.Outcome.{Outcome}
 use Rattle.refusal.specs.declared.Outcome.the-variants.{Accepted, Refused}
-use Rattle.refusal.specs.Table.{Row, _at_when_, firstDue, answerOf}
-use Rattle.refusal.proofs.Table.{not-due}
+use Rattle.refusal.specs.Refusals.{accepted}
+use Rattle.refusal.specs.Table.{answerOf}
 use Rattle.plan.specs.declared.Plan.{Plan}
 use Rattle.plan.specs.declared.Sizes.{Sizes}
 use Rattle.plan.specs.declared.PlanSizes.{PlanSizes}
 use Rattle.plan.specs.declared.PlanSizes.the-variants.{Known, Refused as NoSizes}
-use Rattle.plan.specs.Sizes.{sizesOf, planSizes, sizesGiven}
+use Rattle.plan.specs.Sizes.{sizesOf}
+use Rattle.plan.specs.FirstTests.{sizesFor, sizesGiven}
 use Rattle.plan.proofs.Known.{sizes-known, sizes-refused}
 use Rattle.tasks.proofs.Marking.{mark-nothing}
 use Rattle.buffer.specs.Written.{cleared}
 use Rattle.buffer.proofs.Written.{written-none, written-next}
-use Rattle.job_spec.specs.Calls.{startAnswer, unmarked, marksAfterStart, stripsAfterStart}
+use Rattle.job_spec.specs.Calls.{lentToStart, startAnswer, unmarked, marksAfterStart, stripsAfterStart}
+use Rattle.job_spec.proofs.Start.{start-tells}
 
 module _ (words : List ℕ) where
   pub unmarked-none : unmarked 0 words ≡ words
@@ -33,11 +33,6 @@ module _ (words : List ℕ) where
 
 -- ---- the ways out of start
 
--- The rows of the lengths that start tests.
-abbrev lengthsTested : Sizes → (marks strips : ℕ) → List Row
-lengthsTested sizes marks strips =
-    7 at 0 when ltb marks (sizes .marks) ∷ 7 at 0 when ltb strips (sizes .strips) ∷ []
-
 module _ (plan : Plan) (marks strips : List ℕ) where
   -- What start promises of an answer and of the lists that it leaves.
   abbrev Promised : Outcome → List ℕ → List ℕ → Type 0
@@ -45,36 +40,26 @@ module _ (plan : Plan) (marks strips : List ℕ) where
       (answerOf outcome ≡ startAnswer plan marks strips)
       × ((m ≡ marksAfterStart plan marks strips) × (s ≡ stripsAfterStart plan marks strips))
 
-  kept : (refusal : Refusal) → answerOf (Refused refusal) ≡ startAnswer plan marks strips
-      → Promised (Refused refusal) marks strips
-  unfolding marksAfterStart stripsAfterStart
-  kept refusal e = (e, (rw (← e), rw (← e)))
+  module _ (known : PlanSizes) (is : sizesGiven known ≡ sizesFor plan (lentToStart marks strips)) where
+    pub start-refused : (refusal : Refusal) → known ≡ NoSizes refusal → Promised (Refused refusal) marks strips
+    unfolding startAnswer marksAfterStart stripsAfterStart
+    start-refused refusal e =
+        let refuses = sizes-refused plan (lentToStart marks strips) known is refusal e in
+        (refuses, (rw (← refuses), rw (← refuses)))
 
-  module _ (known : PlanSizes) (is : sizesGiven known ≡ planSizes plan) where
-    pub start-broken : (refusal : Refusal) → known ≡ NoSizes refusal → Promised (Refused refusal) marks strips
-    unfolding startAnswer
-    start-broken refusal e = let (broken, same) = sizes-refused plan known is refusal e in kept refusal (rw (same, broken))
+    module _ (sizes : Sizes) (e : known ≡ Known sizes) where
+      accepts : startAnswer plan marks strips ≡ accepted
+      unfolding startAnswer
+      accepts = sizes-known plan (lentToStart marks strips) known is sizes e .0
 
-    module _ (sizes : Sizes) (e : known ≡ Known sizes) (tested : Outcome)
-        (lengths : answerOf tested ≡ firstDue (lengthsTested sizes (length marks) (length strips))) where
-      -- Of a record that keeps the rules the lengths decide.
-      answered : answerOf tested ≡ startAnswer plan marks strips
-      unfolding startAnswer sizesOf
-      answered = let (rules, are) = sizes-known plan known is sizes e in rw rules (rw are at lengths)
+      are : sizes ≡ sizesOf plan
+      are = sizes-known plan (lentToStart marks strips) known is sizes e .1
 
-      pub start-short : (refusal : Refusal) → tested ≡ Refused refusal → Promised (Refused refusal) marks strips
-      start-short refusal f = kept refusal (rw f at answered)
+      pub long-enough : (sizes .marks ≤ length marks) × (sizes .strips ≤ length strips)
+      unfolding sizesOf
+      long-enough = let enough = start-tells plan marks strips accepts in rw are (enough .of7-long, enough .strips-long)
 
-      pub long-enough : tested ≡ Accepted → (sizes .marks ≤ length marks) × (sizes .strips ≤ length strips)
-      long-enough f =
-          let first = not-due _ _ _ _ (sym (rw f at lengths)) in
-          let second = not-due _ _ _ _ (first .others) in
-          (ltb-false (length marks) (sizes .marks) (first .first), ltb-false (length strips) (sizes .strips) (second .first))
-
-      pub start-accepted : tested ≡ Accepted → (m s : List ℕ) → m ≡ unmarked (sizes .marks) marks
-          → s ≡ cleared 0 1 (sizes .strips) strips → Promised Accepted m s
+      pub start-accepted : (m s : List ℕ) → m ≡ unmarked (sizes .marks) marks → s ≡ cleared 0 1 (sizes .strips) strips
+          → Promised Accepted m s
       unfolding sizesOf marksAfterStart stripsAfterStart
-      start-accepted f m s p q =
-          let are = sizes-known plan known is sizes e .1 in
-          let accepts = rw f at answered in
-          (accepts, (rw (← accepts) (rw are at p), rw (← accepts) (rw are at q)))
+      start-accepted m s p q = (sym accepts, (rw accepts (rw are at p), rw accepts (rw are at q)))

@@ -6,21 +6,21 @@ use Prim.Native.Nat.{ℕ, zero, suc, _+_, _-_, _^_, _<_}
 use native.Mathlib.Omega.{arith}
 use lib.IntN.{ℤ}
 use lib.ListN.{length, getD}
-use borrow.Author.Tests.{lt-ltb, ne-eqb, not-false}
+use borrow.Author.Tests.{lt-ltb, ne-eqb}
 use Rattle.refusal.specs.declared.Refusal.{Refusal}
 use Rattle.refusal.specs.declared.Outcome.{Outcome}
 use Rattle.refusal.specs.declared.Outcome.the-variants.{Accepted, Refused}
 use Rattle.refusal.specs.Refusals.{accepted}
-use Rattle.refusal.specs.Table.{firstDue, answerOf, firstOf}
-use Rattle.refusal.proofs.Table.{first-append, refused-before, accepted-before, not-due, first-accepted, second-accepted}
+use Rattle.refusal.specs.Table.{Row, firstDue, answerOf}
+use Rattle.refusal.proofs.Table.{refused-before, accepted-before, rows-accepted}
+use Rattle.plan.specs.declared.Lengths.{Lengths}
 use Rattle.plan.specs.declared.Plan.{Plan}
 use Rattle.plan.specs.declared.Sizes.{Sizes}
 use Rattle.plan.specs.declared.PlanSizes.{PlanSizes}
 use Rattle.plan.specs.declared.PlanSizes.the-variants.{Known, Refused as NoSizes}
-use Rattle.plan.specs.Rules.{keepsRules}
-use Rattle.plan.specs.Sizes.{sizesOf, planSizes, sizesGiven, lengthRows}
+use Rattle.plan.specs.FirstTests.{lentRows, sizesFor, sizesGiven}
+use Rattle.plan.proofs.FirstTests.{suffices}
 use Rattle.plan.proofs.Known.{sizes-known, sizes-refused}
-use Rattle.plan.proofs.Lengths.{long-enough}
 use Rattle.plan.proofs.Record.{rules}
 use Rattle.tasks.specs.Lent.{Lent}
 use Rattle.tasks.specs.Marks.{withBit}
@@ -28,44 +28,38 @@ use Rattle.tasks.specs.Verdict.{verdictRows}
 use Rattle.tasks.proofs.Verdicts.{accepted-settable}
 use Rattle.filter.specs.PlanFilters.{mapOf}
 use Rattle.task_words.specs.Writes.{collected, linked, finished}
-use Rattle.job_spec.specs.Calls.{Buffers, lists, lentRows, taskAnswer, stripsAfter, outputAfter, performed, afterTask}
+use Rattle.job_spec.specs.Calls.{Buffers, lists, lentToTask, taskAnswer, stripsAfter, outputAfter, performed, afterTask}
 use Rattle.job.specs.Fits.{Fits}
 
 -- ---- the answer
 
 module _ (plan : Plan) (heights : List ℤ) (marks strips output : List ℕ) (t k : ℕ) where
-  module _ (known : PlanSizes) (is : sizesGiven known ≡ planSizes plan) where
-    pub answer-broken : (refusal : Refusal) → known ≡ NoSizes refusal
+  -- What the call is lent, and what the marks say.
+  abbrev lent : Lengths
+  lent = lentToTask heights (lists marks strips output)
+
+  abbrev verdict : List Row
+  verdict = verdictRows (plan .grid) marks t k
+
+  module _ (known : PlanSizes) (is : sizesGiven known ≡ sizesFor plan lent) where
+    pub answer-lent : (refusal : Refusal) → known ≡ NoSizes refusal
         → answerOf (Refused refusal) ≡ taskAnswer plan heights (lists marks strips output) t k
-    unfolding taskAnswer lentRows
-    answer-broken refusal e = let (broken, same) = sizes-refused plan known is refusal e in rw (same, broken)
+    unfolding taskAnswer
+    answer-lent refusal e = refused-before (lentRows plan lent) verdict (sizes-refused plan lent known is refusal e)
 
-    module _ (sizes : Sizes) (e : known ≡ Known sizes) (tested : Outcome)
-        (lengths : answerOf tested
-        ≡ firstDue (lengthRows sizes (length marks) (length strips) (length heights) (length output))) where
-      -- Of a record that keeps the rules the lengths decide.
-      lengths-lent : answerOf tested ≡ firstDue (lentRows plan heights (lists marks strips output))
-      unfolding lentRows
-      lengths-lent = let (keeps, are) = sizes-known plan known is sizes e in rw keeps (rw are at lengths)
+    module _ (sizes : Sizes) (e : known ≡ Known sizes) where
+      accepts : firstDue (lentRows plan lent) ≡ accepted
+      accepts = sizes-known plan lent known is sizes e .0
 
-      pub answer-short : (refusal : Refusal) → tested ≡ Refused refusal
-          → answerOf (Refused refusal) ≡ taskAnswer plan heights (lists marks strips output) t k
-      unfolding taskAnswer
-      answer-short refusal f = refused-before (lentRows plan heights (lists marks strips output)) _ (rw f at lengths-lent)
-
-      pub answer-marks : tested ≡ Accepted → (outcome : Outcome)
-          → answerOf outcome ≡ firstDue (verdictRows (plan .grid) marks t k)
+      pub answer-marks : (outcome : Outcome) → answerOf outcome ≡ firstDue verdict
           → answerOf outcome ≡ taskAnswer plan heights (lists marks strips output) t k
       unfolding taskAnswer
-      answer-marks f outcome v =
-          rw (accepted-before (lentRows plan heights (lists marks strips output)) _ (rw f at lengths-lent)) v
+      answer-marks outcome v = v ∙ sym (accepted-before (lentRows plan lent) verdict (sym accepts))
 
-      pub marks-lent : tested ≡ Accepted → Lent (plan .grid) (length marks)
-      unfolding sizesOf
-      marks-lent f =
-          let (keeps, are) = sizes-known plan known is sizes e in
-          let long = long-enough sizes (length marks) (length strips) (length heights) (length output) (sym (rw f at lengths)) in
-          record { kept = rules plan keeps .grid-kept; enough = rw are at (long .marks-long) }
+      pub marks-lent : Lent (plan .grid) (length marks)
+      marks-lent =
+          let enough = suffices plan lent accepts in
+          record { kept = rules plan (enough .rules) .grid-kept; enough = enough .of7-long }
 
 -- ---- an accepted call
 
@@ -77,29 +71,24 @@ pub record Performable (plan : Plan) (heights : List ℤ) (marks strips output :
 
 pub performable : (plan : Plan) (heights : List ℤ) (marks strips output : List ℕ) (t k : ℕ)
     → taskAnswer plan heights (lists marks strips output) t k ≡ accepted → Performable plan heights marks strips output t k
-unfolding taskAnswer lentRows sizesOf
+unfolding taskAnswer
 performable plan heights marks strips output t k e =
-    let kept = not-due _ _ _ _ e in
-    let lengths = lengthRows (sizesOf plan) (length marks) (length strips) (length heights) (length output) in
+    let lent = lentToTask heights (lists marks strips output) in
     let verdict = verdictRows (plan .grid) marks t k in
-    let both : firstOf (firstDue lengths) (firstDue verdict) ≡ accepted = sym (first-append lengths verdict) ∙ kept .others in
-    let long =
-    long-enough (sizesOf plan) (length marks) (length strips) (length heights) (length output)
-    (first-accepted (firstDue lengths) (firstDue verdict) both) in
-    let settable =
-    accepted-settable (plan .grid) marks t k
-    (second-accepted (firstDue lengths) (firstDue verdict) both) in
+    let (tested, judged) = rows-accepted (lentRows plan lent) verdict e in
+    let enough = suffices plan lent tested in
+    let settable = accepted-settable (plan .grid) marks t k judged in
     record {
       fits =
           record {
-            rules = not-false (keepsRules plan) (kept .first);
+            rules = enough .rules;
             task-below = settable .task;
             block-below = settable .block;
-            map-long = long .map-long;
-            strips-long = long .strips-long;
-            output-long = long .output-long;
+            map-long = enough .map-long;
+            strips-long = enough .strips-long;
+            output-long = enough .output-long;
           };
-      mark-there = omega (arith, settable .block, long .marks-long);
+      mark-there = omega (arith, settable .block, enough .of7-long);
       room = settable .room;
     }
 

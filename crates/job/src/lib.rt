@@ -1,4 +1,7 @@
 // The calls of a job: the start, one task, and a list of tasks one after another.
+use plan::BufferOf7;
+use plan::Length;
+use plan::Lengths;
 use plan::Plan;
 use plan::PlanSizes;
 use refusal::Outcome;
@@ -17,13 +20,15 @@ pub fn start(plan: Plan, marks: &mut [u32], strips: &mut [u64]) -> Outcome
     ensures marked { λ _. ⌜ now (marks .exit) ≡ marksAfterStart plan (now (marks .entry)) (now (strips .entry)) ⌝ }
     ensures stripped { λ _. ⌜ now (strips .exit) ≡ stripsAfterStart plan (now (marks .entry)) (now (strips .entry)) ⌝ }
 {
-    let known = plan.sizes();
+    let lent = Lengths {
+        of7: BufferOf7::Marks(marks.len()),
+        strips: Length::Of(strips.len()),
+        map: Length::NotLent,
+        output: Length::NotLent,
+    };
+    let known = plan.sizes_for(lent);
     match known {
         PlanSizes::Known(sizes) => {
-            let lengths = sizes.marks_and_strips(marks.len(), strips.len());
-            if let Outcome::Refused(refusal) = lengths {
-                return Outcome::Refused(refusal);
-            }
             unmark(marks, sizes.marks);
             buffer::clear_words(strips, 0, 1, sizes.strips);
             Outcome::Accepted
@@ -67,7 +72,7 @@ pub fn task(
     }
 }
 
-// The answer to a call of a task at a block: 6, 7, and then what the marks say.
+// The answer to a call of a task at a block: that of the record and of the lengths, and then what the marks say.
 fn task_outcome(
     plan: Plan,
     task: usize,
@@ -79,15 +84,15 @@ fn task_outcome(
 ) -> Outcome
     ensures { λ r. ⌜ answerOf r ≡ taskAnswer plan (now (map .entry)) (lists (now (marks .entry)) (now (strips .entry)) (now (output .entry))) task block ⌝ }
 {
-    let known = plan.sizes();
+    let lent = Lengths {
+        of7: BufferOf7::Marks(marks.len()),
+        strips: Length::Of(strips.len()),
+        map: Length::Of(map.len()),
+        output: Length::Of(output.len()),
+    };
+    let known = plan.sizes_for(lent);
     match known {
-        PlanSizes::Known(sizes) => {
-            let lengths = sizes.all_lent(marks.len(), strips.len(), map.len(), output.len());
-            if let Outcome::Refused(refusal) = lengths {
-                return Outcome::Refused(refusal);
-            }
-            tasks::verdict(plan.grid, marks, task, block)
-        }
+        PlanSizes::Known(_) => tasks::verdict(plan.grid, marks, task, block),
         PlanSizes::Refused(refusal) => Outcome::Refused(refusal),
     }
 }

@@ -2,22 +2,20 @@
 -- Assumes nothing.
 use mathlib.Core.Path.{_≡_, refl, ap, ap₂, sym, _∙_}
 use mathlib.Core.Bool.{Bool, true, false, cond, false≢true}
-use mathlib.Core.List.{List, [], _∷_, map}
-use mathlib.Core.Logic.{_⊎_, ⊎-elim}
+use mathlib.Core.List.{List, [], _∷_}
 use Prim.Native.Nat.{ℕ, _+_, _*_, _≤_, _<_}
 use native.Mathlib.Omega.{arith}
 use lib.IntN.{ℤ}
-use lib.Dec.{ltb}
 use lib.ListN.{length}
-use borrow.Author.Tests.{lt-ltb, le-ltb}
-use Rattle.refusal.specs.Refusals.{accepted, refused}
-use Rattle.refusal.specs.Table.{_at_when_, firstDue}
-use Rattle.refusal.proofs.Table.{refused-before}
+use Rattle.refusal.specs.Refusals.{accepted}
+use Rattle.refusal.proofs.Table.{accepted-before}
 use Rattle.plan.specs.declared.Plan.{Plan}
 use Rattle.plan.specs.Rules.{keepsRules}
-use Rattle.plan.specs.Sizes.{neededMarks, neededStrips, neededPixels, taskCount, sizesOf}
+use Rattle.plan.specs.Sizes.{neededMarks, neededStrips, neededPixels, taskCount}
+use Rattle.plan.specs.FirstTests.{lentRows}
 use Rattle.buffer.specs.Lists.{wordAt}
 use Rattle.buffer.specs.Written.{cleared}
+use Rattle.plan.proofs.FirstTests.{Suffices, lent-accepted}
 use Rattle.plan.proofs.Needed.{bounds}
 use Rattle.tasks.specs.Tasks.{BlockTask, hasTask, ready, nothingDone, alsoDone}
 use Rattle.tasks.specs.Counts.{doneCount}
@@ -37,18 +35,18 @@ use Rattle.serial.proofs.FirstWords.{first-words}
 use Rattle.grid.proofs.Blocks.{pixel-below}
 use Rattle.task_words.proofs.Places.{side-fits}
 use Rattle.task_words.proofs.Strips.{strip-place-below}
-use Rattle.job_spec.specs.Calls.{Buffers, startAnswer, unmarked, marksAfterStart, stripsAfterStart, started, lentRows, taskAnswer, performed, afterTask, afterCalls, answersOf, acceptedCount}
-use Rattle.job_spec.specs.Demand3.{doneBy, doneFrom, doneAfter, dueAnswer, dueFrom, progressAfter, Finished, Demand3, RefusedThroughout, ShortRefused}
+use Rattle.job_spec.specs.Calls.{Buffers, lentToStart, startAnswer, unmarked, marksAfterStart, stripsAfterStart, started, lentToTask, taskAnswer, performed, afterTask, afterCalls, answersOf, acceptedCount}
+use Rattle.job_spec.specs.Demand3.{doneBy, doneFrom, doneAfter, dueAnswer, dueFrom, progressAfter, Finished, Demand3}
 use Rattle.job_spec.proofs.CallAnswers.{by-ready, accepted-if-ready}
 use Rattle.job_spec.proofs.Accepted.{accepted-done, once}
 use Rattle.job_spec.proofs.Cover.{pixel-of}
-use Rattle.job_spec.proofs.Invariant.{OutputKept, Kept, LongEnough}
+use Rattle.job_spec.proofs.Invariant.{OutputKept, Kept}
 use Rattle.job_spec.proofs.Step.{step}
-use Rattle.job_spec.proofs.Start.{Accepts, start-tells}
+use Rattle.job_spec.proofs.Start.{start-tells}
 
 -- ---- one call
 
-module _ (plan : Plan) (heights : List ℤ) (before : Buffers) (enough : LongEnough plan heights before) where
+module _ (plan : Plan) (heights : List ℤ) (before : Buffers) (enough : Suffices plan (lentToTask heights before)) where
   only : (done : ℕ → ℕ → Bool) → Sound (plan .grid) done
       → Only (plan .grid) done
   only done sound t k _ _ e = sound .exist t k e
@@ -56,17 +54,19 @@ module _ (plan : Plan) (heights : List ℤ) (before : Buffers) (enough : LongEno
   -- A call is answered by what is done.
   pub answered : (done : ℕ → ℕ → Bool) (now : Buffers) → Kept plan heights before done now → (call : BlockTask)
       → taskAnswer plan heights now (call .task) (call .block) ≡ dueAnswer plan done call
-  unfolding taskAnswer lentRows sizesOf dueAnswer
+  unfolding taskAnswer dueAnswer
   answered done now kept call =
-      rw (
-        enough .rules,
-        le-ltb (length (now .marks)) (neededMarks plan) (rw (kept .marks-kept .long) (enough .marks-long)),
-        le-ltb (length (now .strips)) (neededStrips plan) (rw (kept .strips-kept .long) (enough .strips-long)),
-        le-ltb (length heights) (neededPixels plan) (enough .map-long),
-        le-ltb (length (now .output)) (neededPixels plan) (rw (kept .output-kept .long) (enough .output-long)),
-      )
-      (verdict-shown (plan .grid) done (now .marks) (kept .marks-kept .shows) (only done (kept .sound))
-      (call .task) (call .block))
+      let enough-now : Suffices plan (lentToTask heights now) =
+      record {
+        rules = enough .rules;
+        of7-long = rw (kept .marks-kept .long) (enough .of7-long);
+        strips-long = rw (kept .strips-kept .long) (enough .strips-long);
+        map-long = enough .map-long;
+        output-long = rw (kept .output-kept .long) (enough .output-long);
+      } in
+      accepted-before (lentRows plan (lentToTask heights now)) _ (sym (lent-accepted plan (lentToTask heights now) enough-now))
+      ∙ verdict-shown (plan .grid) done (now .marks) (kept .marks-kept .shows) (only done (kept .sound)) (call .task)
+      (call .block)
 
   call-kept : (done : ℕ → ℕ → Bool) (now : Buffers) → Kept plan heights before done now → (call : BlockTask)
       → Kept plan heights before (doneBy plan done call) (afterTask plan heights (call .task) (call .block) now)
@@ -83,7 +83,7 @@ module _ (plan : Plan) (heights : List ℤ) (before : Buffers) (enough : LongEno
           (cond test (performed plan heights (call .task) (call .block) now) now)
       by true r =
           step plan (side-fits plan (enough .rules)) heights before now done kept
-          (rw (kept .marks-kept .long) (enough .marks-long))
+          (rw (kept .marks-kept .long) (enough .of7-long))
           (rw (kept .strips-kept .long) (enough .strips-long))
           (rw (kept .output-kept .long) (enough .output-long)) (call .task) (call .block) r
       by false r = kept
@@ -116,7 +116,7 @@ compared plan lent =
     record { marks = lent .marks; strips = cleared 0 1 (neededStrips plan) (lent .strips); output = lent .output }
 
 module _ (plan : Plan) (heights : List ℤ) (lent : Buffers) (start-accepted : startAnswer plan (lent .marks) (lent .strips) ≡ accepted)
-    (accepts : Accepts plan (lent .marks) (lent .strips)) where
+    (accepts : Suffices plan (lentToStart (lent .marks) (lent .strips))) where
   -- The needed strip words are 0, the others as lent.
   started-zero : (q : ℕ) → q < neededStrips plan → wordAt (cleared 0 1 (neededStrips plan) (lent .strips)) q ≡ 0
   unfolding cleared
@@ -135,13 +135,13 @@ module _ (plan : Plan) (heights : List ℤ) (lent : Buffers) (start-accepted : s
   started-length = written-length _ _ (neededStrips plan) (lent .strips)
 
   long-enough : neededPixels plan ≤ length heights → neededPixels plan ≤ length (lent .output)
-      → LongEnough plan heights (compared plan lent)
+      → Suffices plan (lentToTask heights (compared plan lent))
   long-enough map-long output-long =
       record {
         rules = accepts .rules;
-        map-long = map-long;
-        marks-long = accepts .marks-long;
+        of7-long = accepts .of7-long;
         strips-long = rw started-length (accepts .strips-long);
+        map-long = map-long;
         output-long = output-long;
       }
 
@@ -156,7 +156,7 @@ module _ (plan : Plan) (heights : List ℤ) (lent : Buffers) (start-accepted : s
               long = written-length _ _ (neededMarks plan) (lent .marks);
               shows = λ k h.
                   written-at (λ k. k) (λ k. markOf nothingDone k) (neededMarks plan) (lent .marks) (λ i j a b. omega arith)
-                  (λ i a. omega (arith, accepts .marks-long)) k h;
+                  (λ i a. omega (arith, accepts .of7-long)) k h;
               past = λ k h. written-other _ _ (neededMarks plan) (lent .marks) k (λ i a. omega arith);
             };
         strips-kept =
@@ -215,7 +215,7 @@ demand3 plan heights lent start-accepted map-long output-long calls =
     let now = afterCalls plan heights calls (started plan lent) in
     let made : report plan (now .marks) ≡ record { answer = accepted; value = valuesOf (progressAfter plan calls) } =
     reported plan (accepts .rules) done (only plan heights before enough done (kept .sound)) (now .marks)
-    (rw (kept .marks-kept .long) (accepts .marks-long)) (kept .marks-kept .shows) in
+    (rw (kept .marks-kept .long) (accepts .of7-long)) (kept .marks-kept .shows) in
     let says = told plan (accepts .rules) done (only plan heights before enough done (kept .sound)) in
     record {
       finished-blocks = kept .output-kept .finished;
@@ -267,63 +267,3 @@ next-ready plan heights lent start-accepted map-long output-long calls t k e =
     let call : BlockTask = record { task = t; block = k } in
     accepted-if-ready plan (doneFrom plan nothingDone calls) call .0
     (sym (answered plan heights before enough (doneFrom plan nothingDone calls) _ kept call) ∙ e)
-
--- ---- a record or a length that refuses
-
-module _ (plan : Plan) (heights : List ℤ) (now : Buffers) (number place : ℕ)
-    (refuses : firstDue (lentRows plan heights now) ≡ refused number place) where
-  refused-call : (t k : ℕ) → taskAnswer plan heights now t k ≡ refused number place
-  unfolding taskAnswer
-  refused-call t k = sym (refused-before (lentRows plan heights now) _ (sym refuses))
-
-  unchanged : (t k : ℕ) → afterTask plan heights t k now ≡ now
-  unfolding afterTask
-  unchanged t k = rw (refused-call t k)
-
-  all-unchanged : (calls : List BlockTask) → afterCalls plan heights calls now ≡ now
-  unfolding afterCalls
-  all-unchanged [] = refl
-  all-unchanged (call ∷ calls) =
-      ap (afterCalls plan heights calls) (unchanged (call .task) (call .block)) ∙ all-unchanged calls
-
-  all-refused : (calls : List BlockTask) → answersOf plan heights calls now ≡ map (λ call. refused number place) calls
-  unfolding answersOf
-  all-refused [] = refl
-  all-refused (call ∷ calls) =
-      ap₂ _∷_ (refused-call (call .task) (call .block))
-      (ap (answersOf plan heights calls) (unchanged (call .task) (call .block)) ∙ all-refused calls)
-
-pub refused-throughout : RefusedThroughout
-refused-throughout plan heights now number place refuses calls =
-    (all-unchanged plan heights now number place refuses calls, all-refused plan heights now number place refuses calls)
-
-short-lists : (plan : Plan) (heights : List ℤ) (lent : Buffers) → startAnswer plan (lent .marks) (lent .strips) ≡ accepted
-    → (length heights < neededPixels plan) ⊎ (length (lent .output) < neededPixels plan)
-    → firstDue (lentRows plan heights (started plan lent)) ≡ refused 7 0
-unfolding lentRows sizesOf started
-short-lists plan heights lent e =
-    let rules = start-tells plan (lent .marks) (lent .strips) e .rules in
-    let marks = ltb (length (started plan lent .marks)) (neededMarks plan) in
-    let strips = ltb (length (started plan lent .strips)) (neededStrips plan) in
-    ⊎-elim
-    (λ (h : length heights < neededPixels plan).
-    rw (rules, lt-ltb (length heights) (neededPixels plan) h) (first-two marks strips))
-    (λ (h : length (lent .output) < neededPixels plan).
-    rw (rules, lt-ltb (length (lent .output)) (neededPixels plan) h)
-    (first-three marks strips (ltb (length heights) (neededPixels plan))))
-  where
-    first-two : (a b : Bool) → firstDue (7 at 0 when a ∷ 7 at 0 when b ∷ 7 at 0 when true ∷ []) ≡ refused 7 0
-    first-two true b = refl
-    first-two false true = refl
-    first-two false false = refl
-
-    first-three : (a b c : Bool)
-        → firstDue (7 at 0 when a ∷ 7 at 0 when b ∷ 7 at 0 when c ∷ 7 at 0 when true ∷ []) ≡ refused 7 0
-    first-three true b c = refl
-    first-three false true c = refl
-    first-three false false true = refl
-    first-three false false false = refl
-
-pub short-refused : ShortRefused
-short-refused plan heights lent start-accepted few =
-    refused-throughout plan heights (started plan lent) 7 0 (short-lists plan heights lent start-accepted few)

@@ -7,9 +7,8 @@ use Prim.Native.Nat.{ℕ, suc, _≤_, _<_}
 use lib.IntN.{ℤ}
 use lib.ListN.{length}
 use Rattle.plan.specs.declared.Plan.{Plan}
-use Rattle.plan.specs.Rules.{keepsRules}
 use Rattle.grid.specs.Grid.{rowsOf, columnsOf, blockPixelPlace, partOf}
-use Rattle.plan.specs.Sizes.{neededMarks, neededStrips, neededPixels}
+use Rattle.plan.specs.Sizes.{neededMarks}
 use Rattle.buffer.specs.Lists.{wordAt}
 use Rattle.tasks.specs.Marks.{Shows}
 use Rattle.tasks.proofs.Progress.{Sound}
@@ -50,11 +49,3 @@ pub record Kept (plan : Plan) (heights : List ℤ) (before : Buffers) (done : �
   pub marks-kept : MarksKept plan (before .marks) done (now .marks)
   pub strips-kept : StripsKept plan (mapOf plan heights) (before .strips) done (now .strips)
   pub output-kept : OutputKept plan (mapOf plan heights) (before .output) done (now .output)
-
--- A plan that keeps the rules, and lists that are long enough.
-pub record LongEnough (plan : Plan) (heights : List ℤ) (buffers : Buffers) : Type 0 where
-  pub rules : keepsRules plan ≡ true
-  pub map-long : neededPixels plan ≤ length heights
-  pub marks-long : neededMarks plan ≤ length (buffers .marks)
-  pub strips-long : neededStrips plan ≤ length (buffers .strips)
-  pub output-long : neededPixels plan ≤ length (buffers .output)

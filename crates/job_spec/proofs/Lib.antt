@@ -4,4 +4,5 @@ pub mod Invariant
 pub mod Step
 pub mod Accepted
 pub mod Start
+pub mod AllRefused
 pub mod Demand3

@@ -1,16 +1,19 @@
 -- Start, the task call and a list of task calls: the exact answer, and the marks, strips and output after it.
--- Document 01, 'Blocks, marks and strips' and 'Refused calls'.
-use mathlib.Core.Bool.{not, cond}
+-- Document 01, 'Blocks, marks and strips' and 'Refused calls'; document 02, CR 4.
+use mathlib.Core.Bool.{cond}
 use mathlib.Core.List.{List, [], _∷_, _++_}
 use Prim.Native.Nat.{ℕ, zero, suc, _+_, min}
 use lib.IntN.{ℤ}
 use lib.Dec.{ltb, eqb}
 use lib.ListN.{length}
 use Rattle.refusal.specs.Refusals.{Answer}
-use Rattle.refusal.specs.Table.{Row, _at_when_, firstDue, ifAccepted}
+use Rattle.refusal.specs.Table.{firstDue, ifAccepted}
+use Rattle.plan.specs.declared.BufferOf7.the-variants.{Marks}
+use Rattle.plan.specs.declared.Length.the-variants.{NotLent, Of}
+use Rattle.plan.specs.declared.Lengths.{Lengths}
 use Rattle.plan.specs.declared.Plan.{Plan}
-use Rattle.plan.specs.Rules.{keepsRules}
-use Rattle.plan.specs.Sizes.{neededMarks, neededStrips, sizesOf, lengthRows}
+use Rattle.plan.specs.Sizes.{neededMarks, neededStrips}
+use Rattle.plan.specs.FirstTests.{lentRows}
 use Rattle.tasks.specs.Tasks.{BlockTask, nothingDone}
 use Rattle.tasks.specs.Marks.{markOf, withBit}
 use Rattle.tasks.specs.Verdict.{verdictRows}
@@ -31,14 +34,14 @@ lists marks strips output = record { marks = marks; strips = strips; output = ou
 
 -- ---- start
 
--- Start is lent marks and strips, and tests just those.
+-- Start is lent marks and strips,
+abbrev pub lentToStart : List ℕ → List ℕ → Lengths
+lentToStart marks strips =
+    record { of7 = Marks (length marks); strips = Of (length strips); map = NotLent; output = NotLent }
+
+-- and tests the record and just those: 6, 7 for the marks, 14 for the strips.
 unfoldable pub startAnswer : Plan → List ℕ → List ℕ → Answer
-startAnswer plan marks strips =
-    firstDue
-    (6 at 0 when not (keepsRules plan)
-    ∷ 7 at 0 when ltb (length marks) (neededMarks plan)
-    ∷ 7 at 0 when ltb (length strips) (neededStrips plan)
-    ∷ [])
+startAnswer plan marks strips = firstDue (lentRows plan (lentToStart marks strips))
 
 -- Marks of which the first n are of kind 7 with no bit.
 unfoldable pub unmarked : ℕ → List ℕ → List ℕ
@@ -64,17 +67,20 @@ started plan lent =
 
 -- ---- the task call
 
--- The record, and the lengths of the four lists that a task is lent: all are tested, also where the task doesn't read them.
-unfoldable pub lentRows : Plan → List ℤ → Buffers → List Row
-lentRows plan heights buffers =
-    6 at 0 when not (keepsRules plan)
-    ∷ lengthRows (sizesOf plan) (length (buffers .marks)) (length (buffers .strips)) (length heights) (length (buffers .output))
+-- A task is lent four lists: all are tested, also where the task doesn't read or write them.
+abbrev pub lentToTask : List ℤ → Buffers → Lengths
+lentToTask heights buffers =
+    record {
+      of7 = Marks (length (buffers .marks));
+      strips = Of (length (buffers .strips));
+      map = Of (length heights);
+      output = Of (length (buffers .output));
+    }
 
--- What a call of task t at block k answers: 6, 7, and then what the marks say, 8 to 11.
+-- What a call of task t at block k answers: 6, 7, 14, 15, 16, and then what the marks say, 8 to 11.
 unfoldable pub taskAnswer : Plan → List ℤ → Buffers → ℕ → ℕ → Answer
 taskAnswer plan heights buffers t k =
-    firstDue
-    (lentRows plan heights buffers ++ verdictRows (plan .grid) (buffers .marks) t k)
+    firstDue (lentRows plan (lentToTask heights buffers) ++ verdictRows (plan .grid) (buffers .marks) t k)
 
 -- The strips after an accepted task: collect writes the block's slot, a link the strip of its pass, finish none.
 unfoldable pub stripsAfter : Plan → List ℤ → ℕ → ℕ → List ℕ → List ℕ

@@ -1,8 +1,8 @@
 -- Demand 3: what is done after a list of task calls, by the list alone, and the one claim about the list.
--- Document 01, the paragraph on the words of demand 3.
+-- Document 01, the paragraph on the words of demand 3; document 02, CR 4.
 use mathlib.Core.Path.{_≡_}
 use mathlib.Core.Bool.{Bool, true, false, cond}
-use mathlib.Core.Logic.{_≢_, _⊎_}
+use mathlib.Core.Logic.{_≢_}
 use mathlib.Core.List.{List, [], _∷_, map}
 use Prim.Native.Nat.{ℕ, suc, _≤_, _<_}
 use lib.IntN.{ℤ}
@@ -13,6 +13,7 @@ use Rattle.plan.specs.declared.Plan.{Plan}
 use Rattle.plan.specs.Rules.{keepsRules}
 use Rattle.grid.specs.Grid.{rowsOf, columnsOf, partOf, blockPixelPlace}
 use Rattle.plan.specs.Sizes.{neededMarks, neededStrips, neededPixels, taskCount, orderOf}
+use Rattle.plan.specs.FirstTests.{lentRows}
 use Rattle.buffer.specs.Lists.{wordAt}
 use Rattle.tasks.specs.Tasks.{BlockTask, ready, nothingDone, alsoDone}
 use Rattle.tasks.specs.Counts.{doneCount}
@@ -26,7 +27,7 @@ use Rattle.task_words.specs.Strips.{stripPlace}
 use Rattle.filter.specs.PlanFilters.{mapOf, serialResult}
 use Rattle.task_words.specs.Writes.{aloneWord}
 use Rattle.task_words.specs.Matching.{matchingWord}
-use Rattle.job_spec.specs.Calls.{Buffers, startAnswer, started, lentRows, taskAnswer, afterCalls, answersOf, acceptedCount}
+use Rattle.job_spec.specs.Calls.{Buffers, startAnswer, started, lentToTask, taskAnswer, afterCalls, answersOf, acceptedCount}
 
 -- ---- what is done
 
@@ -177,18 +178,41 @@ StartAccepts =
     (plan : Plan) (marks strips : List ℕ) → keepsRules plan ≡ true → neededMarks plan ≤ length marks
     → neededStrips plan ≤ length strips → startAnswer plan marks strips ≡ accepted
 
--- Where the record or a length refuses a call, it refuses every call of a list by the same number and place, and nothing changes.
-abbrev pub RefusedThroughout : Type 0
-RefusedThroughout =
-    (plan : Plan) (heights : List ℤ) (now : Buffers) (number place : ℕ)
-    → firstDue (lentRows plan heights now) ≡ refused number place → (calls : List BlockTask)
+-- ---- where the record or a length refuses
+
+-- Of any list, every call is refused by this number at this place, and nothing changes.
+abbrev pub AllRefused : Plan → List ℤ → Buffers → (number place : ℕ) → Type 0
+AllRefused plan heights now number place =
+    (calls : List BlockTask)
     → (afterCalls plan heights calls now ≡ now)
     × (answersOf plan heights calls now ≡ map (λ call. refused number place) calls)
 
--- So after an accepted start, with a map or an output of fewer than h×w words, every call of a list is refused by 7 at place 0.
+-- Where the record or a length refuses, every call of every list is refused by that number and place.
+abbrev pub RefusedThroughout : Type 0
+RefusedThroughout =
+    (plan : Plan) (heights : List ℤ) (now : Buffers) (number place : ℕ)
+    → firstDue (lentRows plan (lentToTask heights now)) ≡ refused number place → AllRefused plan heights now number place
+
+-- The lists that are too short for a task, each by its number: `ShortBuffer` of what a task is lent, written out.
+pub data ShortForTask (plan : Plan) (heights : List ℤ) (now : Buffers) : ℕ → Type 0 where
+  marks-too-short : length (now .marks) < neededMarks plan → ShortForTask plan heights now 7
+  strips-too-short : length (now .strips) < neededStrips plan → ShortForTask plan heights now 14
+  map-too-short : length heights < neededPixels plan → ShortForTask plan heights now 15
+  output-too-short : length (now .output) < neededPixels plan → ShortForTask plan heights now 16
+
+-- So, beside a record that keeps the rules, where one or more of the four lists are too short, every call of every list
+-- is refused, whatever its task, by the least of their numbers at place 0;
 abbrev pub ShortRefused : Type 0
 ShortRefused =
+    (plan : Plan) (heights : List ℤ) (now : Buffers) (number : ℕ) → keepsRules plan ≡ true
+    → ShortForTask plan heights now number → ((other : ℕ) → ShortForTask plan heights now other → number ≤ other)
+    → AllRefused plan heights now number 0
+
+-- and after an accepted start by 15 with a map of fewer than h×w heights, else by 16 with an output of fewer than h×w
+-- words.
+abbrev pub ShortAfterStart : Type 0
+ShortAfterStart =
     (plan : Plan) (heights : List ℤ) (lent : Buffers) → startAnswer plan (lent .marks) (lent .strips) ≡ accepted
-    → (length heights < neededPixels plan) ⊎ (length (lent .output) < neededPixels plan) → (calls : List BlockTask)
-    → (afterCalls plan heights calls (started plan lent) ≡ started plan lent)
-    × (answersOf plan heights calls (started plan lent) ≡ map (λ call. refused 7 0) calls)
+    → (length heights < neededPixels plan → AllRefused plan heights (started plan lent) 15 0)
+    × (neededPixels plan ≤ length heights → length (lent .output) < neededPixels plan
+    → AllRefused plan heights (started plan lent) 16 0)

@@ -1,6 +1,6 @@
 -- The place of every refusal that a call can answer is below 2^32. Assumes nothing.
 use mathlib.Core.Path.{_≡_, refl}
-use mathlib.Core.Bool.{Bool, true, false, not, cond}
+use mathlib.Core.Bool.{Bool, true, false, cond}
 use mathlib.Core.List.{List, [], _∷_, _++_}
 use Prim.Native.Nat.{ℕ, zero, suc, _+_, _*_, _<_, _≤_}
 use native.Mathlib.Omega.{arith}
@@ -10,12 +10,14 @@ use lib.ListN.{length}
 use borrow.Author.Tests.{leb-true, ltb-true, not-false}
 use Rattle.refusal.specs.declared.Refusal.{Refusal}
 use Rattle.refusal.specs.Refusals.{placeOf, refused, placeIn}
-use Rattle.refusal.specs.Table.{Row, _at_when_, firstDue}
+use Rattle.refusal.specs.Table.{Row, firstDue}
+use Rattle.plan.specs.declared.BufferOf7.the-variants.{NoneOf7}
+use Rattle.plan.specs.declared.Lengths.{Lengths}
 use Rattle.plan.specs.declared.Plan.{Plan}
 use Rattle.plan.specs.declared.PlanSizes.{PlanSizes}
 use Rattle.plan.specs.declared.PlanSizes.the-variants as sizes
 use Rattle.plan.specs.Rules.{keepsRules}
-use Rattle.plan.specs.Sizes.{wordCount, neededMarks, neededStrips, neededPixels, sizesOf, planSizes, sizesGiven}
+use Rattle.plan.specs.FirstTests.{lentRows, onlyOf7, sizesFor, planSizes, sizesGiven}
 use Rattle.grid.specs.Grid.{blockTotal}
 use Rattle.plan.proofs.Needed.{bounds}
 use Rattle.plan_reader.specs.PlanWords.{sizeAllowed, sideAllowed, passAllowed, endAllowed}
@@ -23,17 +25,17 @@ use Rattle.plan_reader.specs.ReadPlan.{payloadAt, orderAt, passPlace, wordRows,
 use Rattle.plan_reader.proofs.PassPlaces.{order-bounded, pass-place-bounded}
 use Rattle.plan_writer.specs.declared.PlanWritten.{PlanWritten}
 use Rattle.plan_writer.specs.declared.PlanWritten.the-variants as written
-use Rattle.plan_writer.specs.WritePlan.{writePlan, writtenGiven}
-use Rattle.serial.specs.Serial.{serialAnswer}
+use Rattle.plan_writer.specs.WritePlan.{lentToWriter, writePlan, writtenGiven}
+use Rattle.serial.specs.Serial.{lentToPasses, serialAnswer}
 use Rattle.rectangle.specs.declared.RectangleSum.{RectangleSum}
 use Rattle.rectangle.specs.declared.RectangleSum.the-variants as rectangle
-use Rattle.rectangle.specs.Rectangle.{outside, rectangleCall, sumGiven}
+use Rattle.rectangle.specs.Rectangle.{lentToSum, rectangleCall, sumGiven}
 use Rattle.tasks.specs.Verdict.{verdictRows}
-use Rattle.job_spec.specs.Calls.{Buffers, startAnswer, lentRows, taskAnswer}
+use Rattle.job_spec.specs.Calls.{Buffers, lentToStart, startAnswer, lentToTask, taskAnswer}
 use Rattle.report.specs.declared.ReportAnswer.{ReportAnswer}
 use Rattle.report.specs.declared.ReportAnswer.the-variants as reported
 use Rattle.report.specs.Values.{reportGiven}
-use Rattle.report.specs.Report.{marksRows, report}
+use Rattle.report.specs.Report.{marksRows, lentToReport, report}
 use Rattle.mulzhegat.specs.Places.{PlacesFit}
 use Rattle.buffer.specs.Lists.{joined}
 
@@ -138,65 +140,56 @@ module _ (words : List ℕ) where
 
 module _ (plan : Plan) where
   -- The place of the least broken mark, where the record was tested first.
-  block-place : (k : ℕ) → not (keepsRules plan) ≡ false → ltb k (blockTotal (plan .grid)) ≡ true → k < half
-  block-place k kept broken =
-      omega (arith, ltb-true k (blockTotal (plan .grid)) broken, bounds plan (not-false (keepsRules plan) kept) .marks-high)
+  block-place : (k : ℕ) → keepsRules plan ≡ true → ltb k (blockTotal (plan .grid)) ≡ true → k < half
+  block-place k kept broken = omega (arith, ltb-true k (blockTotal (plan .grid)) broken, bounds plan kept .marks-high)
+
+  -- Record and lengths have place 0, and what is tested after them is tested of a record that keeps the rules.
+  after-lent : (lent : Lengths) (rows : List Row) → (keepsRules plan ≡ true → PlacesBelow half rows)
+      → placeIn (firstDue (lentRows plan lent ++ rows)) < half
+  unfolding lentRows
+  after-lent lent rows below =
+      in-half (lentRows plan lent ++ rows) (
+        at-0,
+        λ kept. (at-0, λ n. (at-0, λ n. (at-0, λ n. (at-0, λ n. below (not-false (keepsRules plan) kept))))),
+      )
+
+  lent-place : (lent : Lengths) → placeIn (firstDue (lentRows plan lent)) < half
+  unfolding lentRows
+  lent-place lent = after-lent lent [] (λ kept. tt)
 
   pub start-place : (marks strips : List ℕ) → placeIn (startAnswer plan marks strips) < half
   unfolding startAnswer
-  start-place marks strips =
-      in-half
-      (6 at 0 when not (keepsRules plan)
-      ∷ 7 at 0 when ltb (length marks) (neededMarks plan)
-      ∷ 7 at 0 when ltb (length strips) (neededStrips plan)
-      ∷ [])
-      (at-0, λ n. (at-0, λ n. (at-0, λ n. tt)))
+  start-place marks strips = lent-place (lentToStart marks strips)
 
   pub task-place : (heights : List ℤ) (buffers : Buffers) (t k : ℕ) → placeIn (taskAnswer plan heights buffers t k) < half
-  unfolding taskAnswer lentRows sizesOf verdictRows
+  unfolding taskAnswer verdictRows
   task-place heights buffers t k =
-      in-half (lentRows plan heights buffers ++ verdictRows (plan .grid) (buffers .marks) t k) (
-        at-0,
-        λ kept. (at-0, λ n. (at-0, λ n. (at-0, λ n. (at-0, λ n. (at-0, λ n. (block-place _ kept, λ n. (at-0, λ n. (at-0, λ n. tt)))))))),
-      )
+      after-lent (lentToTask heights buffers) (verdictRows (plan .grid) (buffers .marks) t k)
+      (λ kept. (at-0, λ n. (block-place _ kept, λ n. (at-0, λ n. (at-0, λ n. tt)))))
 
   report-place : (marks : List ℕ) → placeIn (report plan marks .answer) < half
-  unfolding report marksRows
+  unfolding report
   report-place marks =
-      in-half (6 at 0 when not (keepsRules plan) ∷ marksRows (plan .grid) marks)
-      (at-0, λ kept. (at-0, λ n. (block-place _ kept, λ n. tt)))
+      after-lent (lentToReport marks) (marksRows (plan .grid) marks) (λ kept. (block-place _ kept, λ n. tt))
 
   -- ---- the other calls: their refusals have place 0
 
   sizes-place : placeIn (planSizes plan .answer) < half
-  unfolding planSizes
-  sizes-place = in-half (6 at 0 when not (keepsRules plan) ∷ []) (at-0, λ n. tt)
+  unfolding sizesFor
+  sizes-place = lent-place (onlyOf7 NoneOf7)
 
   written-place : (room : ℕ) → placeIn (writePlan plan room .answer) < half
   unfolding writePlan
-  written-place room =
-      in-half (6 at 0 when not (keepsRules plan) ∷ 7 at 0 when ltb room (wordCount plan) ∷ []) (at-0, λ n. (at-0, λ n. tt))
+  written-place room = lent-place (lentToWriter room)
 
   pub serial-place : (mapLength outputLength : ℕ) → placeIn (serialAnswer plan mapLength outputLength) < half
   unfolding serialAnswer
-  serial-place mapLength outputLength =
-      in-half
-      (6 at 0 when not (keepsRules plan)
-      ∷ 7 at 0 when ltb mapLength (neededPixels plan)
-      ∷ 7 at 0 when ltb outputLength (neededPixels plan)
-      ∷ [])
-      (at-0, λ n. (at-0, λ n. (at-0, λ n. tt)))
+  serial-place mapLength outputLength = lent-place (lentToPasses mapLength outputLength)
 
   rectangle-place : (table : List ℕ) (top left bottom right : ℕ)
       → placeIn (rectangleCall plan table top left bottom right .answer) < half
   unfolding rectangleCall
-  rectangle-place table top left bottom right =
-      in-half
-      (6 at 0 when not (keepsRules plan)
-      ∷ 7 at 0 when ltb (length table) (neededPixels plan)
-      ∷ 12 at 0 when outside plan top left bottom right
-      ∷ [])
-      (at-0, λ n. (at-0, λ n. (at-0, λ n. tt)))
+  rectangle-place table top left bottom right = after-lent (lentToSum table) _ (λ kept. (at-0, λ n. tt))
 
 pub places-fit : PlacesFit
 places-fit =

@@ -9,7 +9,7 @@ use Rattle.report.specs.Values.{Values}
 abbrev pub codeHalf : ℕ
 codeHalf = 4294967296
 
--- Document 01's number in the upper half, its place in the lower (`PlacesFit`); 0 where the call is accepted.
+-- The documents' number in the upper half, its place in the lower (`PlacesFit`); 0 where the call is accepted.
 abbrev pub codeOf : Answer → ℕ
 codeOf answer = numberIn answer * codeHalf + placeIn answer
 

@@ -4,7 +4,7 @@ use Prim.Native.Nat.{ℕ, _<_}
 use lib.IntN.{ℤ}
 use Rattle.refusal.specs.Refusals.{Answer, placeIn}
 use Rattle.plan.specs.declared.Plan.{Plan}
-use Rattle.plan.specs.Sizes.{planSizes}
+use Rattle.plan.specs.FirstTests.{planSizes}
 use Rattle.plan_reader.specs.ReadPlan.{readPlan}
 use Rattle.plan_writer.specs.WritePlan.{writePlan}
 use Rattle.serial.specs.Serial.{serialAnswer}

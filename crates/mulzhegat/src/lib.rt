@@ -1,5 +1,5 @@
-// The C interface: each function takes its arguments apart, calls the Rattle function of the same job, and answers one number:
-// 0 where the call is accepted, else document 01's number of the refusal times 2^32, plus its place.
+// The C interface: each function takes its arguments apart, calls the Rattle function of the same job, and answers one
+// number: 0 where the call is accepted, else the documents' number of the refusal times 2^32, plus its place.
 use plan::PlanSizes;
 use plan::Sizes;
 use plan_writer::PlanWritten;
@@ -13,7 +13,7 @@ ghost use mathlib.Core.Path.{_≡_};
 ghost use lib.ListN.{length};
 ghost use Rattle.refusal.specs.Refusals.{refusedFor};
 ghost use Rattle.refusal.specs.Table.{answerOf};
-ghost use Rattle.plan.specs.Sizes.{planSizes};
+ghost use Rattle.plan.specs.FirstTests.{planSizes};
 ghost use Rattle.plan_reader.specs.ReadPlan.{readPlan};
 ghost use Rattle.plan_writer.specs.WritePlan.{writePlan, writtenWords};
 ghost use Rattle.plan_record.specs.Records.{planOfRecord, recordOfPlan};

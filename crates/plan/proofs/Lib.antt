@@ -1,5 +1,5 @@
 pub mod Signed
 pub mod Record
 pub mod Needed
+pub mod FirstTests
 pub mod Known
-pub mod Lengths

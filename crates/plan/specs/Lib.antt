@@ -1,3 +1,4 @@
 pub mod Rules
 pub mod Sizes
+pub mod FirstTests
 pub mod PaddedLine

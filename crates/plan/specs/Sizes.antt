@@ -1,17 +1,10 @@
 -- The needed lengths: what follows from a plan record. Document 01, 'Blocks, marks and strips'.
-use mathlib.Core.Bool.{not}
-use mathlib.Core.List.{List, [], _∷_}
 use Prim.Native.Nat.{ℕ, _+_, _-_, _*_}
-use lib.Dec.{ltb}
 use Rattle.number.specs.Numbers.{total}
 use Rattle.grid.specs.Grid.{blockRows, blockColumns, blockTotal}
-use Rattle.refusal.specs.Refusals.{refusedFor, accepted}
-use Rattle.refusal.specs.Table.{Row, _at_when_, firstDue, Given, given}
 use Rattle.plan.specs.declared.Plan.{Plan}
 use Rattle.plan.specs.declared.Sizes.{Sizes}
-use Rattle.plan.specs.declared.PlanSizes.{PlanSizes}
-use Rattle.plan.specs.declared.PlanSizes.the-variants.{Known, Refused}
-use Rattle.plan.specs.Rules.{orderLimit, passAt, keepsRules}
+use Rattle.plan.specs.Rules.{orderLimit, passAt}
 
 -- The order of a pass.
 abbrev pub orderOf : Plan → ℕ → ℕ
@@ -69,26 +62,3 @@ sizesOf plan =
       pixels = neededPixels plan;
       tasks = taskCount plan;
     }
-
--- All sizes 0.
-abbrev pub zeroSizes : Sizes
-zeroSizes =
-    record { words = 0; «block_rows» = 0; «block_columns» = 0; marks = 0; strips = 0; pixels = 0; tasks = 0 }
-
--- The sizes of a record; zeros beside refusal 6.
-unfoldable pub planSizes : Plan → Given Sizes
-planSizes plan = given (firstDue (6 at 0 when not (keepsRules plan) ∷ [])) (sizesOf plan) zeroSizes
-
--- Document 01's number and place, and the sizes, of each case that `Plan::sizes` answers.
-abbrev pub sizesGiven : PlanSizes → Given Sizes
-sizesGiven (Known sizes) = record { answer = accepted; value = sizes }
-sizesGiven (Refused refusal) = record { answer = refusedFor refusal; value = zeroSizes }
-
--- The four lengths that a task is lent, in the order of their tests: 7 for each that is below the needed one.
-abbrev pub lengthRows : Sizes → (marks strips map output : ℕ) → List Row
-lengthRows sizes marks strips map output =
-    7 at 0 when ltb marks (sizes .marks)
-    ∷ 7 at 0 when ltb strips (sizes .strips)
-    ∷ 7 at 0 when ltb map (sizes .pixels)
-    ∷ 7 at 0 when ltb output (sizes .pixels)
-    ∷ []

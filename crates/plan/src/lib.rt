@@ -1,15 +1,17 @@
-// The plan record, its check, and the lengths of the buffers that a job needs.
+// The plan record, its check, the lengths of the buffers that a job needs, and the tests of record and lengths that every
+// call begins with.
 use grid::Grid;
 use refusal::Outcome;
 use refusal::Refusal;
 ghost use mathlib.Core.Path.{_≡_};
-ghost use mathlib.Core.Bool.{true};
-ghost use mathlib.Core.List.{[], _∷_};
-ghost use lib.Dec.{ltb};
+ghost use mathlib.Core.Bool.{true, cond};
 ghost use Prim.Native.Nat.{_≤_};
-ghost use Rattle.refusal.specs.Table.{_at_when_, firstDue, answerOf};
+ghost use Rattle.refusal.specs.declared.Refusal.the-variants.{BufferTooShort};
+ghost use Rattle.refusal.specs.Refusals.{accepted, refusedFor};
+ghost use Rattle.refusal.specs.Table.{firstDue, answerOf, given};
 ghost use Rattle.plan.specs.Rules.{inSigned28, isZero, coefficientKept, coefficientsKept, passKept, passesKept, keepsRules};
-ghost use Rattle.plan.specs.Sizes.{orderSum, slotWords, sizesOf, planSizes, sizesGiven, lengthRows};
+ghost use Rattle.plan.specs.Sizes.{orderSum, slotWords, sizesOf};
+ghost use Rattle.plan.specs.FirstTests.{tooShort, of7TooShort, lengthRows, onlyOf7, zeroSizes, planSizes, sizesFor, sizesGiven};
 
 // The largest order of a pass: `orderLimit` of specs/Rules.antt is the same number.
 pub const ORDER_LIMIT: usize = 8;
@@ -56,6 +58,29 @@ pub enum PlanSizes {
     Refused(Refusal),
 }
 
+// The length of a buffer that a call may be lent.
+pub enum Length {
+    NotLent,
+    Of(usize),
+}
+
+// Which of the three buffers that 7 is for a call is lent, and its length: the words that a plan is written to, the
+// marks, or the table of a rectangle; or none of them.
+pub enum BufferOf7 {
+    NoneOf7,
+    Words(usize),
+    Marks(usize),
+    Table(usize),
+}
+
+// The lengths of the buffers that a call is lent, in the order in which they are tested.
+pub struct Lengths {
+    pub of7: BufferOf7,
+    pub strips: Length,
+    pub map: Length,
+    pub output: Length,
+}
+
 impl Plan {
     // Whether the record keeps document 01's rules.
     pub fn check(self) -> bool
@@ -76,6 +101,18 @@ impl Plan {
             return PlanSizes::Known(self.kept_sizes());
         }
         PlanSizes::Refused(Refusal::RecordBreaksRule)
+    }
+
+    // The sizes for a call that is lent buffers of these lengths, or its refusal: every call that is lent a buffer beside
+    // a record tests both here, in the one order that document 02 gives them.
+    pub fn sizes_for(self, lent: Lengths) -> PlanSizes
+        ensures { λ r. ⌜ sizesGiven r ≡ sizesFor self lent ⌝ }
+    {
+        let known = self.sizes();
+        match known {
+            PlanSizes::Known(sizes) => sizes.unless_short(lent),
+            PlanSizes::Refused(refusal) => PlanSizes::Refused(refusal),
+        }
     }
 
     fn kept_sizes(self) -> Sizes
@@ -139,31 +176,73 @@ impl Plan {
 }
 
 impl Sizes {
-    // The lengths of lent marks and strips, in this order.
-    pub fn marks_and_strips(self, marks: usize, strips: usize) -> Outcome
-        ensures { λ r. ⌜ answerOf r ≡ firstDue (7 at 0 when ltb marks (self .marks) ∷ 7 at 0 when ltb strips (self .strips) ∷ []) ⌝ }
+    // These sizes, or the refusal of the first buffer that is too short for them.
+    fn unless_short(self, lent: Lengths) -> PlanSizes
+        ensures { λ r. ⌜ sizesGiven r ≡ given (firstDue (lengthRows self lent)) self zeroSizes ⌝ }
     {
-        let short_marks = refusal::too_short(marks, self.marks);
-        let short_strips = refusal::too_short(strips, self.strips);
-        short_marks.or_first(short_strips)
+        let outcome = self.test_lengths(lent);
+        match outcome {
+            Outcome::Accepted => PlanSizes::Known(self),
+            Outcome::Refused(refusal) => PlanSizes::Refused(refusal),
+        }
     }
 
-    // The lengths of a lent map and output, in this order.
-    pub fn map_and_output(self, map: usize, output: usize) -> Outcome
-        ensures { λ r. ⌜ answerOf r ≡ firstDue (7 at 0 when ltb map (self .pixels) ∷ 7 at 0 when ltb output (self .pixels) ∷ []) ⌝ }
+    // Refused for the first buffer that is too short, in the order of the tests.
+    fn test_lengths(self, lent: Lengths) -> Outcome
+        ensures { λ r. ⌜ answerOf r ≡ firstDue (lengthRows self lent) ⌝ }
     {
-        let short_map = refusal::too_short(map, self.pixels);
-        let short_output = refusal::too_short(output, self.pixels);
-        short_map.or_first(short_output)
+        let of7 = lent.of7;
+        let strips = lent.strips;
+        let map = lent.map;
+        let output = lent.output;
+        of7.tested(self)
+            .or_first(strips.tested(self.strips, Refusal::StripsTooShort))
+            .or_first(map.tested(self.pixels, Refusal::MapTooShort))
+            .or_first(output.tested(self.pixels, Refusal::OutputTooShort))
     }
+}
 
-    // The lengths of all four.
-    pub fn all_lent(self, marks: usize, strips: usize, map: usize, output: usize) -> Outcome
-        ensures { λ r. ⌜ answerOf r ≡ firstDue (lengthRows self marks strips map output) ⌝ }
+impl BufferOf7 {
+    // Refused by 7 where it is too short.
+    fn tested(self, sizes: Sizes) -> Outcome
+        ensures { λ r. ⌜ answerOf r ≡ cond (of7TooShort self sizes) (refusedFor BufferTooShort) accepted ⌝ }
     {
-        let job = self.marks_and_strips(marks, strips);
-        let pixels = self.map_and_output(map, output);
-        job.or_first(pixels)
+        match self {
+            BufferOf7::NoneOf7 => Outcome::Accepted,
+            BufferOf7::Words(length) => {
+                refusal::too_short(length, sizes.words, Refusal::BufferTooShort)
+            }
+            BufferOf7::Marks(length) => {
+                refusal::too_short(length, sizes.marks, Refusal::BufferTooShort)
+            }
+            BufferOf7::Table(length) => {
+                refusal::too_short(length, sizes.pixels, Refusal::BufferTooShort)
+            }
+        }
+    }
+}
+
+impl Length {
+    // Refused for a cause where it is too short.
+    fn tested(self, needed: usize, cause: Refusal) -> Outcome
+        ensures { λ r. ⌜ answerOf r ≡ cond (tooShort self needed) (refusedFor cause) accepted ⌝ }
+    {
+        match self {
+            Length::NotLent => Outcome::Accepted,
+            Length::Of(length) => refusal::too_short(length, needed, cause),
+        }
+    }
+}
+
+// The lengths of a call that is lent no strips, map or output.
+pub fn only_of_7(buffer: BufferOf7) -> Lengths
+    ensures { λ r. ⌜ r ≡ onlyOf7 buffer ⌝ }
+{
+    Lengths {
+        of7: buffer,
+        strips: Length::NotLent,
+        map: Length::NotLent,
+        output: Length::NotLent,
     }
 }
 

@@ -1,16 +1,18 @@
--- The words of a plan, in the order of document 01's table, and the call that writes them.
-use mathlib.Core.Bool.{not}
+-- The words of a plan, in the order of document 01's table, and the call that writes them, refused by 6 and 7; document
+-- 02, CR 4.
 use mathlib.Core.List.{List, [], _∷_, _++_}
 use Prim.Native.Nat.{ℕ, _+_, _*_}
 use lib.IntN.{ℤ}
-use lib.Dec.{ltb}
 use lib.ListN.{length, drop}
 use Rattle.refusal.specs.Refusals.{refusedFor, accepted}
-use Rattle.refusal.specs.Table.{_at_when_, firstDue, ifAccepted, Given, given}
+use Rattle.refusal.specs.Table.{firstDue, ifAccepted, Given, given}
+use Rattle.plan.specs.declared.BufferOf7.the-variants as of7
+use Rattle.plan.specs.declared.Lengths.{Lengths}
 use Rattle.plan.specs.declared.Pass.{Pass}
 use Rattle.plan.specs.declared.Plan.{Plan}
-use Rattle.plan.specs.Rules.{coefficientAt, passAt, keepsRules}
+use Rattle.plan.specs.Rules.{coefficientAt, passAt}
 use Rattle.plan.specs.Sizes.{wordCount}
+use Rattle.plan.specs.FirstTests.{lentRows, onlyOf7}
 use Rattle.buffer.specs.Lists.{listOf, joined}
 use Rattle.plan_writer.specs.declared.PlanWritten.{PlanWritten}
 use Rattle.plan_writer.specs.declared.PlanWritten.the-variants.{Words, Refused}
@@ -52,10 +54,14 @@ unfoldable pub wordsOf : Plan → List ℕ
 wordsOf plan =
     sizeWord plan ∷ wordOf 2 (plan .grid .side) ∷ (passesWords plan 4 ++ (wordOf endKind 0 ∷ []))
 
--- How many words are written into so much room; 0 beside a refusal.
+-- The writer is lent room for the words.
+abbrev pub lentToWriter : (room : ℕ) → Lengths
+lentToWriter room = onlyOf7 (of7.Words room)
+
+-- How many words are written into so much room; 0 beside a refusal, by 6 or by 7.
 unfoldable pub writePlan : Plan → (room : ℕ) → Given ℕ
 writePlan plan room =
-    given (firstDue (6 at 0 when not (keepsRules plan) ∷ 7 at 0 when ltb room (wordCount plan) ∷ [])) (wordCount plan) 0
+    given (firstDue (lentRows plan (lentToWriter room))) (wordCount plan) 0
 
 -- Document 01's number and place, and the count, of each case that `write_plan` answers.
 abbrev pub writtenGiven : PlanWritten → Given ℕ

@@ -1,8 +1,8 @@
 // Writes a plan as its words.
+use plan::BufferOf7;
 use plan::Pass;
 use plan::Plan;
 use plan::PlanSizes;
-use refusal::Outcome;
 use refusal::Refusal;
 ghost use mathlib.Core.Path.{_≡_};
 ghost use mathlib.Core.Bool.{true};
@@ -28,18 +28,13 @@ pub fn write_plan(plan: Plan, words: &mut [u32]) -> PlanWritten
     ensures answer { λ r. ⌜ writtenGiven r ≡ writePlan plan (length (now (words .entry))) ⌝ }
     ensures written { λ _. ⌜ now (words .exit) ≡ writtenWords plan (now (words .entry)) ⌝ }
 {
-    let known = plan.sizes();
+    let lent = plan::only_of_7(BufferOf7::Words(words.len()));
+    let known = plan.sizes_for(lent);
     match known {
         PlanSizes::Refused(refusal) => PlanWritten::Refused(refusal),
         PlanSizes::Known(sizes) => {
-            let room = refusal::too_short(words.len(), sizes.words);
-            match room {
-                Outcome::Refused(refusal) => PlanWritten::Refused(refusal),
-                Outcome::Accepted => {
-                    write_words(plan, words);
-                    PlanWritten::Words(sizes.words)
-                }
-            }
+            write_words(plan, words);
+            PlanWritten::Words(sizes.words)
         }
     }
 }

@@ -1,6 +1,6 @@
 -- The answer of the call by the tests that are made, and what is given beside it. Assumes nothing.
-use mathlib.Core.Path.{_≡_, _∙_}
-use mathlib.Core.Bool.{true, false, not}
+use mathlib.Core.Path.{_≡_, sym, _∙_}
+use mathlib.Core.Bool.{true, false}
 use mathlib.Core.List.{List, [], _∷_}
 use Prim.Native.Nat.{ℕ, _≤_}
 use lib.IntN.{ℤ, pos}
@@ -9,8 +9,8 @@ use lib.ListN.{length}
 use borrow.Author.Tests.{le-ltb, lt-leb, ltb-false, leb-false}
 use Rattle.refusal.specs.declared.Refusal.{Refusal}
 use Rattle.refusal.specs.Refusals.{refusedFor, Answer, accepted, refused}
-use Rattle.refusal.specs.Table.{Row, _at_when_, firstDue, firstOf, Given}
-use Rattle.refusal.proofs.Table.{tests-rows, none-of}
+use Rattle.refusal.specs.Table.{Row, _at_when_, firstDue, Given}
+use Rattle.refusal.proofs.Table.{refused-before, accepted-before, rows-accepted, none-of}
 use Rattle.number.proofs.Tests.{or-left, or-right}
 use Rattle.word.specs.Word.{signed}
 use Rattle.plan.specs.declared.Plan.{Plan}
@@ -18,10 +18,12 @@ use Rattle.plan.specs.declared.Sizes.{Sizes}
 use Rattle.plan.specs.declared.PlanSizes.{PlanSizes}
 use Rattle.plan.specs.declared.PlanSizes.the-variants.{Known, Refused}
 use Rattle.plan.specs.Rules.{keepsRules}
-use Rattle.plan.specs.Sizes.{neededPixels, sizesOf, planSizes, sizesGiven}
-use Rattle.plan.proofs.Known.{sizes-known, record-refused}
+use Rattle.plan.specs.Sizes.{neededPixels}
+use Rattle.plan.specs.FirstTests.{lentRows, sizesFor, sizesGiven}
+use Rattle.plan.proofs.FirstTests.{Suffices, suffices, lent-accepted}
+use Rattle.plan.proofs.Known.{sizes-known, sizes-refused}
 use Rattle.passes.specs.Table.{rectangleSum}
-use Rattle.rectangle.specs.Rectangle.{tableOf, Inside, outside, rectangleCall}
+use Rattle.rectangle.specs.Rectangle.{tableOf, Inside, outside, lentToSum, rectangleCall}
 
 module _ (plan : Plan) (top left bottom right : ℕ) where
   pub not-outside : outside plan top left bottom right ≡ false → Inside plan top left bottom right
@@ -46,40 +48,38 @@ module _ (plan : Plan) (top left bottom right : ℕ) where
       )
 
 module _ (plan : Plan) (table : List ℕ) (top left bottom right : ℕ) where
-  -- The rows of the call after that of the record.
-  abbrev isShort : (needed : ℕ) → Row
-  isShort needed = 7 at 0 when ltb (length table) needed
-
+  -- The row of the rectangle.
   abbrev isOutside : Row
   isOutside = 12 at 0 when outside plan top left bottom right
 
-  module _ (known : PlanSizes) (is : sizesGiven known ≡ planSizes plan) where
-    pub answer-of-record : (refusal : Refusal) → known ≡ Refused refusal
+  module _ (known : PlanSizes) (is : sizesGiven known ≡ sizesFor plan (lentToSum table)) where
+    pub answer-of-lent : (refusal : Refusal) → known ≡ Refused refusal
         → refusedFor refusal ≡ rectangleCall plan table top left bottom right .answer
     unfolding rectangleCall
-    answer-of-record refusal e = record-refused plan known is refusal e (isShort (neededPixels plan) ∷ isOutside ∷ [])
+    answer-of-lent refusal e =
+        refused-before (lentRows plan (lentToSum table)) (isOutside ∷ []) (sizes-refused plan (lentToSum table) known is refusal e)
 
-    pub answer-of-tests : (sizes : Sizes) → known ≡ Known sizes → {answer a b : Answer} → answer ≡ firstOf a b
-        → a ≡ firstDue (isShort (sizes .pixels) ∷ []) → b ≡ firstDue (isOutside ∷ [])
+    pub answer-of-rectangle : (sizes : Sizes) → known ≡ Known sizes → {answer : Answer} → answer ≡ firstDue (isOutside ∷ [])
         → answer ≡ rectangleCall plan table top left bottom right .answer
-    unfolding rectangleCall sizesOf
-    answer-of-tests sizes e o p q =
-        let kept = sizes-known plan known is sizes e in
-        tests-rows (isShort (sizes .pixels) ∷ []) (isOutside ∷ []) o p q ∙ rw (kept .1, kept .0)
+    unfolding rectangleCall
+    answer-of-rectangle sizes e p =
+        p ∙ sym (accepted-before (lentRows plan (lentToSum table)) (isOutside ∷ []) (sym (sizes-known plan (lentToSum table) known is sizes e .0)))
 
   pub accepted-when : keepsRules plan ≡ true → neededPixels plan ≤ length table → Inside plan top left bottom right
       → rectangleCall plan table top left bottom right .answer ≡ accepted
   unfolding rectangleCall
   accepted-when kept h i =
-      rw (kept, le-ltb (length table) (neededPixels plan) h, inside-the-map plan top left bottom right i)
+      let enough : Suffices plan (lentToSum table) =
+      record { rules = kept; of7-long = h; strips-long = tt; map-long = tt; output-long = tt } in
+      accepted-before (lentRows plan (lentToSum table)) (isOutside ∷ []) (sym (lent-accepted plan (lentToSum table) enough))
+      ∙ rw (inside-the-map plan top left bottom right i)
 
   pub accepted-fits : rectangleCall plan table top left bottom right .answer ≡ accepted
       → (neededPixels plan ≤ length table) × Inside plan top left bottom right
   unfolding rectangleCall
   accepted-fits e =
-      let (kept, (long, (within, none))) =
-      none-of (6 at 0 when not (keepsRules plan) ∷ isShort (neededPixels plan) ∷ isOutside ∷ []) e in
-      (ltb-false _ _ long, not-outside plan top left bottom right within)
+      let (tested, within) = rows-accepted (lentRows plan (lentToSum table)) (isOutside ∷ []) e in
+      (suffices plan (lentToSum table) tested .of7-long, not-outside plan top left bottom right (none-of (isOutside ∷ []) within .0))
 
   -- Beside the answer: the sum of an accepted call, 0 of a refused one.
   pub given-accepted : rectangleCall plan table top left bottom right .answer ≡ accepted

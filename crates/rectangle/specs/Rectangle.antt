@@ -1,18 +1,19 @@
 -- The rectangle sum as a call: document 01, the paragraph on the rectangle sum and refusals 6, 7 and 12; document 02,
--- CR 2.
-use mathlib.Core.Bool.{Bool, not, _||_}
-use mathlib.Core.List.{List, [], _∷_}
+-- CR 2 and CR 4.
+use mathlib.Core.Bool.{Bool, _||_}
+use mathlib.Core.List.{List, [], _∷_, _++_}
 use Prim.Native.Nat.{ℕ, _<_, _≤_}
 use lib.IntN.{ℤ, pos}
 use lib.Dec.{ltb, leb}
 use lib.ListN.{length}
 use Rattle.refusal.specs.Refusals.{refusedFor, accepted}
-use Rattle.refusal.specs.Table.{_at_when_, firstDue, Given, given}
+use Rattle.refusal.specs.Table.{Row, _at_when_, firstDue, Given, given}
 use Rattle.number.specs.Numbers.{rowMajor}
 use Rattle.word.specs.Word.{signed}
+use Rattle.plan.specs.declared.BufferOf7.the-variants.{Table}
+use Rattle.plan.specs.declared.Lengths.{Lengths}
 use Rattle.plan.specs.declared.Plan.{Plan}
-use Rattle.plan.specs.Rules.{keepsRules}
-use Rattle.plan.specs.Sizes.{neededPixels}
+use Rattle.plan.specs.FirstTests.{lentRows, onlyOf7}
 use Rattle.buffer.specs.Lists.{wordAt}
 use Rattle.passes.specs.Table.{rectangleSum}
 use Rattle.rectangle.specs.declared.RectangleSum.{RectangleSum}
@@ -34,15 +35,19 @@ abbrev pub outside : Plan → (top left bottom right : ℕ) → Bool
 outside plan top left bottom right =
     leb bottom top || (leb right left || (ltb (plan .grid .rows) bottom || ltb (plan .grid .columns) right))
 
+-- The sum is lent a table.
+abbrev pub lentToSum : List ℕ → Lengths
+lentToSum table = onlyOf7 (Table (length table))
+
+-- The tests in their order: 6 for the record, 7 for the table, 12 for the rectangle.
+abbrev pub rectangleRows : Plan → List ℕ → (top left bottom right : ℕ) → List Row
+rectangleRows plan table top left bottom right =
+    lentRows plan (lentToSum table) ++ (12 at 0 when outside plan top left bottom right ∷ [])
+
 -- The sum over a rectangle, from -2^63 to 2^63 - 1: the word of the four corners, read as signed; 0 beside a refusal.
 unfoldable pub rectangleCall : Plan → List ℕ → (top left bottom right : ℕ) → Given ℤ
 rectangleCall plan table top left bottom right =
-    given
-    (firstDue
-    (6 at 0 when not (keepsRules plan)
-    ∷ 7 at 0 when ltb (length table) (neededPixels plan)
-    ∷ 12 at 0 when outside plan top left bottom right
-    ∷ []))
+    given (firstDue (rectangleRows plan table top left bottom right))
     (signed (rectangleSum (tableOf plan table) top left bottom right)) (pos 0)
 
 -- Document 01's number and place, and the sum, of each case that `rectangle_sum` answers.

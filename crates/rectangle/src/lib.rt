@@ -1,4 +1,5 @@
 // The sum over a rectangle of a summed-area table.
+use plan::BufferOf7;
 use plan::Plan;
 use plan::PlanSizes;
 use refusal::Outcome;
@@ -51,13 +52,11 @@ fn answer(
 ) -> Outcome
     ensures { λ r. ⌜ answerOf r ≡ rectangleCall plan (now (table .entry)) top left bottom right .answer ⌝ }
 {
-    let known = plan.sizes();
+    let lent = plan::only_of_7(BufferOf7::Table(table.len()));
+    let known = plan.sizes_for(lent);
     match known {
         PlanSizes::Refused(refusal) => Outcome::Refused(refusal),
-        PlanSizes::Known(sizes) => {
-            let length = refusal::too_short(table.len(), sizes.pixels);
-            length.or_first(outside(plan, top, left, bottom, right))
-        }
+        PlanSizes::Known(_) => outside(plan, top, left, bottom, right),
     }
 }
 

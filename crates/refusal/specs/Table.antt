@@ -1,5 +1,5 @@
--- What a call answers: the rows of document 01's table of refused calls that it can be refused by, in the document's order. The
--- first row that is due decides.
+-- What a call answers: the rows of the tables of refused calls (document 01, and the requests of document 02) that it can
+-- be refused by, in the order in which they are tested. The first row that is due decides.
 use mathlib.Core.Bool.{Bool, cond}
 use mathlib.Core.List.{List, [], _∷_}
 use Prim.Native.Nat.{ℕ}

@@ -1,9 +1,9 @@
-// The one refusal type of the library, by document 01's numbers.
+// The one refusal type of the library, by the numbers of documents 01 and 02.
 ghost use mathlib.Core.Path.{_≡_};
-ghost use mathlib.Core.List.{[], _∷_};
+ghost use mathlib.Core.Bool.{cond};
 ghost use lib.Dec.{ltb};
-ghost use Rattle.refusal.specs.Refusals.{numberOf, placeOf};
-ghost use Rattle.refusal.specs.Table.{_at_when_, firstDue, answerOf, firstOf};
+ghost use Rattle.refusal.specs.Refusals.{numberOf, placeOf, accepted, refusedFor};
+ghost use Rattle.refusal.specs.Table.{answerOf, firstOf};
 
 // Why a call was refused. A case holds the place that goes with it where the place varies.
 pub enum Refusal {
@@ -13,6 +13,7 @@ pub enum Refusal {
     SideBelowOrder,
     WordsAfterEnd(usize),
     RecordBreaksRule,
+    // The marks, the words that a plan is written to, or the table of a rectangle; strips, map and output have their own.
     BufferTooShort,
     NoSuchTask,
     MarkBroken(usize),
@@ -20,6 +21,9 @@ pub enum Refusal {
     NeedUnmarked,
     RectangleOutside,
     InputUnfit,
+    StripsTooShort,
+    MapTooShort,
+    OutputTooShort,
 }
 
 // Whether a call was accepted.
@@ -28,14 +32,15 @@ pub enum Outcome {
     Refused(Refusal),
 }
 
-// What document 01 returns for a refusal: its number, and the place beside it.
+// What the documents return for a refusal: its number, and the place beside it.
 pub struct Reason {
     pub number: u32,
     pub place: usize,
 }
 
 impl Refusal {
-    // Document 01's table of refused calls: the number of each cause, and what is returned beside it.
+    // The table of refused calls, document 01's and from 14 on document 02's: the number of each cause, and what is
+    // returned beside it.
     pub fn reason(self) -> Reason
         ensures { λ r. ⌜ (r .number ≡ numberOf self) × (r .place ≡ placeOf self) ⌝ }
     {
@@ -53,6 +58,9 @@ impl Refusal {
             Refusal::NeedUnmarked => row(11, 0),
             Refusal::RectangleOutside => row(12, 0),
             Refusal::InputUnfit => row(13, 0),
+            Refusal::StripsTooShort => row(14, 0),
+            Refusal::MapTooShort => row(15, 0),
+            Refusal::OutputTooShort => row(16, 0),
         }
     }
 
@@ -94,12 +102,12 @@ impl Outcome {
     }
 }
 
-// Refused by 7 where a lent buffer of a length has fewer places than are needed.
-pub fn too_short(length: usize, needed: usize) -> Outcome
-    ensures { λ r. ⌜ answerOf r ≡ firstDue (7 at 0 when ltb length needed ∷ []) ⌝ }
+// Refused for a cause where a lent buffer of a length has fewer places than are needed.
+pub fn too_short(length: usize, needed: usize, cause: Refusal) -> Outcome
+    ensures { λ r. ⌜ answerOf r ≡ cond (ltb length needed) (refusedFor cause) accepted ⌝ }
 {
     if length < needed {
-        Outcome::Refused(Refusal::BufferTooShort)
+        Outcome::Refused(cause)
     } else {
         Outcome::Accepted
     }

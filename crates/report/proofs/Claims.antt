@@ -8,11 +8,14 @@ use native.Mathlib.Omega.{arith}
 use lib.ListN.{length}
 use borrow.Author.Tests.{le-ltb}
 use Rattle.refusal.specs.Refusals.{accepted}
+use Rattle.refusal.proofs.Table.{accepted-before}
 use Rattle.grid.specs.declared.Grid.{Grid}
 use Rattle.grid.specs.Grid.{blockRows, blockColumns, blockTotal}
 use Rattle.plan.specs.declared.Plan.{Plan}
 use Rattle.plan.specs.Rules.{keepsRules}
 use Rattle.plan.specs.Sizes.{neededMarks, neededPixels, taskCount}
+use Rattle.plan.specs.FirstTests.{lentRows}
+use Rattle.plan.proofs.FirstTests.{Suffices, lent-accepted}
 use Rattle.plan.proofs.Record.{rules}
 use Rattle.plan.proofs.Needed.{bounds}
 use Rattle.tasks.specs.Tasks.{ready}
@@ -27,7 +30,7 @@ use Rattle.report.specs.declared.Next.the-variants.{Ready, Nothing}
 use Rattle.report.specs.declared.Progress.{Progress}
 use Rattle.report.specs.Tally.{tally}
 use Rattle.report.specs.Values.{valuesOf}
-use Rattle.report.specs.Report.{firstReady, firstBroken, progressOf, marksRows, report}
+use Rattle.report.specs.Report.{firstReady, firstBroken, progressOf, marksRows, lentToReport, report}
 use Rattle.report.proofs.Search.{First, task-found, task-none, task-same}
 use Rattle.report.proofs.Tallies.{tally-whole, tally-same}
 
@@ -109,14 +112,16 @@ module _ (plan : Plan) (kept : keepsRules plan ≡ true) (done : ℕ → ℕ →
   -- Enough marks that show what is done are reported on, by what is done.
   pub reported : (marks : List ℕ) → neededMarks plan ≤ length marks → Shows (plan .grid) done marks
       → report plan marks ≡ record { answer = accepted; value = valuesOf (progressOf (plan .grid) done) }
-  unfolding report marksRows progressOf firstBroken
+  unfolding report progressOf firstBroken
   reported marks enough shows =
       let same = shows-marked (plan .grid) done marks shows in
       let valid = shows-valid (plan .grid) done marks shows only in
       let whole = all-valid (plan .grid) marks valid in
+      let lent : Suffices plan (lentToReport marks) =
+      record { rules = kept; of7-long = enough; strips-long = tt; map-long = tt; output-long = tt } in
       rw (
-        kept,
-        le-ltb (length marks) (neededMarks plan) enough,
+        accepted-before (lentRows plan (lentToReport marks)) (marksRows (plan .grid) marks)
+            (sym (lent-accepted plan (lentToReport marks) lent)),
         le-ltb (firstBroken (plan .grid) marks) (neededMarks plan) (omega arith),
         count-same (plan .grid) (isMarked marks) done same,
         tally-same (plan .grid) (isMarked marks) done same,

@@ -1,12 +1,14 @@
--- The report: how many tasks are marked, the tally, and the ready task with the least number, then the least block; or none.
-use mathlib.Core.Bool.{Bool, not, cond}
-use mathlib.Core.List.{List, [], _∷_}
+-- The report: how many tasks are marked, the tally, and the ready task with the least number, then the least block; or
+-- none. Document 01, 'Blocks, marks and strips' and 'Refused calls'; document 02, CR 4.
+use mathlib.Core.Bool.{Bool, cond}
+use mathlib.Core.List.{List, [], _∷_, _++_}
 use Prim.Native.Nat.{ℕ, zero, suc}
-use lib.Dec.{ltb}
 use lib.ListN.{length}
-use Rattle.refusal.specs.Table.{Row, _at_when_, firstDue, Given, given}
+use Rattle.refusal.specs.Table.{Row, firstDue, Given, given}
+use Rattle.plan.specs.declared.BufferOf7.the-variants.{Marks}
+use Rattle.plan.specs.declared.Lengths.{Lengths}
 use Rattle.plan.specs.declared.Plan.{Plan}
-use Rattle.plan.specs.Rules.{keepsRules}
+use Rattle.plan.specs.FirstTests.{lentRows, onlyOf7}
 use Rattle.grid.specs.declared.Grid.{Grid}
 use Rattle.grid.specs.Grid.{blockTotal}
 use Rattle.tasks.specs.Tasks.{ready}
@@ -46,19 +48,20 @@ firstBroken grid marks = leastBrokenOf grid marks (allBlocks grid)
 unfoldable pub progressOf : Grid → (ℕ → ℕ → Bool) → Progress
 progressOf grid done = record { marked = doneCount grid done; tally = tally grid done; next = firstReady grid done }
 
--- The rows of the report's refusals after the record: 7 for marks that are too short, 9 at the least broken mark of all.
-unfoldable pub marksRows : Grid → List ℕ → List Row
-marksRows grid marks =
-    7 at 0 when ltb (length marks) (blockTotal grid)
-    ∷ brokenRow grid (firstBroken grid marks)
-    ∷ []
+-- What the marks refuse, once there are enough: 9 at the least broken mark of all.
+abbrev pub marksRows : Grid → List ℕ → List Row
+marksRows grid marks = brokenRow grid (firstBroken grid marks) ∷ []
 
--- The report on the marks of a plan; zeros beside a refusal.
+-- The report is lent marks.
+abbrev pub lentToReport : List ℕ → Lengths
+lentToReport marks = onlyOf7 (Marks (length marks))
+
+-- The report on the marks of a plan: refused by 6, 7 or 9, with zeros beside it.
 unfoldable pub report : Plan → List ℕ → Given Values
 report plan marks =
-    given (firstDue (6 at 0 when not (keepsRules plan) ∷ marksRows (plan .grid) marks))
+    given (firstDue (lentRows plan (lentToReport marks) ++ marksRows (plan .grid) marks))
     (valuesOf (progressOf (plan .grid) (isMarked marks))) zeroValues
 
--- What is left of it for a record that keeps the rules.
+-- What is left of it where the record keeps the rules and marks are enough.
 unfoldable pub reportOn : Grid → List ℕ → Given Values
 reportOn grid marks = given (firstDue (marksRows grid marks)) (valuesOf (progressOf grid (isMarked marks))) zeroValues

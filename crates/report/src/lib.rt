@@ -1,15 +1,13 @@
 // The report on a job's marks: how many tasks are marked, the tally, and the first ready task.
 use grid::Grid;
+use plan::BufferOf7;
 use plan::Plan;
 use plan::PlanSizes;
-use refusal::Outcome;
 use refusal::Refusal;
 ghost use mathlib.Core.Path.{_≡_};
-ghost use mathlib.Core.Bool.{true};
 ghost use Prim.Native.Nat.{_<_};
 ghost use lib.ListN.{length};
 ghost use Rattle.number.specs.Numbers.{one};
-ghost use Rattle.grid.specs.Grid.{gridKept};
 ghost use Rattle.tasks.specs.Counts.{doneAt};
 ghost use Rattle.tasks.specs.Marks.{isMarked};
 ghost use Rattle.tasks.specs.Lent.{Lent, LentAt};
@@ -46,25 +44,21 @@ struct Sums {
 pub fn report(plan: Plan, marks: &[u32]) -> ReportAnswer
     ensures { λ r. ⌜ reportGiven r ≡ report plan (now (marks .entry)) ⌝ }
 {
-    let known = plan.sizes();
+    let lent = plan::only_of_7(BufferOf7::Marks(marks.len()));
+    let known = plan.sizes_for(lent);
     match known {
         PlanSizes::Known(_) => report_on(plan.grid, marks),
         PlanSizes::Refused(refusal) => ReportAnswer::Refused(refusal),
     }
 }
 
-// The report on the marks of a map of these sizes.
+// The report on as many marks as a map of these sizes needs.
 fn report_on(grid: Grid, marks: &[u32]) -> ReportAnswer
-    requires { ⌜ gridKept grid ≡ true ⌝ }
+    requires { ⌜ Lent grid (length (now marks)) ⌝ }
     ensures { λ r. ⌜ reportGiven r ≡ reportOn grid (now (marks .entry)) ⌝ }
 {
-    let blocks = grid.blocks();
-    let length = refusal::too_short(marks.len(), blocks);
-    if let Outcome::Refused(refusal) = length {
-        return ReportAnswer::Refused(refusal);
-    }
     let broken = first_broken(grid, marks);
-    if broken < blocks {
+    if broken < grid.blocks() {
         return ReportAnswer::Refused(Refusal::MarkBroken(broken));
     }
     let sums = sums_of(grid, marks);

@@ -2,6 +2,9 @@
 // bottom with right and left behind it.
 use filter::Window;
 use grid::Grid;
+use plan::BufferOf7;
+use plan::Length;
+use plan::Lengths;
 use plan::Plan;
 use plan::PlanSizes;
 use refusal::Outcome;
@@ -33,22 +36,19 @@ pub fn serial_passes(plan: Plan, map: &[i32], output: &mut [u64]) -> Outcome
     ensures answer { λ r. ⌜ answerOf r ≡ serialAnswer plan (length (now (map .entry))) (length (now (output .entry))) ⌝ }
     ensures result { λ _. ⌜ now (output .exit) ≡ serialOutput plan (now (map .entry)) (now (output .entry)) ⌝ }
 {
-    let outcome = answer(plan, map.len(), output.len());
-    let Outcome::Accepted = outcome else {
-        return outcome;
+    let lent = Lengths {
+        of7: BufferOf7::NoneOf7,
+        strips: Length::NotLent,
+        map: Length::Of(map.len()),
+        output: Length::Of(output.len()),
     };
-    filter_map(plan, map, output);
-    outcome
-}
-
-// The answer to a map and an output of these lengths.
-fn answer(plan: Plan, map_length: usize, output_length: usize) -> Outcome
-    ensures { λ r. ⌜ answerOf r ≡ serialAnswer plan «map_length» «output_length» ⌝ }
-{
-    let known = plan.sizes();
+    let known = plan.sizes_for(lent);
     match known {
         PlanSizes::Refused(refusal) => Outcome::Refused(refusal),
-        PlanSizes::Known(sizes) => sizes.map_and_output(map_length, output_length),
+        PlanSizes::Known(_) => {
+            filter_map(plan, map, output);
+            Outcome::Accepted
+        }
     }
 }
 

@@ -16,6 +16,7 @@ use Rattle.refusal.proofs.Table.{refused-before, accepted-before, not-due, rows
 use Rattle.plan.specs.declared.Plan.{Plan}
 use Rattle.plan.specs.Rules.{keepsRules}
 use Rattle.plan.specs.Sizes.{neededMarks, neededStrips, neededPixels, sizesOf}
+use Rattle.plan.specs.FirstTests.{lentRows}
 use Rattle.plan.proofs.Record.{rules}
 use Rattle.grid.proofs.Extents.{count-bounded}
 use Rattle.plan.proofs.Needed.{bounds}
@@ -24,7 +25,6 @@ use Rattle.plan_reader.specs.ReadPlan.{planRows, readPlan}
 use Rattle.plan_writer.proofs.RoundTripRead.{read-keeps-rules}
 use Rattle.report.specs.Values.{Values}
 use Rattle.report.specs.Report.{report}
-use Rattle.job_spec.specs.Calls.{lentRows}
 use Rattle.whole_job.specs.WholeJob.{wholeAnswer}
 use Rattle.whole_job.proofs.Steps.{whole-job-done}
 use Rattle.smooth_job.specs.declared.Smoothed.{Smoothed}
@@ -79,7 +79,7 @@ module _ (plan : Plan) (heights : List ℤ) (given : AsksJob plan heights) where
 
   -- Marks, strips and map are long enough: the output decides.
   job-answer : (output : List ℕ)
-      → wholeAnswer plan heights (jobLists output) ≡ firstDue (7 at 0 when ltb (length output) (neededPixels plan) ∷ [])
+      → wholeAnswer plan heights (jobLists output) ≡ firstDue (16 at 0 when ltb (length output) (neededPixels plan) ∷ [])
   unfolding wholeAnswer lentRows sizesOf jobLists
   job-answer output =
       rw (
@@ -106,12 +106,12 @@ smooth-done input plan heights output e long = smooths plan heights (asks-job in
 
 -- Where the tests accept, the table's last row decides.
 accepted-row : (plan : Plan) (heights : List ℤ) → AsksJob plan heights → (output : List ℕ)
-    → answerTo (job plan heights) output .answer ≡ firstDue (7 at 0 when ltb (length output) (neededPixels plan) ∷ [])
+    → answerTo (job plan heights) output .answer ≡ firstDue (16 at 0 when ltb (length output) (neededPixels plan) ∷ [])
 unfolding answerTo
 accepted-row plan heights given output = by (ltb (length output) (neededPixels plan)) refl
   where
     by : (short : Bool) → ltb (length output) (neededPixels plan) ≡ short
-        → answerTo (job plan heights) output .answer ≡ firstDue (7 at 0 when ltb (length output) (neededPixels plan) ∷ [])
+        → answerTo (job plan heights) output .answer ≡ firstDue (16 at 0 when ltb (length output) (neededPixels plan) ∷ [])
     by true e = rw (job-answer plan heights given output, e)
     by false e = rw e (ap (λ (g : Given Line). g .answer) (smooths plan heights given output (ltb-false _ _ e) .answer))
 
@@ -127,7 +127,7 @@ smooth-table input output = by (firstDue (inputRows input)) refl
   where
     by : (answer : Answer) → firstDue (inputRows input) ≡ answer
         → answerTo (asked input) output .answer
-        ≡ firstDue (inputRows input ++ (7 at 0 when ltb (length output) (neededPixels (planIn input)) ∷ []))
+        ≡ firstDue (inputRows input ++ (16 at 0 when ltb (length output) (neededPixels (planIn input)) ∷ []))
     by (refused number place) e =
         ap (λ request. answerTo request output .answer) (asked-by input (refused number place) e)
         ∙ refused-before (inputRows input) _ (sym e)

@@ -1,7 +1,7 @@
 -- What the code's ways through the tests and the job come to in the definitions.
 -- Assumes nothing.
 use mathlib.Core.Path.{_≡_, refl, sym, ap, _∙_}
-use mathlib.Core.Bool.{true, true≢false}
+use mathlib.Core.Bool.{true}
 use mathlib.Core.List.{List}
 use Prim.Native.Nat.{ℕ, _+_, _/_, _%_, _≤_, _<_}
 use lib.IntN.{ℤ}
@@ -12,12 +12,15 @@ use Rattle.refusal.specs.declared.Outcome.{Outcome}
 use Rattle.refusal.specs.declared.Outcome.the-variants.{Accepted, Refused}
 use Rattle.refusal.specs.Refusals.{numberOf, placeOf, accepted}
 use Rattle.refusal.specs.Table.{firstDue, answerOf, Given}
-use Rattle.refusal.proofs.Table.{refused-before, accepted-before}
+use Rattle.refusal.proofs.Table.{refused-before, accepted-before, not-accepted}
+use Rattle.plan.specs.declared.BufferOf7.the-variants as of7
 use Rattle.plan.specs.declared.Plan.{Plan}
 use Rattle.plan.specs.declared.PlanSizes.{PlanSizes}
 use Rattle.plan.specs.declared.PlanSizes.the-variants.{Refused as NoSizes}
 use Rattle.plan.specs.Rules.{keepsRules}
-use Rattle.plan.specs.Sizes.{neededPixels, planSizes, sizesGiven}
+use Rattle.plan.specs.Sizes.{neededPixels}
+use Rattle.plan.specs.FirstTests.{onlyOf7, planSizes, sizesGiven}
+use Rattle.plan.proofs.FirstTests.{lent-accepted}
 use Rattle.buffer.specs.Lists.{listOf}
 use Rattle.plan.proofs.Known.{sizes-refused}
 use Rattle.plan_reader.specs.declared.PlanRead.{PlanRead}
@@ -122,7 +125,10 @@ module _ (plan : Plan) (input : List ℕ) where
   pub kept-refused : {A : Type 0} → keepsRules plan ≡ true → (known : PlanSizes) → sizesGiven known ≡ planSizes plan
       → (refusal : Refusal) → known ≡ NoSizes refusal → A
   kept-refused kept known is refusal e =
-      absurd (true≢false (sym kept ∙ sizes-refused plan known is refusal e .0))
+      let accepts =
+      lent-accepted plan (onlyOf7 of7.NoneOf7)
+      (record { rules = kept; of7-long = tt; strips-long = tt; map-long = tt; output-long = tt }) in
+      absurd (not-accepted (sizes-refused plan (onlyOf7 of7.NoneOf7) known is refusal e ∙ accepts))
 
   module _ (pixels : ℕ) (pixels-are : pixels ≡ neededPixels plan) where
     pub too-many-pixels : pixelLimit < pixels → Refuses (askedWith input plan) 13 0

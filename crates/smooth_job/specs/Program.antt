@@ -143,13 +143,14 @@ reportedWith plan reported = reportedAfter accepted plan reported
 abbrev pub refusedWith : (number place : ℕ) → Given Line
 refusedWith number place = given (refused number place) zeroLine zeroLine
 
--- What is answered: to a job 7 where the output is too short for it, else after the job what the report says of its marks.
+-- What is answered: to a job what the whole job is refused by (for a job that an input asks for, 16 alone: `SmoothTable`),
+-- else after the job what the report says of its marks.
 unfoldable pub answerTo : Asked → List ℕ → Given Line
 answerTo (refusedInput number place) output = refusedWith number place
 answerTo (job plan heights) output =
     reportedAfter (wholeAnswer plan heights (jobLists output)) plan (report plan (jobAfter plan heights output .marks))
 
--- Document 01's number and place, and the line, that `smooth` answers.
+-- The documents' number and place, and the line, that `smooth` answers.
 abbrev pub smoothGiven : Smoothed → Given Line
 smoothGiven smoothed =
     record {

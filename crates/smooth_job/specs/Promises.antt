@@ -25,13 +25,13 @@ SmoothDone =
     (input : List ℕ) (plan : Plan) (heights : List ℤ) (output : List ℕ) → asked input ≡ job plan heights
     → neededPixels plan ≤ length output → Smooths plan heights output
 
--- All that is refused, as one table: the program's tests, and then 7 where the output has fewer than h×w words. The program's own
--- output has 64, so that it never prints 7.
+-- All that is refused, as one table: the program's tests, and then 16 where the output has fewer than h×w words. The
+-- program's own output has 64, so that it never prints 16; it lends enough of all else, and prints no 7, 14 or 15.
 abbrev pub SmoothTable : Type 0
 SmoothTable =
     (input output : List ℕ)
     → answerTo (asked input) output .answer
-    ≡ firstDue (inputRows input ++ (7 at 0 when ltb (length output) (neededPixels (planIn input)) ∷ []))
+    ≡ firstDue (inputRows input ++ (16 at 0 when ltb (length output) (neededPixels (planIn input)) ∷ []))
 
 -- An input cut to the length that stands for it asks for what the whole input does.
 abbrev pub CutAsksTheSame : Type 0

@@ -7,17 +7,15 @@ use Prim.Native.Nat.{ℕ, zero, suc, _+_, _≤_, _<_}
 use native.Mathlib.Omega.{arith}
 use lib.IntN.{ℤ}
 use lib.ListN.{length}
-use borrow.Author.Tests.{ltb-false, not-false}
 use Rattle.refusal.specs.Refusals.{accepted}
-use Rattle.refusal.proofs.Table.{not-due}
 use Rattle.plan.specs.declared.Plan.{Plan}
-use Rattle.plan.specs.Rules.{keepsRules}
-use Rattle.plan.specs.Sizes.{neededMarks, neededStrips, neededPixels, taskCount, sizesOf}
+use Rattle.plan.specs.Sizes.{neededPixels, taskCount}
+use Rattle.plan.proofs.FirstTests.{suffices}
 use Rattle.tasks.specs.Tasks.{BlockTask, ready, nothingDone}
 use Rattle.tasks.proofs.Counting.{count-nothing}
 use Rattle.tasks.proofs.Progress.{count-ready}
 use Rattle.report.specs.Report.{report}
-use Rattle.job_spec.specs.Calls.{Buffers, startAnswer, started, lentRows, afterTask, afterCalls}
+use Rattle.job_spec.specs.Calls.{Buffers, startAnswer, started, lentToTask, afterTask, afterCalls}
 use Rattle.job_spec.specs.Demand3.{doneBy, doneFrom, doneAfter, countAfter}
 use Rattle.job_spec.proofs.Start.{start-accepted}
 use Rattle.job_spec.proofs.Demand3.{demand3, next-ready}
@@ -83,20 +81,11 @@ module _ (plan : Plan) (heights : List ℤ) (lent : Buffers) (start : startAnswe
 pub start-of-whole : (plan : Plan) (heights : List ℤ) (lent : Buffers) → wholeAnswer plan heights lent ≡ accepted
     → (startAnswer plan (lent .marks) (lent .strips) ≡ accepted)
     × ((neededPixels plan ≤ length heights) × (neededPixels plan ≤ length (lent .output)))
-unfolding wholeAnswer lentRows sizesOf
+unfolding wholeAnswer
 start-of-whole plan heights lent e =
-    let kept = not-due _ _ _ _ e in
-    let marks = not-due _ _ _ _ (kept .others) in
-    let strips = not-due _ _ _ _ (marks .others) in
-    let map = not-due _ _ _ _ (strips .others) in
-    let output = not-due _ _ _ _ (map .others) in (
-      start-accepted plan (lent .marks) (lent .strips) (not-false (keepsRules plan) (kept .first))
-          (ltb-false (length (lent .marks)) (neededMarks plan) (marks .first))
-          (ltb-false (length (lent .strips)) (neededStrips plan) (strips .first)),
-      (
-        ltb-false (length heights) (neededPixels plan) (map .first),
-        ltb-false (length (lent .output)) (neededPixels plan) (output .first),
-      ),
+    let enough = suffices plan (lentToTask heights lent) e in (
+      start-accepted plan (lent .marks) (lent .strips) (enough .rules) (enough .of7-long) (enough .strips-long),
+      (enough .map-long, enough .output-long),
     )
 
 -- ---- the law

@@ -10,11 +10,12 @@ use Rattle.refusal.specs.Refusals.{Answer, accepted}
 use Rattle.refusal.specs.Table.{firstDue, ifAccepted}
 use Rattle.plan.specs.declared.Plan.{Plan}
 use Rattle.plan.specs.Sizes.{neededMarks, neededStrips, taskCount}
+use Rattle.plan.specs.FirstTests.{lentRows}
 use Rattle.buffer.specs.Lists.{wordAt}
 use Rattle.report.specs.Values.{Values, allDoneValues}
 use Rattle.report.specs.Report.{report}
 use Rattle.serial.specs.Serial.{serialOutput}
-use Rattle.job_spec.specs.Calls.{Buffers, started, lentRows, afterTask}
+use Rattle.job_spec.specs.Calls.{Buffers, started, lentToTask, afterTask}
 
 -- The lists after the task that a report's values name; as they were where they name none.
 abbrev pub afterNamed : Plan → List ℤ → Values → Buffers → Buffers
@@ -30,9 +31,9 @@ unfoldable pub afterSteps : Plan → List ℤ → ℕ → Buffers → Buffers
 afterSteps plan heights zero buffers = buffers
 afterSteps plan heights (suc count) buffers = afterStep plan heights (afterSteps plan heights count buffers)
 
--- What a whole job answers: 6, and then 7 if one of the four lent lists is too short.
+-- What a whole job answers: as a task, by the record and the four lists that it is lent, 6, 7, 14, 15, 16.
 unfoldable pub wholeAnswer : Plan → List ℤ → Buffers → Answer
-wholeAnswer plan heights lent = firstDue (lentRows plan heights lent)
+wholeAnswer plan heights lent = firstDue (lentRows plan (lentToTask heights lent))
 
 -- The lists after a whole job: a refused call leaves all as it was.
 unfoldable pub afterWholeJob : Plan → List ℤ → Buffers → Buffers

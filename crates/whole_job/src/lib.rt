@@ -1,4 +1,7 @@
 // A whole job: what the report names is performed, as often as there are tasks, after which it names none.
+use plan::BufferOf7;
+use plan::Length;
+use plan::Lengths;
 use plan::Plan;
 use plan::PlanSizes;
 use refusal::Outcome;
@@ -20,13 +23,15 @@ pub fn whole_job(
     ensures answer { λ r. ⌜ answerOf r ≡ wholeAnswer plan (now (map .entry)) (lists (now (marks .entry)) (now (strips .entry)) (now (output .entry))) ⌝ }
     ensures buffers { λ _. ⌜ lists (now (marks .exit)) (now (strips .exit)) (now (output .exit)) ≡ afterWholeJob plan (now (map .entry)) (lists (now (marks .entry)) (now (strips .entry)) (now (output .entry))) ⌝ }
 {
-    let known = plan.sizes();
+    let lent = Lengths {
+        of7: BufferOf7::Marks(marks.len()),
+        strips: Length::Of(strips.len()),
+        map: Length::Of(map.len()),
+        output: Length::Of(output.len()),
+    };
+    let known = plan.sizes_for(lent);
     match known {
         PlanSizes::Known(sizes) => {
-            let lengths = sizes.all_lent(marks.len(), strips.len(), map.len(), output.len());
-            if let Outcome::Refused(refusal) = lengths {
-                return Outcome::Refused(refusal);
-            }
             job::start(plan, marks, strips);
             perform_steps(plan, sizes.tasks, map, marks, strips, output);
             Outcome::Accepted

@@ -7,6 +7,7 @@ use Rattle.number.specs.SignedBits.{twosComplement}
 use Rattle.plan.specs.Rules.{coefficientsKept, passKept, passesKept, keepsRules}
 use Rattle.grid.specs.Grid.{gridKept, blockCount, blockExtent, blockRow, blockColumn, blockArea, blockPixelPlace, neighbour, goesOn}
 use Rattle.plan.specs.Sizes.{sizesOf}
+use Rattle.plan.specs.FirstTests.{lentRows}
 use Rattle.buffer.specs.Written.{rectangleWritten, rowWritten, written, cleared}
 use Rattle.buffer.specs.Lists.{listOf, joined}
 use Rattle.plan_reader.specs.ReadPlan.{passPlace, wordRows, headRows, coefficientRows, passRows, passesRows, endRows, sideRows, planRows, readPlan}
@@ -23,7 +24,7 @@ use Rattle.tasks.specs.Marks.{hasBit, isMarked, spareClear, markValid, markOf, 
 use Rattle.tasks.specs.Verdict.{blocksOf, lookedAt, leastBrokenOf, leastBroken, verdictRows}
 use Rattle.task_words.specs.Strips.{stripPlace, insideBlock, edgeWord, stripWord, nearestFirst, pastEdges, stripWrittenTo, slotWritten}
 use Rattle.task_words.specs.Writes.{aloneWord, collected, linkWord, linked, finishWord, blockWritten, finished}
-use Rattle.job_spec.specs.Calls.{startAnswer, unmarked, marksAfterStart, stripsAfterStart, started, lentRows, taskAnswer, stripsAfter, outputAfter, performed, afterTask, afterCalls}
+use Rattle.job_spec.specs.Calls.{startAnswer, unmarked, marksAfterStart, stripsAfterStart, started, taskAnswer, stripsAfter, outputAfter, performed, afterTask, afterCalls}
 use Rattle.worked_examples.specs.Examples.{serialExample, rectangleExample, afterJob, outputExample, stripsExample, jobExamples, starred, furtherRectangles, ExamplesHold}
 
 pub examples-hold : ExamplesHold

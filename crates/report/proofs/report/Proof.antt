@@ -1,20 +1,33 @@
--- Refusal 6 where the record breaks a rule, else the report on its marks.
+-- Refused by the record or by the length of the marks, else the report on them.
+use mathlib.Core.Path.{_≡_}
 use borrow.Author.Needs.{needs}
-use Rattle.report.proofs.ReportAnswers.{broken-record, known-kept, known-report}
+use Rattle.plan.specs.FirstTests.{sizesFor, sizesGiven}
+use Rattle.report.specs.Report.{lentToReport}
+use Rattle.report.proofs.ReportAnswers.{not-tested, marks-lent, tested-report}
 use Rattle.report.proofs.report.Statement.{statement}
 use Rattle.report.proofs.report.Tie as tie
 
-sizes-requires : tie.Need-sizes-requires
-sizes-requires c κs = search needs
+abbrev at-start : tie.After-sizes-for → tie.Start
+at-start c = c .before .before .before
+
+-- The record and the length of the marks were tested.
+tested : (c : tie.After-sizes-for)
+    → sizesGiven (c .sizes-for .result)
+    ≡ sizesFor (at-start c .args .plan) (lentToReport (at-start c .args .marks .now))
+tested c = rw (c .before .only-of-7 .ensures) at (c .sizes-for .ensures)
+
+only-of-7-requires : tie.Need-only-of-7-requires
+only-of-7-requires c κs = search needs
+
+sizes-for-requires : tie.Need-sizes-for-requires
+sizes-for-requires c κs = search needs
 
 enum-told : tie.Need-enum-told
 enum-told c = search needs
 
 report-on-requires : tie.Need-report-on-requires
 report-on-requires c κs =
-    let sizes = c .before .before in
-    known-kept (sizes .before .before .args .plan) (sizes .before .before .args .marks .now) _ (sizes .sizes .ensures) _
-    (c .enum-told .given .1)
+    let sizes = c .before .before in marks-lent _ (at-start sizes .args .marks .now) _ (tested sizes) _ (c .enum-told .given .1)
 
 enum-known-known : tie.Need-enum-known-known
 enum-known-known c = search needs
@@ -22,16 +35,22 @@ enum-known-known c = search needs
 returns : tie.Need-returns
 returns c =
     let sizes = c .before .before .before in
-    known-report (sizes .before .before .args .plan) (sizes .before .before .args .marks .now) _ (sizes .sizes .ensures) _
-    (c .before .enum-told .given .1) (c .report-on .result) (c .report-on .ensures)
+    tested-report _ (at-start sizes .args .marks .now) _ (tested sizes) _ (c .before .enum-told .given .1)
+    (c .report-on .result) (c .report-on .ensures)
 
 returns-2 : tie.Need-returns-2
 returns-2 c =
     let sizes = c .before .before .before in
-    broken-record (sizes .before .before .args .plan) (sizes .before .before .args .marks .now) _ (sizes .sizes .ensures) _
-    (c .before .known .given .1)
+    not-tested _ (at-start sizes .args .marks .now) _ (tested sizes) _ (c .before .known .given .1)
 
 pub report-spec : {M : Type 1} → statement M
 report-spec =
     tie.close
-    (tie.spec sizes-requires enum-told report-on-requires enum-known-known returns returns-2)
+    (tie.spec
+    only-of-7-requires
+    sizes-for-requires
+    enum-told
+    report-on-requires
+    enum-known-known
+    returns
+    returns-2)

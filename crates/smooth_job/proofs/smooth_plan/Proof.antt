@@ -20,7 +20,7 @@ smooth-counted-requires c κs =
     let known = c .before .before in
     let sizes = known .before .before in
     let s = sizes .before .before .before in
-    let are = sizes-known (s .args .plan) _ (sizes .sizes .ensures) _ (known .known .given .1) .1 in
+    let are = sizes-known (s .args .plan) _ _ (sizes .sizes .ensures) _ (known .known .given .1) .1 in
     (ap (λ (z : Sizes). z .pixels) are, s .pre .1, s .pre .2)
 
 enum-known-known-2 : tie.Need-enum-known-known-2
