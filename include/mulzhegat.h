@@ -12,19 +12,26 @@
  * call (mzg_serial), or block by block in any order that respects the tasks' needs (mzg_start, mzg_task, mzg_report).
  *
  * Answers. Every function answers 0 where the call is accepted, else number * 2^32 + place: the cause, by the numbers
- * in the enum below, and where it is. MZG_NUMBER and MZG_PLACE take an answer apart. Words, blocks, rows and columns
- * count from 0.
+ * in the enum below, and where it is. MZG_NUMBER and MZG_PLACE take an answer apart. Keep it in a uint64_t: its low 32
+ * bits are 0 for most refusals. Words, blocks, rows and columns count from 0.
  *
- * Where several causes hold, a plan reader's call is refused by the first of 1, 2, 3 from left to right (2 before 3 at
- * one word), then 5, then 4; every other call by the least number.
+ * Where several causes hold, the one that is tested first refuses the call. mzg_plan_read is refused by the first of 1,
+ * 2, 3 from left to right (2 before 3 at one word), then 5, then 4. Every other call tests the record (6), then the
+ * lengths of the buffers that it is lent (7, 14, 15, 16), and only then the rest, by rising numbers (8 to 12): a short
+ * output is 16 also where the task does not exist. The numbers after `Refused:` stand in that order.
+ *
+ * So a buffer that is too short has one of four numbers: 14, 15 and 16 for the strips, the map and the output, 7 for
+ * the words of mzg_plan_write, the marks or the table, whichever the call is lent. The first that is too short is
+ * named; mzg_plan_sizes gives the lengths that all of them need.
  *
  * Buffers. A buffer is lent as a pointer and its length in words; words past the needed length are never altered. A
  * refused call leaves every lent buffer as it was. What a call answers beside its number (plan, sizes, progress, sum)
  * is written whole on every call: all zeros beside a refusal.
  *
- * Pointers are not tested. None may be null, each must be aligned for its type, and no two of a call may overlap, the
- * plan record and what is answered (plan, sizes, progress, sum) among them. Where no strip word is needed (all orders
- * 0), lend the address of any 64-bit word with length 0.
+ * Pointers are not tested, nor that a buffer is as long as is said. None may be null, each must be aligned for its
+ * type, and no two of a call may overlap, the plan record and what is answered (plan, sizes, progress, sum) among them.
+ * Where no strip word is needed (all orders 0), lend the address of any 64-bit word with length 0, which overlaps
+ * nothing.
  *
  * The functions keep no state between calls. Calls that share no buffer that one of them writes may run at the same
  * time; two mzg_task calls of one job must not. A job may be broken off between any two calls: keep plan, map, marks,
@@ -51,12 +58,16 @@ enum {
     MZG_SIDE_BELOW_ORDER = 4,   /* the block side is below an order; place: 1 */
     MZG_WORDS_AFTER_END = 5,    /* words after the end word; place: the first of them */
     MZG_RECORD_BREAKS_RULE = 6, /* the plan record breaks a rule (see mzg_plan) */
-    MZG_BUFFER_TOO_SHORT = 7,   /* a lent buffer is too short */
+    MZG_BUFFER_TOO_SHORT = 7,   /* marks, words of mzg_plan_write or table too short (strips, map, output: 14 to 16) */
     MZG_NO_SUCH_TASK = 8,       /* no such block, or the block has no such task */
     MZG_MARK_BROKEN = 9,        /* a mark looked at has a wrong kind or a spare bit; place: the least such block */
     MZG_ALREADY_MARKED = 10,    /* the task is already marked */
     MZG_NEED_UNMARKED = 11,     /* a need of the task is not marked yet */
-    MZG_RECTANGLE_OUTSIDE = 12  /* top >= bottom, left >= right, bottom > rows or right > columns */
+    MZG_RECTANGLE_OUTSIDE = 12, /* top >= bottom, left >= right, bottom > rows or right > columns */
+    /* 13 is for inputs of the program `smooth`: no function answers it */
+    MZG_STRIPS_TOO_SHORT = 14,  /* the strips are too short */
+    MZG_MAP_TOO_SHORT = 15,     /* the map is too short */
+    MZG_OUTPUT_TOO_SHORT = 16   /* the output is too short */
 };
 
 /* The number and the place of an answer. */
@@ -113,7 +124,7 @@ typedef struct {
  * Refused: 1, 2, 3, 5, 4; the record is then all zeros. */
 uint64_t mzg_plan_read(const uint32_t *words, size_t words_len, mzg_plan *plan);
 
-/* Writes the words of a plan. Needs sizes.words words. Refused: 6, 7. */
+/* Writes the words of a plan. Needs sizes.words words. Refused: 6, 7 (words). */
 uint64_t mzg_plan_write(const mzg_plan *plan, uint32_t *words, size_t words_len);
 
 /* Gives the lengths that the plan needs. Refused: 6; the sizes are then all zeros. */
@@ -121,7 +132,8 @@ uint64_t mzg_plan_sizes(const mzg_plan *plan, mzg_sizes *sizes);
 
 /* Starts a job: the needed marks become 0x70000000 (kind 7, nothing done) and the needed strip words 0. A mark has its
  * kind, 7, in the top four bits and bit t set once task t is done; bits 6 to 27, and the bits of tasks that the block
- * does not have, are spare and 0. Needs sizes.marks marks and sizes.strips strip words. Refused: 6, 7. */
+ * does not have, are spare and 0. Needs sizes.marks marks and sizes.strips strip words.
+ * Refused: 6, 7 (marks), 14 (strips). */
 uint64_t mzg_start(const mzg_plan *plan, uint32_t *marks, size_t marks_len, uint64_t *strips, size_t strips_len);
 
 /* Performs one task on one block. Block (m, n), with m < M and n < N, starts at row m * side and column n * side; the
@@ -142,18 +154,21 @@ uint64_t mzg_start(const mzg_plan *plan, uint32_t *marks, size_t marks_len, uint
  * order: one that comes too early is refused by 11 and may be repeated. An order without any 11: the tasks 0 to 5 one
  * after another, each over the blocks by their number, 2 and 4 from the last block to the first (links that a block
  * does not have are refused by 8).
- * Needs, for every task: sizes.pixels map and output words, sizes.marks marks, sizes.strips strip words.
- * Refused: 6, 7, 8, 9 (the marks of the block and of the neighbours in its needs are looked at), 10, 11. */
+ * Needs, for every task, also one that does not read or write them: sizes.marks marks, sizes.strips strip words,
+ * sizes.pixels map and output words.
+ * Refused: 6, 7 (marks), 14 (strips), 15 (map), 16 (output), 8, 9 (the marks of the block and of the neighbours in its
+ * needs are looked at), 10, 11. The buffers are tested in this order, not in that of the parameters. */
 uint64_t mzg_task(const mzg_plan *plan, size_t task, size_t block, const int32_t *map, size_t map_len,
                   uint32_t *marks, size_t marks_len, uint64_t *strips, size_t strips_len,
                   uint64_t *output, size_t output_len);
 
 /* Reports how far a job is and names a ready task: one that exists, is not marked and has all its needs marked.
  * Needs sizes.marks marks and looks at all of them, so that a large job asks for it now and then, not for every task.
- * Refused: 6, 7, 9; the progress is then all zeros. */
+ * Refused: 6, 7 (marks), 9; the progress is then all zeros. */
 uint64_t mzg_report(const mzg_plan *plan, const uint32_t *marks, size_t marks_len, mzg_progress *progress);
 
-/* Runs the four passes over the whole map. Needs sizes.pixels map and output words. Refused: 6, 7. */
+/* Runs the four passes over the whole map. Needs sizes.pixels map and output words.
+ * Refused: 6, 15 (map), 16 (output). */
 uint64_t mzg_serial(const mzg_plan *plan, const int32_t *map, size_t map_len, uint64_t *output, size_t output_len);
 
 /* Gives the sum over rows top to bottom - 1 and columns left to right - 1 from a finished summed-area table S: the word
@@ -164,8 +179,8 @@ uint64_t mzg_serial(const mzg_plan *plan, const int32_t *map, size_t map_len, ui
  * table it is what the four words make of it, from -2^63 (where they make 2^63) to 2^63 - 1; where they make 0 it is 0.
  * The record, the length and the rectangle are tested, not that plan and table are those of a summed-area table.
  * The sum is signed: print it with PRId64, and make a count signed before dividing by it.
- * Needs sizes.pixels table words. Refused: 6, 7, 12; the sum is then 0, as that of an accepted call can be: look at the
- * answer first. */
+ * Needs sizes.pixels table words.
+ * Refused: 6, 7 (table), 12; the sum is then 0, as that of an accepted call can be: look at the answer first. */
 uint64_t mzg_rectangle(const mzg_plan *plan, size_t top, size_t left, size_t bottom, size_t right,
                        const uint64_t *table, size_t table_len, int64_t *sum);
 
