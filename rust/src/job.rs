@@ -26,7 +26,7 @@ extern "C" {
 /// words.
 ///
 /// # Errors
-/// 6, 7.
+/// 6, 7 (marks), 14 (strips).
 pub fn start(plan: &Plan, marks: &mut [u32], strips: &mut [u64]) -> Result<(), Refusal> {
     // SAFETY: the record is readable and both slices are writable for their lengths; borrowed mutably, they overlap
     // nothing.
@@ -36,7 +36,8 @@ pub fn start(plan: &Plan, marks: &mut [u32], strips: &mut [u64]) -> Result<(), R
 /// Performs one task on one block. Needs the lengths of [`Sizes`]: `pixels` map and output words, `marks`, `strips`.
 ///
 /// # Errors
-/// 6, 7, 8, 9 (the marks of the block and of the neighbours in its needs are looked at), 10, 11.
+/// 6, then 7 (marks), 14 (strips), 15 (map) and 16 (output), also where the task does not read or write that buffer;
+/// then 8, 9 (the marks of the block and of the neighbours in its needs are looked at), 10, 11.
 ///
 /// # Order
 /// A small job can perform what the report names, as here. The report looks at all marks, so a large one goes through
@@ -86,7 +87,7 @@ pub fn perform(
 /// Reports how far a job is and names a ready task, or none. Needs [`Sizes::marks`] marks, and looks at all of them.
 ///
 /// # Errors
-/// 6, 7, 9.
+/// 6, 7 (marks), 9.
 pub fn report(plan: &Plan, marks: &[u32]) -> Result<Progress, Refusal> {
     let mut progress = Progress::default();
     report_into(plan, marks, &mut progress)?;
@@ -94,6 +95,9 @@ pub fn report(plan: &Plan, marks: &[u32]) -> Result<Progress, Refusal> {
 }
 
 /// Reports in a record, which is all zeros beside a refusal.
+///
+/// # Errors
+/// As [`report`].
 pub fn report_into(plan: &Plan, marks: &[u32], progress: &mut Progress) -> Result<(), Refusal> {
     // SAFETY: the record and the marks are readable, the marks for their length, and the progress is writable; borrowed
     // mutably, it overlaps nothing.

@@ -4,12 +4,12 @@
 //! - [`serial`]: the four passes over a whole map, and the sum over a rectangle of a summed-area table.
 //! - [`job`]: start a job, perform its tasks in any order that respects their needs, report progress.
 //!
-//! Slices go in and `Result<_, Refusal>` comes out; the errors of a call are listed by the numbers of [`Refusal`]. A
-//! refused call leaves every lent slice as it was; words past the needed length are never altered.
-//! `include/mulzhegat.h` has the same calls for C. What it asks of pointers (not null, aligned for their type, no two
-//! overlapping) holds here by borrowing: what a call writes is borrowed mutably. The archive must be of this crate's
-//! version: the length of a plan record follows [`MAX_ORDER`]. [`job::perform`] takes less than 26 KiB of stack, every
-//! other call less than 4 KiB.
+//! Slices go in and `Result<_, Refusal>` comes out; the errors of a call are listed by the numbers of [`Refusal`], in
+//! the order in which they are tested. A refused call leaves every lent slice as it was; words past the needed length
+//! are never altered. `include/mulzhegat.h` has the same calls for C. What it asks of pointers (not null, aligned for
+//! their type, no two overlapping) holds here by borrowing: what a call writes is borrowed mutably. The archive must be
+//! of this crate's version: the length of a plan record follows [`MAX_ORDER`]. [`job::perform`] takes less than 26 KiB
+//! of stack, every other call less than 4 KiB.
 
 pub mod job;
 pub mod plan;

@@ -11,7 +11,7 @@ extern "C" {
 /// Reads a plan from its words.
 ///
 /// # Errors
-/// 1, 2 and 3 from left to right, then 5, then 4.
+/// 1, 2 and 3 from left to right (2 before 3 at one word), then 5, then 4.
 ///
 /// # Example
 /// ```
@@ -30,6 +30,9 @@ pub fn read(words: &[u32]) -> Result<Plan, Refusal> {
 }
 
 /// Reads a plan from its words into a record, which is all zeros beside a refusal.
+///
+/// # Errors
+/// As [`read`].
 pub fn read_into(words: &[u32], plan: &mut Plan) -> Result<(), Refusal> {
     // SAFETY: the slice is readable for its length and the record is writable; borrowed mutably, it overlaps nothing.
     Refusal::check(unsafe { mzg_plan_read(words.as_ptr(), words.len(), plan) })
@@ -38,7 +41,7 @@ pub fn read_into(words: &[u32], plan: &mut Plan) -> Result<(), Refusal> {
 /// Writes the words of a plan at the start of `words`, which needs [`Sizes::words`] words.
 ///
 /// # Errors
-/// 6, 7.
+/// 6, 7 (words).
 pub fn write(plan: &Plan, words: &mut [u32]) -> Result<(), Refusal> {
     // SAFETY: the record is readable and the slice is writable for its length; borrowed mutably, it overlaps nothing.
     Refusal::check(unsafe { mzg_plan_write(plan, words.as_mut_ptr(), words.len()) })
@@ -55,6 +58,9 @@ pub fn sizes(plan: &Plan) -> Result<Sizes, Refusal> {
 }
 
 /// Gives the lengths that a plan needs in a record, which is all zeros beside a refusal.
+///
+/// # Errors
+/// As [`sizes`].
 pub fn sizes_into(plan: &Plan, sizes: &mut Sizes) -> Result<(), Refusal> {
     // SAFETY: the plan is readable and the sizes are writable; borrowed mutably, they overlap nothing.
     Refusal::check(unsafe { mzg_plan_sizes(plan, sizes) })

@@ -18,7 +18,8 @@ pub enum Refusal {
     WordsAfterEnd(u32),
     /// 6: the plan record breaks a rule.
     RecordBreaksRule,
-    /// 7: a lent buffer is too short.
+    /// 7: the marks, the plan writer's words or the rectangle's table are too short; strips, map and output have
+    /// numbers of their own.
     BufferTooShort,
     /// 8: no such block or task there.
     NoSuchTask,
@@ -30,6 +31,12 @@ pub enum Refusal {
     NeedUnmarked,
     /// 12: the rectangle is empty or leaves the map.
     RectangleOutside,
+    /// 14: the strips are too short.
+    StripsTooShort,
+    /// 15: the map is too short.
+    MapTooShort,
+    /// 16: the output is too short.
+    OutputTooShort,
     /// An answer with a number, or a place beside its number, that no call gives.
     Unknown(u64),
 }
@@ -52,11 +59,15 @@ impl Refusal {
             (10, 0) => Refusal::AlreadyMarked,
             (11, 0) => Refusal::NeedUnmarked,
             (12, 0) => Refusal::RectangleOutside,
+            (14, 0) => Refusal::StripsTooShort,
+            (15, 0) => Refusal::MapTooShort,
+            (16, 0) => Refusal::OutputTooShort,
             _ => Refusal::Unknown(answer),
         })
     }
 
-    /// The number of the cause, 1 to 12.
+    /// The number of the cause: 1 to 12 or 14 to 16, since no call of this crate answers the program's own 13; of
+    /// [`Refusal::Unknown`] the number that was answered.
     pub fn number(self) -> u32 {
         match self {
             Refusal::WordsEndEarly(_) => 1,
@@ -71,6 +82,9 @@ impl Refusal {
             Refusal::AlreadyMarked => 10,
             Refusal::NeedUnmarked => 11,
             Refusal::RectangleOutside => 12,
+            Refusal::StripsTooShort => 14,
+            Refusal::MapTooShort => 15,
+            Refusal::OutputTooShort => 16,
             Refusal::Unknown(answer) => (answer >> 32) as u32,
         }
     }
@@ -90,9 +104,10 @@ impl Refusal {
     }
 }
 
+/// The number, the place and the name.
 impl fmt::Display for Refusal {
     fn fmt(&self, f: &mut fmt::Formatter<'_>) -> fmt::Result {
-        write!(f, "refused {} at {}", self.number(), self.place())
+        write!(f, "refused {} at {}: {self:?}", self.number(), self.place())
     }
 }
 
@@ -103,9 +118,15 @@ mod tests {
     use super::Refusal;
 
     #[test]
+    fn refusals_are_shown_with_number_place_and_name() {
+        assert_eq!(Refusal::StripsTooShort.to_string(), "refused 14 at 0: StripsTooShort");
+        assert_eq!(Refusal::MarkBroken(5).to_string(), "refused 9 at 5: MarkBroken(5)");
+    }
+
+    #[test]
     fn answers_are_read_and_written_back() {
         assert_eq!(Refusal::check(0), Ok(()));
-        for number in 0..15u64 {
+        for number in 0..20u64 {
             for place in [0u64, 1, 2, 4096, u64::from(u32::MAX)] {
                 let answer = number << 32 | place;
                 if answer == 0 {
@@ -114,7 +135,8 @@ mod tests {
                 let refusal = Refusal::check(answer).expect_err("only 0 is accepted");
                 assert_eq!(u64::from(refusal.number()) << 32 | u64::from(refusal.place()), answer);
                 let place_is_free = matches!(number, 1 | 2 | 3 | 5 | 9);
-                let known = (1..=12).contains(&number) && (place_is_free || place == u64::from(number == 4));
+                let place_is_right = place_is_free || place == u64::from(number == 4);
+                let known = matches!(number, 1..=12 | 14..=16) && place_is_right;
                 assert_eq!(refusal == Refusal::Unknown(answer), !known, "{refusal}");
             }
         }

@@ -19,7 +19,7 @@ extern "C" {
 /// Runs the four passes over the whole map. Map and output need rows * columns words.
 ///
 /// # Errors
-/// 6, 7.
+/// 6, 15 (map), 16 (output).
 ///
 /// # Example
 /// ```
@@ -59,7 +59,7 @@ impl Rectangle {
 /// modulo 2^64, read as signed. The table needs rows * columns words.
 ///
 /// # Errors
-/// 6, 7, 12.
+/// 6, 7 (table), 12.
 ///
 /// # Example
 /// ```
@@ -77,6 +77,9 @@ pub fn rectangle(plan: &Plan, rectangle: Rectangle, table: &[u64]) -> Result<i64
 }
 
 /// Writes the sum over a rectangle to `sum`, 0 beside a refusal.
+///
+/// # Errors
+/// As [`rectangle`].
 pub fn rectangle_into(plan: &Plan, rectangle: Rectangle, table: &[u64], sum: &mut i64) -> Result<(), Refusal> {
     let Rectangle { top, left, bottom, right } = rectangle;
     // SAFETY: the record and the table are readable, the table for its length, and the sum is writable; borrowed

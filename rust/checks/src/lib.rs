@@ -3,13 +3,15 @@
 //! - [`reference`](mod@reference), a second serial program, and [`model`], a slow model of all calls: both are written
 //!   from the paper that defines the calls, not from the library, and call nothing of it.
 //! - [`random`]: numbers, plans and maps from a seed that is printed.
-//! - [`lent`]: buffers with watched words around them. [`records`]: plan records as words, and damage to them.
+//! - [`lent`]: buffers with watched words around them. [`short`]: calls that are lent too few words.
+//! - [`records`]: plan records as words, and damage to them.
 
 pub mod lent;
 pub mod model;
 pub mod random;
 pub mod records;
 pub mod reference;
+pub mod short;
 
 use std::path::{Path, PathBuf};
 

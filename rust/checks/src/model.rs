@@ -96,9 +96,9 @@ pub fn words_of(plan: &Plan) -> Vec<u32> {
 
 /// Writes the words of a plan.
 pub fn write(plan: &Plan, words: &mut [u32]) -> Result<(), Refusal> {
-    Job::of(plan)?;
+    Job::of(plan)?.check_lengths(&[Buffer::Words(words.len())])?;
     let written = words_of(plan);
-    words.get_mut(..written.len()).ok_or(Refusal::BufferTooShort)?.copy_from_slice(&written);
+    words[..written.len()].copy_from_slice(&written);
     Ok(())
 }
 
@@ -121,7 +121,7 @@ pub fn sizes(plan: &Plan) -> Result<Sizes, Refusal> {
 /// Starts a job.
 pub fn start(plan: &Plan, marks: &mut [u32], strips: &mut [u64]) -> Result<(), Refusal> {
     let job = Job::of(plan)?;
-    job.check_lengths(&[(marks.len(), job.marks()), (strips.len(), job.strips())])?;
+    job.check_lengths(&[Buffer::Marks(marks.len()), Buffer::Strips(strips.len())])?;
     marks[..job.marks()].fill(NOTHING_DONE);
     strips[..job.strips()].fill(0);
     Ok(())
@@ -139,10 +139,10 @@ pub fn perform(
 ) -> Result<(), Refusal> {
     let job = Job::of(plan)?;
     job.check_lengths(&[
-        (map.len(), job.pixels()),
-        (marks.len(), job.marks()),
-        (strips.len(), job.strips()),
-        (output.len(), job.pixels()),
+        Buffer::Marks(marks.len()),
+        Buffer::Strips(strips.len()),
+        Buffer::Map(map.len()),
+        Buffer::Output(output.len()),
     ])?;
     if block >= job.marks() || !job.has_task(&job.block(block), task) {
         return Err(Refusal::NoSuchTask);
@@ -168,7 +168,7 @@ pub fn perform(
 /// Reports on a job.
 pub fn report(plan: &Plan, marks: &[u32]) -> Result<Progress, Refusal> {
     let job = Job::of(plan)?;
-    job.check_lengths(&[(marks.len(), job.marks())])?;
+    job.check_lengths(&[Buffer::Marks(marks.len())])?;
     job.check_marks(marks, 0..job.marks())?;
     let mut progress = Progress::default();
     for block in job.blocks() {
@@ -189,7 +189,7 @@ pub fn report(plan: &Plan, marks: &[u32]) -> Result<Progress, Refusal> {
 /// Runs the four passes over the whole map, by the second serial program.
 pub fn serial(plan: &Plan, map: &[i32], output: &mut [u64]) -> Result<(), Refusal> {
     let job = Job::of(plan)?;
-    job.check_lengths(&[(map.len(), job.pixels()), (output.len(), job.pixels())])?;
+    job.check_lengths(&[Buffer::Map(map.len()), Buffer::Output(output.len())])?;
     output[..job.pixels()].copy_from_slice(&crate::reference::serial(plan, map));
     Ok(())
 }
@@ -198,7 +198,7 @@ pub fn serial(plan: &Plan, map: &[i32], output: &mut [u64]) -> Result<(), Refusa
 pub fn rectangle(plan: &Plan, rectangle: [usize; 4], table: &[u64]) -> Result<i64, Refusal> {
     let [top, left, bottom, right] = rectangle;
     let job = Job::of(plan)?;
-    job.check_lengths(&[(table.len(), job.pixels())])?;
+    job.check_lengths(&[Buffer::Table(table.len())])?;
     if top >= bottom || left >= right || bottom > job.rows || right > job.columns {
         return Err(Refusal::RectangleOutside);
     }
@@ -218,6 +218,16 @@ pub const NOTHING_DONE: u32 = 7 << 28;
 /// Whether a mark says that a task is done.
 pub fn is_marked(mark: u32, task: usize) -> bool {
     mark >> task & 1 == 1
+}
+
+/// A buffer that a call is lent, with its length.
+enum Buffer {
+    Words(usize),
+    Marks(usize),
+    Table(usize),
+    Strips(usize),
+    Map(usize),
+    Output(usize),
 }
 
 /// One block of a map.
@@ -289,11 +299,23 @@ impl<'a> Job<'a> {
         self.rows * self.columns
     }
 
-    fn check_lengths(&self, lent_and_needed: &[(usize, usize)]) -> Result<(), Refusal> {
-        match lent_and_needed.iter().all(|(lent, needed)| lent >= needed) {
-            true => Ok(()),
-            false => Err(Refusal::BufferTooShort),
+    /// The refusal of the first buffer that is too short. Calls list theirs in the paper's order: marks, plan words and
+    /// table, then strips, map, output.
+    fn check_lengths(&self, lent: &[Buffer]) -> Result<(), Refusal> {
+        for buffer in lent {
+            let (length, needed, refusal) = match *buffer {
+                Buffer::Words(length) => (length, words_of(self.plan).len(), Refusal::BufferTooShort),
+                Buffer::Marks(length) => (length, self.marks(), Refusal::BufferTooShort),
+                Buffer::Table(length) => (length, self.pixels(), Refusal::BufferTooShort),
+                Buffer::Strips(length) => (length, self.strips(), Refusal::StripsTooShort),
+                Buffer::Map(length) => (length, self.pixels(), Refusal::MapTooShort),
+                Buffer::Output(length) => (length, self.pixels(), Refusal::OutputTooShort),
+            };
+            if length < needed {
+                return Err(refusal);
+            }
         }
+        Ok(())
     }
 
     /// The block of a number.

@@ -5,6 +5,7 @@ use checks::model::{self, Job, NOTHING_DONE};
 use checks::random::{self, Random, Reached};
 use checks::records::{all_orders, broken_record};
 use checks::reference;
+use checks::short::ShortBuffers;
 use mulzhegat::serial::Rectangle;
 use mulzhegat::{job, plan, serial, Pass, Plan, Progress, Refusal, DOWN, LEFT, RIGHT, UP};
 
@@ -80,25 +81,35 @@ impl<'a> Trial<'a> {
 
     /// A call that may be refused: a task that may not exist there, may be early or done, or numbers out of range.
     fn perform_anything(&mut self, random: &mut Random) -> Result<(), Refusal> {
-        let blocks = self.job.marks();
-        let out_of_range = [blocks, blocks + 1, 4096 * 4096, 1 << 32, 1 << 63, usize::MAX - 1, usize::MAX];
-        let (task, block) = match random.below(6) {
-            0 => (random.below(6), random.pick(&out_of_range)),
-            1 => (random.pick(&[6, 7, 8, 28, 32, 64, 1 << 32, 1 << 63, usize::MAX]), random.below(blocks)),
-            2 => (random.pick(&[6, usize::MAX]), random.pick(&out_of_range)),
-            _ => (random.below(6), random.below(blocks)),
-        };
+        let (task, block) = any_task_and_block(&self.job, random);
         self.perform(task, block)
     }
 }
 
-/// Reports and compares answer and record with the model.
-fn report_and_compare(plan: &Plan, marks: &[u32]) -> Result<Progress, Refusal> {
+/// A task that the block may not have, or numbers out of range.
+fn any_task_and_block(job: &Job, random: &mut Random) -> (usize, usize) {
+    let blocks = job.marks();
+    let out_of_range = [blocks, blocks + 1, 4096 * 4096, 1 << 32, 1 << 63, usize::MAX - 1, usize::MAX];
+    match random.below(6) {
+        0 => (random.below(6), random.pick(&out_of_range)),
+        1 => (random.pick(&[6, 7, 8, 28, 32, 64, 1 << 32, 1 << 63, usize::MAX]), random.below(blocks)),
+        2 => (random.pick(&[6, usize::MAX]), random.pick(&out_of_range)),
+        _ => (random.below(6), random.below(blocks)),
+    }
+}
+
+/// The library's report, which is all zeros beside a refusal.
+fn report(plan: &Plan, marks: &[u32]) -> Result<Progress, Refusal> {
     let mut progress = Progress { marked: 77, tally: 77, ready: 77, task: 77, block: 77 };
     let answer = job::report_into(plan, marks, &mut progress);
+    assert!(answer.is_ok() || progress == Progress::default(), "{progress:?} beside {answer:?}");
+    answer.map(|()| progress)
+}
+
+/// Reports and compares with the model.
+fn report_and_compare(plan: &Plan, marks: &[u32]) -> Result<Progress, Refusal> {
     let expected = model::report(plan, marks);
-    assert_eq!(answer, expected.map(|_| ()), "marks {marks:x?} of {plan:?}");
-    assert_eq!(progress, expected.unwrap_or_default(), "marks {marks:x?} of {plan:?}");
+    assert_eq!(report(plan, marks), expected, "marks {marks:x?} of {plan:?}");
     expected
 }
 
@@ -486,6 +497,27 @@ fn set_mark(trial: &mut Trial, block: usize, mark: u32) {
     trial.model.marks.get_mut()[block] = mark;
 }
 
+/// Marks all tasks of two blocks in three, and any tasks of the others.
+fn mark_at_random(trial: &mut Trial, random: &mut Random) {
+    for block in 0..trial.job.marks() {
+        let bits = if random.once_in(3) { random.word() as u32 } else { 0x3F };
+        set_mark(trial, block, NOTHING_DONE | tasks_of(&trial.job, block) & bits);
+    }
+}
+
+/// Breaks the mark of a block, by a wrong kind or a spare bit, and gives the number of the block.
+fn break_a_mark(trial: &mut Trial, random: &mut Random) -> usize {
+    let block = random.below(trial.job.marks());
+    let right = NOTHING_DONE | tasks_of(&trial.job, block);
+    let spare = (0..28).map(|bit| 1 << bit).filter(|bit| right & bit == 0).collect::<Vec<u32>>();
+    let mark = match random.below(3) {
+        0 => right & 0xFFFFFFF | random.pick(&[0, 1, 2, 3, 4, 5, 6, 8, 9, 10, 11, 12, 13, 14, 15]) << 28,
+        _ => right | random.pick(&spare),
+    };
+    set_mark(trial, block, mark);
+    block
+}
+
 #[test]
 fn places_read_as_0_and_written_as_0() {
     // All places outside the blocks and on the border hold garbage; the job comes out as if they held 0.
@@ -658,24 +690,9 @@ fn broken_marks_are_refused_9_with_the_least_block_looked_at() {
         let orders = random.orders(side);
         let plan = random.plan(rows, columns, side, orders);
         let mut trial = Trial::new(&plan, &mut random);
-        for block in 0..trial.job.marks() {
-            let mark = NOTHING_DONE
-                | tasks_of(&trial.job, block) & if random.once_in(3) { random.word() as u32 } else { 0x3F };
-            set_mark(&mut trial, block, mark);
-        }
-        let mut broken = Vec::new();
-        for _ in 0..random.between(1, 3) {
-            let block = random.below(trial.job.marks());
-            let right = NOTHING_DONE | tasks_of(&trial.job, block);
-            let spare = (0..28).map(|bit| 1 << bit).filter(|bit| right & bit == 0).collect::<Vec<u32>>();
-            let mark = match random.below(3) {
-                0 => right & 0xFFFFFFF | random.pick(&[0, 1, 2, 3, 4, 5, 6, 8, 9, 10, 11, 12, 13, 14, 15]) << 28,
-                _ => right | random.pick(&spare),
-            };
-            set_mark(&mut trial, block, mark);
-            broken.push(block);
-        }
-        let least = *broken.iter().min().unwrap();
+        mark_at_random(&mut trial, &mut random);
+        let broken = (0..random.between(1, 3)).map(|_| break_a_mark(&mut trial, &mut random));
+        let least = broken.min().unwrap();
         assert_eq!(report_and_compare(&plan, trial.library.marks.get()), Err(Refusal::MarkBroken(least as u32)));
         for _ in 0..6 {
             let (task, block) = (random.below(6), random.below(trial.job.marks()));
@@ -718,66 +735,76 @@ fn every_spare_bit_and_kind_breaks_a_mark() {
 }
 
 #[test]
-fn short_buffers_of_every_kind_are_refused_7() {
-    let mut random = random::of_test("short_buffers_of_every_kind_are_refused_7");
-    let mut short_calls = 0;
+fn every_set_of_short_buffers_refuses_start_by_7_then_14() {
+    let mut random = random::of_test("every_set_of_short_buffers_refuses_start_by_7_then_14");
+    let mut short = ShortBuffers::new([7, 14]);
     for _ in 0..300 * random::rounds() {
         let plan = random.small_plan(150);
         let broken = broken_record(&mut random, &plan);
-        let mut trial = Trial::new(&plan, &mut random);
-        trial.start();
-        let needed = [trial.job.pixels(), trial.job.marks(), trial.job.strips(), trial.job.pixels()];
-        let Buffers { marks, strips, output } = &trial.library;
-        for choice in 0..81 {
-            // Each buffer as long as needed, one word short, or without words.
-            let lengths = [0, 1, 2, 3].map(|buffer| match choice / 3usize.pow(buffer as u32) % 3 {
-                0 => needed[buffer],
-                1 => needed[buffer].saturating_sub(1),
-                _ => 0,
-            });
-            let is_short = |buffer: usize| lengths[buffer] < needed[buffer];
-            let map = trial.map.shortened(lengths[0]);
-            let before = Buffers {
-                marks: marks.shortened(lengths[1]),
-                strips: strips.shortened(lengths[2]),
-                output: output.shortened(lengths[3]),
-            };
-            let mut lent = before.clone();
-            let mut check = |lent: &Buffers, answer: Result<(), Refusal>, expected: Refusal| {
-                assert_eq!(answer, Err(expected), "lengths {lengths:?} of {plan:?}");
-                assert!(lent == &before, "a refused call wrote, lengths {lengths:?} of {plan:?}");
-                short_calls += 1;
-            };
-            // The record comes before the lengths, and the lengths before the task and the block.
-            for (task, block) in
-                [(0, 0), (1, 0), (2, 0), (3, 0), (4, 0), (5, 0), (6, 0), (0, needed[1]), (usize::MAX, usize::MAX)]
-            {
-                let perform = |plan: &Plan, lent: &mut Buffers| {
+        let Trial { job, library: Buffers { marks, strips, .. }, .. } = &Trial::new(&plan, &mut random);
+        let lend = |lengths: [usize; 2]| (marks.shortened(lengths[0]), strips.shortened(lengths[1]));
+        let calls = [job::start, model::start].map(|start| {
+            move |plan: &Plan, (marks, strips): &mut (Lent<u32>, Lent<u64>)| {
+                start(plan, marks.get_mut(), strips.get_mut())
+            }
+        });
+        short.try_all([&plan, &broken], [job.marks(), job.strips()], lend, calls);
+    }
+    short.expect_all(3, &[0]);
+}
+
+#[test]
+fn every_set_of_short_buffers_refuses_a_task_by_7_14_15_16_then_8_to_11() {
+    let mut random = random::of_test("every_set_of_short_buffers_refuses_a_task_by_7_14_15_16_then_8_to_11");
+    let mut short = ShortBuffers::new([7, 14, 15, 16]);
+    for _ in 0..100 * random::rounds() {
+        let plan = random.small_plan(150);
+        let broken = broken_record(&mut random, &plan);
+        let trial = trial_with_any_marks(&plan, &mut random);
+        let Trial { job, map, library: Buffers { marks, strips, output }, .. } = &trial;
+        let needed = [job.marks(), job.strips(), job.pixels(), job.pixels()];
+        let lend = |lengths: [usize; 4]| {
+            let (marks, strips) = (marks.shortened(lengths[0]), strips.shortened(lengths[1]));
+            (map.shortened(lengths[2]), Buffers { marks, strips, output: output.shortened(lengths[3]) })
+        };
+        for _ in 0..6 {
+            let (task, block) = any_task_and_block(job, &mut random);
+            let calls = [job::perform, model::perform].map(|perform| {
+                move |plan: &Plan, (map, lent): &mut (Lent<i32>, Buffers)| {
                     let Buffers { marks, strips, output } = lent;
-                    job::perform(plan, task, block, map.get(), marks.get_mut(), strips.get_mut(), output.get_mut())
-                };
-                let answer = perform(&broken, &mut lent);
-                check(&lent, answer, Refusal::RecordBreaksRule);
-                if (0..4).any(is_short) {
-                    let answer = perform(&plan, &mut lent);
-                    check(&lent, answer, Refusal::BufferTooShort);
+                    perform(plan, task, block, map.get(), marks.get_mut(), strips.get_mut(), output.get_mut())
                 }
-            }
-            let answer = job::start(&broken, lent.marks.get_mut(), lent.strips.get_mut());
-            check(&lent, answer, Refusal::RecordBreaksRule);
-            if is_short(1) || is_short(2) {
-                let answer = job::start(&plan, lent.marks.get_mut(), lent.strips.get_mut());
-                check(&lent, answer, Refusal::BufferTooShort);
-            }
-            assert_eq!(report_and_compare(&broken, lent.marks.get()), Err(Refusal::RecordBreaksRule));
-            if is_short(1) {
-                assert_eq!(report_and_compare(&plan, lent.marks.get()), Err(Refusal::BufferTooShort));
-            } else {
-                report_and_compare(&plan, lent.marks.get()).expect("the marks are enough");
-            }
+            });
+            short.try_all([&plan, &broken], needed, lend, calls);
         }
     }
-    assert!(short_calls > 100_000);
+    short.expect_all(15, &[0, 8, 9, 10, 11]);
+}
+
+#[test]
+fn short_marks_refuse_the_report_by_7_and_broken_ones_by_9_after_it() {
+    let mut random = random::of_test("short_marks_refuse_the_report_by_7_and_broken_ones_by_9_after_it");
+    let mut short = ShortBuffers::new([7]);
+    for _ in 0..300 * random::rounds() {
+        let plan = random.small_plan(150);
+        let broken = broken_record(&mut random, &plan);
+        let trial = trial_with_any_marks(&plan, &mut random);
+        let lend = |[length]: [usize; 1]| trial.library.marks.shortened(length);
+        let calls =
+            [report, model::report].map(|report| move |plan: &Plan, marks: &mut Lent<u32>| report(plan, marks.get()));
+        short.try_all([&plan, &broken], [trial.job.marks()], lend, calls);
+    }
+    short.expect_all(1, &[0, 9]);
+}
+
+/// A job with any marks, of which one is broken now and then.
+fn trial_with_any_marks<'a>(plan: &'a Plan, random: &mut Random) -> Trial<'a> {
+    let mut trial = Trial::new(plan, random);
+    mark_at_random(&mut trial, random);
+    if random.once_in(3) {
+        break_a_mark(&mut trial, random);
+    }
+    trial
 }
 
 #[test]
@@ -791,8 +818,8 @@ fn plans_without_strips_need_no_strip_word() {
 }
 
 #[test]
-fn the_least_refusal_number_comes_first() {
-    let mut random = random::of_test("the_least_refusal_number_comes_first");
+fn the_least_of_8_to_11_comes_first() {
+    let mut random = random::of_test("the_least_of_8_to_11_comes_first");
     let plan = Plan::summed(6, 6, 2);
     let mut trial = Trial::new(&plan, &mut random);
     trial.start();

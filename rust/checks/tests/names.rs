@@ -22,8 +22,8 @@ fn camel_case(name: &str) -> String {
     name.split('_').map(|word| word[..1].to_string() + &word[1..].to_lowercase()).collect()
 }
 
-/// The lines `Refusal::NAME => row(NUMBER, PLACE),` of Rattle's table, but for the program's own refusal, which no call of
-/// C or Rust answers.
+/// The lines `Refusal::NAME => row(NUMBER, PLACE),` of Rattle's table, but for the program's own refusal, which no call
+/// of C or Rust answers.
 fn in_rattle() -> Vec<Named> {
     let source = read("crates/refusal/src/lib.rt");
     let cases = between(&source, "pub fn reason(self)", "\n    }\n").lines().filter_map(|line| {

@@ -442,6 +442,7 @@ fn short_word_buffers_are_refused_7_and_words_past_the_plan_are_kept() {
     for _ in 0..200 * random::rounds() {
         let record = any_plan(&mut random);
         let words = model::words_of(&record);
+        let mut refused = 0;
         for length in 0..=MOST_WORDS + 3 {
             let before = Lent::new(length, || random.word() as u32);
             let mut lent = before.clone();
@@ -452,12 +453,14 @@ fn short_word_buffers_are_refused_7_and_words_past_the_plan_are_kept() {
                 assert_eq!(answer, Ok(()));
             } else {
                 assert_eq!(answer, Err(Refusal::BufferTooShort));
+                refused += 1;
             }
             assert_eq!(lent, expected);
             let broken = broken_record(&mut random, &record);
             assert_eq!(plan::write(&broken, lent.get_mut()), Err(Refusal::RecordBreaksRule));
             assert_eq!(lent, expected);
         }
+        assert_eq!(refused, words.len(), "every shorter length is refused");
     }
 }
 

@@ -3,6 +3,7 @@
 use checks::lent::Lent;
 use checks::random::{self, Random, Reached};
 use checks::records::{all_orders, broken_record};
+use checks::short::ShortBuffers;
 use checks::{model, reference};
 use mulzhegat::serial::{self, Rectangle};
 use mulzhegat::{Pass, Plan, Refusal, DOWN, LEFT, RIGHT, UP};
@@ -144,37 +145,36 @@ fn maps_of_4096_rows_or_columns() {
 }
 
 #[test]
-fn short_buffers_are_refused_7_and_broken_records_6_before() {
-    let mut random = random::of_test("short_buffers_are_refused_7_and_broken_records_6_before");
+fn every_set_of_short_buffers_refuses_the_serial_passes_by_15_then_16() {
+    let mut random = random::of_test("every_set_of_short_buffers_refuses_the_serial_passes_by_15_then_16");
+    let mut short = ShortBuffers::new([15, 16]);
     for _ in 0..500 * random::rounds() {
         let plan = random.small_plan(100);
+        let broken = broken_record(&mut random, &plan);
         let pixels = (plan.rows * plan.columns) as usize;
         let map = Lent::new(pixels, || random.height());
         let output = Lent::new(pixels, || random.word());
-        let broken = broken_record(&mut random, &plan);
-        for (map_length, output_length) in
-            [(pixels, pixels), (pixels - 1, pixels), (pixels, pixels - 1), (0, pixels), (pixels, 0), (0, 0)]
-        {
-            let (map, before) = (map.shortened(map_length), output.shortened(output_length));
-            let mut lent = before.clone();
-            assert_eq!(serial::run(&broken, map.get(), lent.get_mut()), Err(Refusal::RecordBreaksRule), "{broken:?}");
-            assert!(lent == before);
-            if map_length < pixels || output_length < pixels {
-                assert_eq!(serial::run(&plan, map.get(), lent.get_mut()), Err(Refusal::BufferTooShort), "{plan:?}");
-                assert!(lent == before);
-            }
-        }
+        let lend = |lengths: [usize; 2]| (map.shortened(lengths[0]), output.shortened(lengths[1]));
+        let calls = [serial::run, model::serial].map(|run| {
+            move |plan: &Plan, (map, output): &mut (Lent<i32>, Lent<u64>)| run(plan, map.get(), output.get_mut())
+        });
+        short.try_all([&plan, &broken], [pixels, pixels], lend, calls);
     }
+    short.expect_all(3, &[0]);
+}
+
+/// The library's sum over a rectangle, which is 0 beside a refusal.
+fn sum(plan: &Plan, [top, left, bottom, right]: [usize; 4], table: &[u64]) -> Result<i64, Refusal> {
+    let mut sum = 0x7777;
+    let answer = serial::rectangle_into(plan, Rectangle::new(top, left, bottom, right), table, &mut sum);
+    assert!(answer.is_ok() || sum == 0, "{sum} beside {answer:?}");
+    answer.map(|()| sum)
 }
 
 /// Sums over a rectangle and compares with the model.
 fn sum_and_compare(plan: &Plan, corners: [usize; 4], table: &[u64]) -> Result<i64, Refusal> {
-    let [top, left, bottom, right] = corners;
-    let mut sum = 0x7777;
-    let answer = serial::rectangle_into(plan, Rectangle::new(top, left, bottom, right), table, &mut sum);
     let expected = model::rectangle(plan, corners, table);
-    assert_eq!(answer, expected.map(|_| ()), "{corners:?} of {plan:?}");
-    assert_eq!(sum, expected.unwrap_or(0), "{corners:?} of {plan:?}");
+    assert_eq!(sum(plan, corners, table), expected, "{corners:?} of {plan:?}");
     expected
 }
 
@@ -272,21 +272,18 @@ fn rectangles_with_huge_numbers_are_refused_12() {
 #[test]
 fn rectangle_refuses_6_then_7_then_12() {
     let mut random = random::of_test("rectangle_refuses_6_then_7_then_12");
+    let mut short = ShortBuffers::new([7]);
     for _ in 0..1_000 * random::rounds() {
         let plan = random.small_plan(60);
-        let pixels = (plan.rows * plan.columns) as usize;
-        let table = random.words(pixels);
         let broken = broken_record(&mut random, &plan);
-        let (good, bad) = ([0, 0, plan.rows as usize, plan.columns as usize], [1, 0, 1, 1]);
-        for corners in [good, bad] {
-            for length in [0, pixels - 1, pixels] {
-                assert_eq!(sum_and_compare(&broken, corners, &table[..length]), Err(Refusal::RecordBreaksRule));
-            }
-            for length in [0, pixels - 1] {
-                assert_eq!(sum_and_compare(&plan, corners, &table[..length]), Err(Refusal::BufferTooShort));
-            }
+        let (rows, columns) = (plan.rows as usize, plan.columns as usize);
+        let table = Lent::new(rows * columns, || random.word());
+        let lend = |[length]: [usize; 1]| table.shortened(length);
+        for corners in [random.rectangle(rows, columns), [1, 0, 1, 1], [0, 0, rows + 1, columns]] {
+            let calls = [sum, model::rectangle]
+                .map(|sum| move |plan: &Plan, table: &mut Lent<u64>| sum(plan, corners, table.get()));
+            short.try_all([&plan, &broken], [rows * columns], lend, calls);
         }
-        assert_eq!(sum_and_compare(&plan, bad, &table), Err(Refusal::RectangleOutside));
-        assert_eq!(sum_and_compare(&plan, good, &table), Ok(table[pixels - 1] as i64));
     }
+    short.expect_all(1, &[0, 12]);
 }
