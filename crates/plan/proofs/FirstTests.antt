@@ -1,12 +1,13 @@
 -- The tests of the record and of the lent lengths: what it says where they accept, and which buffer refuses.
 -- Assumes nothing.
-use mathlib.Core.Path.{_≡_, refl, sym}
-use mathlib.Core.Bool.{Bool, true, false}
+use mathlib.Core.Path.{_≡_, refl, sym, _∙_}
+use mathlib.Core.Bool.{true, false}
+use mathlib.Core.Logic.{⊎-elim}
 use mathlib.Core.List.{[], _∷_}
 use Prim.Native.Nat.{ℕ, _≤_, _<_}
 use native.Mathlib.Omega.{arith}
-use lib.Dec.{ltb}
-use borrow.Author.Tests.{lt-ltb, le-ltb, ltb-true, ltb-false, not-false}
+use borrow.Author.Tests.{lt-ltb, le-ltb, ltb-false, not-false}
+use Rattle.number.proofs.Tests.{lt-or-ge}
 use Rattle.refusal.specs.Refusals.{Answer, accepted, refused}
 use Rattle.refusal.specs.Table.{_at_when_, firstDue, firstOf}
 use Rattle.refusal.proofs.Table.{tests-rows, none-of, refused-before, accepted-before}
@@ -19,7 +20,7 @@ use Rattle.plan.specs.declared.Plan.{Plan}
 use Rattle.plan.specs.declared.Sizes.{Sizes}
 use Rattle.plan.specs.Rules.{keepsRules}
 use Rattle.plan.specs.Sizes.{wordCount, neededMarks, neededStrips, neededPixels, sizesOf}
-use Rattle.plan.specs.FirstTests.{tooShort, of7TooShort, lengthRows, lentRows, Shorter, Of7Shorter, ShortBuffer, of7-short, strips-short, map-short, output-short, LeastShortDecides, NoneShortGoesOn}
+use Rattle.plan.specs.FirstTests.{tooShort, of7TooShort, lengthRows, lentRows, onlyOf7, Shorter, Of7Shorter, ShortBuffer, of7-short, strips-short, map-short, output-short, LeastShortDecides, NoneShortGoesOn}
 
 -- ---- one buffer
 
@@ -40,55 +41,42 @@ shorter-tested : (length : Length) (needed : ℕ) → Shorter length needed → 
 shorter-tested NotLent needed h = absurd h
 shorter-tested (Of length) needed h = lt-ltb length needed h
 
-not-below : (length needed : ℕ) → (length < needed → ⊥) → ltb length needed ≡ false
-not-below length needed h = by (ltb length needed) refl
-  where
-    by : (short : Bool) → ltb length needed ≡ short → ltb length needed ≡ false
-    by true e = absurd (h (ltb-true length needed e))
-    by false e = e
-
 not-shorter-tested : (length : Length) (needed : ℕ) → (Shorter length needed → ⊥) → tooShort length needed ≡ false
 not-shorter-tested NotLent needed h = refl
-not-shorter-tested (Of length) needed h = not-below length needed h
+not-shorter-tested (Of length) needed h =
+    le-ltb length needed (⊎-elim (λ short. absurd (h short)) (λ enough. enough) (lt-or-ge length needed))
 
--- ---- the buffer that 7 is for
+-- ---- the buffer that 7 is for: one with a need of its own
 
--- The words for a plan, the marks or the table, if lent, have as many places as are needed.
+abbrev pub lengthOf7 : BufferOf7 → Length
+lengthOf7 NoneOf7 = NotLent
+lengthOf7 (Words length) = Of length
+lengthOf7 (Marks length) = Of length
+lengthOf7 (Table length) = Of length
+
+abbrev pub neededOf7 : Plan → BufferOf7 → ℕ
+neededOf7 plan NoneOf7 = 0
+neededOf7 plan (Words length) = wordCount plan
+neededOf7 plan (Marks length) = neededMarks plan
+neededOf7 plan (Table length) = neededPixels plan
+
 abbrev pub Of7Enough : Plan → BufferOf7 → Type 0
-Of7Enough plan NoneOf7 = Unit {0}
-Of7Enough plan (Words length) = wordCount plan ≤ length
-Of7Enough plan (Marks length) = neededMarks plan ≤ length
-Of7Enough plan (Table length) = neededPixels plan ≤ length
+Of7Enough plan buffer = Enough (lengthOf7 buffer) (neededOf7 plan buffer)
 
 module _ (plan : Plan) where
-  of7-enough-tested : (buffer : BufferOf7) → Of7Enough plan buffer → of7TooShort buffer (sizesOf plan) ≡ false
+  of7-tested : (buffer : BufferOf7)
+      → of7TooShort buffer (sizesOf plan) ≡ tooShort (lengthOf7 buffer) (neededOf7 plan buffer)
   unfolding sizesOf
-  of7-enough-tested NoneOf7 h = refl
-  of7-enough-tested (Words length) h = le-ltb length (wordCount plan) h
-  of7-enough-tested (Marks length) h = le-ltb length (neededMarks plan) h
-  of7-enough-tested (Table length) h = le-ltb length (neededPixels plan) h
+  of7-tested NoneOf7 = refl
+  of7-tested (Words length) = refl
+  of7-tested (Marks length) = refl
+  of7-tested (Table length) = refl
 
-  of7-tested-enough : (buffer : BufferOf7) → of7TooShort buffer (sizesOf plan) ≡ false → Of7Enough plan buffer
-  unfolding sizesOf
-  of7-tested-enough NoneOf7 e = tt
-  of7-tested-enough (Words length) e = ltb-false length (wordCount plan) e
-  of7-tested-enough (Marks length) e = ltb-false length (neededMarks plan) e
-  of7-tested-enough (Table length) e = ltb-false length (neededPixels plan) e
-
-  of7-shorter-tested : (buffer : BufferOf7) → Of7Shorter plan buffer → of7TooShort buffer (sizesOf plan) ≡ true
-  unfolding sizesOf
-  of7-shorter-tested NoneOf7 h = absurd h
-  of7-shorter-tested (Words length) h = lt-ltb length (wordCount plan) h
-  of7-shorter-tested (Marks length) h = lt-ltb length (neededMarks plan) h
-  of7-shorter-tested (Table length) h = lt-ltb length (neededPixels plan) h
-
-  of7-not-shorter-tested : (buffer : BufferOf7) → (Of7Shorter plan buffer → ⊥)
-      → of7TooShort buffer (sizesOf plan) ≡ false
-  unfolding sizesOf
-  of7-not-shorter-tested NoneOf7 h = refl
-  of7-not-shorter-tested (Words length) h = not-below length (wordCount plan) h
-  of7-not-shorter-tested (Marks length) h = not-below length (neededMarks plan) h
-  of7-not-shorter-tested (Table length) h = not-below length (neededPixels plan) h
+  of7-shorter : (buffer : BufferOf7) → Of7Shorter plan buffer ≡ Shorter (lengthOf7 buffer) (neededOf7 plan buffer)
+  of7-shorter NoneOf7 = refl
+  of7-shorter (Words length) = refl
+  of7-shorter (Marks length) = refl
+  of7-shorter (Table length) = refl
 
 -- ---- all tests
 
@@ -107,7 +95,8 @@ module _ (plan : Plan) (lent : Lengths) where
       let (kept, (of7, (strips, (map, (output, none))))) = none-of (lentRows plan lent) e in
       record {
         rules = not-false (keepsRules plan) kept;
-        of7-long = of7-tested-enough plan (lent .of7) of7;
+        of7-long =
+            tested-enough (lengthOf7 (lent .of7)) (neededOf7 plan (lent .of7)) (sym (of7-tested plan (lent .of7)) ∙ of7);
         strips-long = tested-enough (lent .strips) (neededStrips plan) strips;
         map-long = tested-enough (lent .map) (neededPixels plan) map;
         output-long = tested-enough (lent .output) (neededPixels plan) output;
@@ -118,44 +107,67 @@ module _ (plan : Plan) (lent : Lengths) where
   lent-accepted enough =
       rw (
         enough .rules,
-        of7-enough-tested plan (lent .of7) (enough .of7-long),
+        of7-tested plan (lent .of7),
+        enough-tested (lengthOf7 (lent .of7)) (neededOf7 plan (lent .of7)) (enough .of7-long),
         enough-tested (lent .strips) (neededStrips plan) (enough .strips-long),
         enough-tested (lent .map) (neededPixels plan) (enough .map-long),
         enough-tested (lent .output) (neededPixels plan) (enough .output-long),
       )
 
+-- A call that is lent at most the buffer that 7 is for.
+pub only-accepted : (plan : Plan) (buffer : BufferOf7) → keepsRules plan ≡ true → Of7Enough plan buffer
+    → firstDue (lentRows plan (onlyOf7 buffer)) ≡ accepted
+only-accepted plan buffer kept enough =
+    lent-accepted plan (onlyOf7 buffer)
+    (record { rules = kept; of7-long = enough; strips-long = tt; map-long = tt; output-long = tt })
+
 -- ---- which buffer was short
 
 module _ (plan : Plan) (lent : Lengths) (kept : keepsRules plan ≡ true) where
-  -- A buffer that refuses is preceded by none that is too short, since the least number refuses.
+  -- No buffer whose number is below the least is too short.
+  module _ (number : ℕ) (least : (other : ℕ) → ShortBuffer plan lent other → number ≤ other) where
+    of7-passes : 7 < number → of7TooShort (lent .of7) (sizesOf plan) ≡ false
+    of7-passes l =
+        of7-tested plan (lent .of7)
+        ∙ not-shorter-tested (lengthOf7 (lent .of7)) (neededOf7 plan (lent .of7))
+        (λ s. omega (arith, least 7 (of7-short (rw (of7-shorter plan (lent .of7)) s))))
+
+    strips-pass : 14 < number → tooShort (lent .strips) (neededStrips plan) ≡ false
+    strips-pass l =
+        not-shorter-tested (lent .strips) (neededStrips plan) (λ s. omega (arith, least 14 (strips-short s)))
+
+    map-passes : 15 < number → tooShort (lent .map) (neededPixels plan) ≡ false
+    map-passes l = not-shorter-tested (lent .map) (neededPixels plan) (λ s. omega (arith, least 15 (map-short s)))
+
+    output-passes : 16 < number → tooShort (lent .output) (neededPixels plan) ≡ false
+    output-passes l = not-shorter-tested (lent .output) (neededPixels plan) (λ s. omega (arith, least 16 (output-short s)))
+
   least-short : (number : ℕ) → ShortBuffer plan lent number
       → ((other : ℕ) → ShortBuffer plan lent other → number ≤ other) → firstDue (lentRows plan lent) ≡ refused number 0
   unfolding lentRows sizesOf
-  least-short number (of7-short h) least = rw (kept, of7-shorter-tested plan (lent .of7) h)
+  least-short number (of7-short h) least =
+      let short = shorter-tested (lengthOf7 (lent .of7)) (neededOf7 plan (lent .of7)) (rw (of7-shorter plan (lent .of7)) at h) in
+      rw (kept, of7-tested plan (lent .of7), short)
   least-short number (strips-short h) least =
-      let of7 = of7-not-shorter-tested plan (lent .of7) (λ s. omega (arith, least 7 (of7-short s))) in
-      rw (kept, of7, shorter-tested (lent .strips) (neededStrips plan) h)
+      rw (kept, of7-passes 14 least (omega arith), shorter-tested (lent .strips) (neededStrips plan) h)
   least-short number (map-short h) least =
-      let of7 = of7-not-shorter-tested plan (lent .of7) (λ s. omega (arith, least 7 (of7-short s))) in
-      let strips =
-      not-shorter-tested (lent .strips) (neededStrips plan) (λ s. omega (arith, least 14 (strips-short s))) in
-      rw (kept, of7, strips, shorter-tested (lent .map) (neededPixels plan) h)
+      let of7 = of7-passes 15 least (omega arith) in
+      rw (kept, of7, strips-pass 15 least (omega arith), shorter-tested (lent .map) (neededPixels plan) h)
   least-short number (output-short h) least =
-      let of7 = of7-not-shorter-tested plan (lent .of7) (λ s. omega (arith, least 7 (of7-short s))) in
-      let strips =
-      not-shorter-tested (lent .strips) (neededStrips plan) (λ s. omega (arith, least 14 (strips-short s))) in
-      let map = not-shorter-tested (lent .map) (neededPixels plan) (λ s. omega (arith, least 15 (map-short s))) in
-      rw (kept, of7, strips, map, shorter-tested (lent .output) (neededPixels plan) h)
+      let of7 = of7-passes 16 least (omega arith) in
+      let strips = strips-pass 16 least (omega arith) in
+      rw (kept, of7, strips, map-passes 16 least (omega arith), shorter-tested (lent .output) (neededPixels plan) h)
 
   none-short : ((number : ℕ) → ShortBuffer plan lent number → ⊥) → firstDue (lentRows plan lent) ≡ accepted
   unfolding lentRows sizesOf
   none-short none =
+      let least : (other : ℕ) → ShortBuffer plan lent other → 17 ≤ other = λ other s. absurd (none other s) in
       rw (
         kept,
-        of7-not-shorter-tested plan (lent .of7) (λ s. none 7 (of7-short s)),
-        not-shorter-tested (lent .strips) (neededStrips plan) (λ s. none 14 (strips-short s)),
-        not-shorter-tested (lent .map) (neededPixels plan) (λ s. none 15 (map-short s)),
-        not-shorter-tested (lent .output) (neededPixels plan) (λ s. none 16 (output-short s)),
+        of7-passes 17 least (omega arith),
+        strips-pass 17 least (omega arith),
+        map-passes 17 least (omega arith),
+        output-passes 17 least (omega arith),
       )
 
 pub least-short-decides : LeastShortDecides

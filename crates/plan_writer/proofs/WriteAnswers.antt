@@ -7,6 +7,7 @@ use lib.ListN.{length, drop}
 use lib.Seq.{sets}
 use Rattle.refusal.specs.declared.Refusal.{Refusal}
 use Rattle.refusal.specs.Refusals.{accepted}
+use Rattle.plan.specs.declared.BufferOf7.the-variants as of7
 use Rattle.plan.specs.declared.Plan.{Plan}
 use Rattle.plan.specs.declared.Sizes.{Sizes}
 use Rattle.plan.specs.declared.PlanSizes.{PlanSizes}
@@ -15,7 +16,7 @@ use Rattle.plan.specs.Rules.{keepsRules}
 use Rattle.plan.specs.Sizes.{wordCount, sizesOf}
 use Rattle.plan.specs.FirstTests.{sizesFor, sizesGiven}
 use Rattle.plan.proofs.Known.{sizes-known, sizes-refused}
-use Rattle.plan.proofs.FirstTests.{Suffices, suffices, lent-accepted}
+use Rattle.plan.proofs.FirstTests.{suffices, only-accepted}
 use Rattle.plan_writer.specs.declared.PlanWritten.the-variants.{Words, Refused}
 use Rattle.plan_writer.specs.WritePlan.{wordsOf, lentToWriter, writePlan, writtenGiven, writtenWords}
 use Rattle.plan_writer.proofs.WrittenWords.{words-in-front}
@@ -27,10 +28,7 @@ module _ (plan : Plan) (words : List ℕ) where
       × (writtenWords plan words ≡ wordsOf plan ++ drop (wordCount plan) words)
   unfolding writePlan writtenWords
   call-accepted kept room =
-      let enough : Suffices plan (lentToWriter (length words)) =
-      record { rules = kept; of7-long = room; strips-long = tt; map-long = tt; output-long = tt } in
-      let accepts = lent-accepted plan (lentToWriter (length words)) enough in
-      (rw accepts, rw accepts)
+      let accepts = only-accepted plan (of7.Words (length words)) kept room in (rw accepts, rw accepts)
 
   -- ---- by the sizes that the plan has or is refused
 

@@ -13,6 +13,7 @@ use Rattle.refusal.specs.Table.{Row, _at_when_, firstDue, Given}
 use Rattle.refusal.proofs.Table.{refused-before, accepted-before, rows-accepted, none-of}
 use Rattle.number.proofs.Tests.{or-left, or-right}
 use Rattle.word.specs.Word.{signed}
+use Rattle.plan.specs.declared.BufferOf7.the-variants.{Table}
 use Rattle.plan.specs.declared.Plan.{Plan}
 use Rattle.plan.specs.declared.Sizes.{Sizes}
 use Rattle.plan.specs.declared.PlanSizes.{PlanSizes}
@@ -20,7 +21,7 @@ use Rattle.plan.specs.declared.PlanSizes.the-variants.{Known, Refused}
 use Rattle.plan.specs.Rules.{keepsRules}
 use Rattle.plan.specs.Sizes.{neededPixels}
 use Rattle.plan.specs.FirstTests.{lentRows, sizesFor, sizesGiven}
-use Rattle.plan.proofs.FirstTests.{Suffices, suffices, lent-accepted}
+use Rattle.plan.proofs.FirstTests.{suffices, only-accepted}
 use Rattle.plan.proofs.Known.{sizes-known, sizes-refused}
 use Rattle.passes.specs.Table.{rectangleSum}
 use Rattle.rectangle.specs.Rectangle.{tableOf, Inside, outside, lentToSum, rectangleCall}
@@ -69,9 +70,7 @@ module _ (plan : Plan) (table : List ℕ) (top left bottom right : ℕ) where
       → rectangleCall plan table top left bottom right .answer ≡ accepted
   unfolding rectangleCall
   accepted-when kept h i =
-      let enough : Suffices plan (lentToSum table) =
-      record { rules = kept; of7-long = h; strips-long = tt; map-long = tt; output-long = tt } in
-      accepted-before (lentRows plan (lentToSum table)) (isOutside ∷ []) (sym (lent-accepted plan (lentToSum table) enough))
+      accepted-before (lentRows plan (lentToSum table)) (isOutside ∷ []) (sym (only-accepted plan (Table (length table)) kept h))
       ∙ rw (inside-the-map plan top left bottom right i)
 
   pub accepted-fits : rectangleCall plan table top left bottom right .answer ≡ accepted

@@ -11,11 +11,12 @@ use Rattle.refusal.specs.Refusals.{accepted}
 use Rattle.refusal.proofs.Table.{accepted-before}
 use Rattle.grid.specs.declared.Grid.{Grid}
 use Rattle.grid.specs.Grid.{blockRows, blockColumns, blockTotal}
+use Rattle.plan.specs.declared.BufferOf7.the-variants.{Marks}
 use Rattle.plan.specs.declared.Plan.{Plan}
 use Rattle.plan.specs.Rules.{keepsRules}
 use Rattle.plan.specs.Sizes.{neededMarks, neededPixels, taskCount}
 use Rattle.plan.specs.FirstTests.{lentRows}
-use Rattle.plan.proofs.FirstTests.{Suffices, lent-accepted}
+use Rattle.plan.proofs.FirstTests.{only-accepted}
 use Rattle.plan.proofs.Record.{rules}
 use Rattle.plan.proofs.Needed.{bounds}
 use Rattle.tasks.specs.Tasks.{ready}
@@ -117,11 +118,9 @@ module _ (plan : Plan) (kept : keepsRules plan ≡ true) (done : ℕ → ℕ →
       let same = shows-marked (plan .grid) done marks shows in
       let valid = shows-valid (plan .grid) done marks shows only in
       let whole = all-valid (plan .grid) marks valid in
-      let lent : Suffices plan (lentToReport marks) =
-      record { rules = kept; of7-long = enough; strips-long = tt; map-long = tt; output-long = tt } in
       rw (
         accepted-before (lentRows plan (lentToReport marks)) (marksRows (plan .grid) marks)
-            (sym (lent-accepted plan (lentToReport marks) lent)),
+            (sym (only-accepted plan (Marks (length marks)) kept enough)),
         le-ltb (firstBroken (plan .grid) marks) (neededMarks plan) (omega arith),
         count-same (plan .grid) (isMarked marks) done same,
         tally-same (plan .grid) (isMarked marks) done same,

@@ -20,7 +20,7 @@ use Rattle.plan.specs.declared.PlanSizes.the-variants.{Refused as NoSizes}
 use Rattle.plan.specs.Rules.{keepsRules}
 use Rattle.plan.specs.Sizes.{neededPixels}
 use Rattle.plan.specs.FirstTests.{onlyOf7, planSizes, sizesGiven}
-use Rattle.plan.proofs.FirstTests.{lent-accepted}
+use Rattle.plan.proofs.FirstTests.{only-accepted}
 use Rattle.buffer.specs.Lists.{listOf}
 use Rattle.plan.proofs.Known.{sizes-refused}
 use Rattle.plan_reader.specs.declared.PlanRead.{PlanRead}
@@ -125,9 +125,7 @@ module _ (plan : Plan) (input : List ℕ) where
   pub kept-refused : {A : Type 0} → keepsRules plan ≡ true → (known : PlanSizes) → sizesGiven known ≡ planSizes plan
       → (refusal : Refusal) → known ≡ NoSizes refusal → A
   kept-refused kept known is refusal e =
-      let accepts =
-      lent-accepted plan (onlyOf7 of7.NoneOf7)
-      (record { rules = kept; of7-long = tt; strips-long = tt; map-long = tt; output-long = tt }) in
+      let accepts = only-accepted plan of7.NoneOf7 kept tt in
       absurd (not-accepted (sizes-refused plan (onlyOf7 of7.NoneOf7) known is refusal e ∙ accepts))
 
   module _ (pixels : ℕ) (pixels-are : pixels ≡ neededPixels plan) where
