@@ -7,7 +7,7 @@ use native.Mathlib.Nat.{add-suc, add-zero, zero-mod}
 use native.Mathlib.Omega.{arith}
 use lib.IntN.{ℤ}
 use Rattle.word.specs.Word.{modulus, minusOne, _⊕_, _⊖_, _⊗_, residue}
-use Rattle.word.proofs.Ring.{feedback-adds, corners, add-then-sub, add-reduced, add-sub, add-small, zero-add, zero-sub, zero-right, add-assoc}
+use Rattle.word.proofs.Ring.{feedback-adds, corners, corners-cancel, add-then-sub, add-reduced, add-sub, add-small, zero-add, zero-sub, zero-right, add-assoc}
 use Rattle.passes.specs.Line.{history, output}
 use Rattle.passes.specs.Filter.{lessFeedback, filterStep}
 use Rattle.axis.specs.Axis.{forward, backward}
@@ -110,6 +110,16 @@ rectangle-true h w S X e t l b r p q u v =
     )
     (ap₂ (λ y x. sumAboveLeft X y x ⊖ sumAboveLeft X t x ⊖ sumAboveLeft X y l ⊕ sumAboveLeft X t l) y x
     ∙ corners-sum X t l (b - t) (r - l))
+
+-- On any table a rectangle without rows or without columns has the sum 0.
+module _ (S : ℕ → ℕ → ℕ) where
+  pub no-row-sum : (top left bottom right : ℕ) → top ≡ bottom → rectangleSum S top left bottom right ≡ 0
+  unfolding rectangleSum
+  no-row-sum t l b r e = rw e (corners-cancel (cornerOf S b r) _ _ (cornerOf S b l) refl)
+
+  pub no-column-sum : (top left bottom right : ℕ) → left ≡ right → rectangleSum S top left bottom right ≡ 0
+  unfolding rectangleSum
+  no-column-sum t l b r e = rw e (corners-cancel (cornerOf S b r) _ _ (cornerOf S t r) (omega arith))
 
 -- ---- heights
 

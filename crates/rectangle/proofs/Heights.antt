@@ -136,7 +136,7 @@ module _ (plan : Plan) (kept : keepsRules plan ≡ true) (passes : plan .passes 
       table-at plan kept heights output long room y x a b
       ∙ ap (λ (Z : ℕ → ℕ → ℕ). Z y x)
       (passes-are plan passes (plan .grid .rows) (plan .grid .columns) (mapOf plan heights)))
-      top left bottom right (omega (arith, inside .top-bottom)) (omega (arith, inside .left-right)) (inside .bottom-low) (inside .right-low)
+      top left bottom right (inside .top-bottom) (inside .left-right) (inside .bottom-low) (inside .right-low)
 
 -- and read as signed it is that sum, which is small enough.
 pub sums-heights : SumsHeights

@@ -1,12 +1,12 @@
 -- The answer of the call by the tests that are made, and what is given beside it. Assumes nothing.
 use mathlib.Core.Path.{_≡_, sym, _∙_}
-use mathlib.Core.Bool.{true, false}
+use mathlib.Core.Bool.{true, false, not-eq-not}
 use mathlib.Core.List.{List, [], _∷_}
 use Prim.Native.Nat.{ℕ, _≤_}
 use lib.IntN.{ℤ, pos}
-use lib.Dec.{ltb, leb}
+use lib.Dec.{ltb}
 use lib.ListN.{length}
-use borrow.Author.Tests.{le-ltb, lt-leb, ltb-false, leb-false}
+use borrow.Author.Tests.{le-ltb, ltb-false}
 use Rattle.refusal.specs.declared.Refusal.{Refusal}
 use Rattle.refusal.specs.Refusals.{refusedFor, Answer, accepted, refused}
 use Rattle.refusal.specs.Table.{Row, _at_when_, firstDue, Given}
@@ -27,26 +27,26 @@ use Rattle.passes.specs.Table.{rectangleSum}
 use Rattle.rectangle.specs.Rectangle.{tableOf, Inside, outside, lentToSum, rectangleCall}
 
 module _ (plan : Plan) (top left bottom right : ℕ) where
-  pub not-outside : outside plan top left bottom right ≡ false → Inside plan top left bottom right
-  not-outside e =
-      let f = or-right (leb bottom top) _ e in
-      let g = or-right (leb right left) _ f in
-      let h = or-right (ltb (plan .grid .rows) bottom) _ g in
-      record {
-        top-bottom = leb-false bottom top (or-left (leb bottom top) _ e);
-        left-right = leb-false right left (or-left (leb right left) _ f);
-        bottom-low = ltb-false (plan .grid .rows) bottom (or-left (ltb (plan .grid .rows) bottom) _ g);
-        right-low = ltb-false (plan .grid .columns) right h;
-      }
-
   pub inside-the-map : Inside plan top left bottom right → outside plan top left bottom right ≡ false
   inside-the-map i =
       rw (
-        lt-leb bottom top (i .top-bottom),
-        lt-leb right left (i .left-right),
+        le-ltb bottom top (i .top-bottom),
+        le-ltb right left (i .left-right),
         le-ltb (plan .grid .rows) bottom (i .bottom-low),
         le-ltb (plan .grid .columns) right (i .right-low),
       )
+
+  pub not-outside : outside plan top left bottom right ≡ false → Inside plan top left bottom right
+  not-outside e =
+      let f = or-right (ltb bottom top) _ e in
+      let g = or-right (ltb right left) _ f in
+      let h = or-right (ltb (plan .grid .rows) bottom) _ g in
+      record {
+        top-bottom = ltb-false bottom top (or-left (ltb bottom top) _ e);
+        left-right = ltb-false right left (or-left (ltb right left) _ f);
+        bottom-low = ltb-false (plan .grid .rows) bottom (or-left (ltb (plan .grid .rows) bottom) _ g);
+        right-low = ltb-false (plan .grid .columns) right h;
+      }
 
 module _ (plan : Plan) (table : List ℕ) (top left bottom right : ℕ) where
   -- The row of the rectangle.
@@ -66,12 +66,20 @@ module _ (plan : Plan) (table : List ℕ) (top left bottom right : ℕ) where
     answer-of-rectangle sizes e p =
         p ∙ sym (accepted-before (lentRows plan (lentToSum table)) (isOutside ∷ []) (sym (sizes-known plan (lentToSum table) known is sizes e .0)))
 
-  pub accepted-when : keepsRules plan ≡ true → neededPixels plan ≤ length table → Inside plan top left bottom right
-      → rectangleCall plan table top left bottom right .answer ≡ accepted
-  unfolding rectangleCall
-  accepted-when kept h i =
-      accepted-before (lentRows plan (lentToSum table)) (isOutside ∷ []) (sym (only-accepted plan (Table (length table)) kept h))
-      ∙ rw (inside-the-map plan top left bottom right i)
+  -- Beside a record that keeps the rules and a long enough table the rectangle decides.
+  module _ (kept : keepsRules plan ≡ true) (long : neededPixels plan ≤ length table) where
+    rectangle-decides : rectangleCall plan table top left bottom right .answer ≡ firstDue (isOutside ∷ [])
+    unfolding rectangleCall
+    rectangle-decides =
+        accepted-before (lentRows plan (lentToSum table)) (isOutside ∷ []) (sym (only-accepted plan (Table (length table)) kept long))
+
+    pub accepted-when : Inside plan top left bottom right → rectangleCall plan table top left bottom right .answer ≡ accepted
+    accepted-when i = rectangle-decides ∙ rw (inside-the-map plan top left bottom right i)
+
+    pub refused-when : (Inside plan top left bottom right → ⊥)
+        → rectangleCall plan table top left bottom right .answer ≡ refused 12 0
+    refused-when none =
+        rectangle-decides ∙ rw (not-eq-not {b = true} .0 (λ within. none (not-outside plan top left bottom right within)))
 
   pub accepted-fits : rectangleCall plan table top left bottom right .answer ≡ accepted
       → (neededPixels plan ≤ length table) × Inside plan top left bottom right

@@ -1,5 +1,5 @@
 -- On a summed-area table the rectangle sum is the heights' sum, a whole number and no residue; what it gives at zero
--- and at both ends on any table. Document 01, 'The four passes' and the rectangle sum; document 02, CR 2.
+-- and at both ends on any table. Document 01, 'The four passes' and the rectangle sum; document 02, CR 2 and CR 5.
 use mathlib.Core.Path.{_≡_}
 use mathlib.Core.Bool.{true}
 use mathlib.Core.List.{List}
@@ -40,7 +40,7 @@ SumsBounded =
     → (top left bottom right : ℕ) → Inside plan top left bottom right
     → natAbs (heightSum plan heights top left bottom right) ≤ 2 ^ 55
 
--- Over every rectangle of the map that is not empty, the call gives the sum of the heights in it from this table.
+-- Over every rectangle of the map, an empty one too, the call gives the sum of the heights in it from this table.
 abbrev pub SumsOver : Plan → List ℤ → (table : List ℕ) → Type 0
 SumsOver plan heights table =
     (top left bottom right : ℕ) → Inside plan top left bottom right

@@ -1,3 +1,4 @@
 pub mod Rectangle
 pub mod Corners
+pub mod FourNumbers
 pub mod Heights

@@ -1,10 +1,10 @@
 -- The rectangle sum as a call: document 01, the paragraph on the rectangle sum and refusals 6, 7 and 12; document 02,
--- CR 2 and CR 4.
+-- CR 2, CR 4 and CR 5.
 use mathlib.Core.Bool.{Bool, _||_}
 use mathlib.Core.List.{List, [], _∷_, _++_}
-use Prim.Native.Nat.{ℕ, _<_, _≤_}
+use Prim.Native.Nat.{ℕ, _≤_}
 use lib.IntN.{ℤ, pos}
-use lib.Dec.{ltb, leb}
+use lib.Dec.{ltb}
 use lib.ListN.{length}
 use Rattle.refusal.specs.Refusals.{refusedFor, accepted}
 use Rattle.refusal.specs.Table.{Row, _at_when_, firstDue, Given, given}
@@ -23,17 +23,17 @@ use Rattle.rectangle.specs.declared.RectangleSum.the-variants.{Sum, Refu
 abbrev pub tableOf : Plan → List ℕ → ℕ → ℕ → ℕ
 tableOf plan table row column = wordAt table (rowMajor (plan .grid .columns) row column)
 
--- A rectangle of the map that is not empty,
+-- A rectangle of the map, up to its far edges; it may be empty, without rows or without columns,
 pub record Inside (plan : Plan) (top left bottom right : ℕ) : Type 0 where
-  pub top-bottom : top < bottom
-  pub left-right : left < right
+  pub top-bottom : top ≤ bottom
+  pub left-right : left ≤ right
   pub bottom-low : bottom ≤ plan .grid .rows
   pub right-low : right ≤ plan .grid .columns
 
--- and the test that a rectangle is none such: top ≥ bottom, left ≥ right, bottom > h or right > w.
+-- and the test that four numbers are no such rectangle: top > bottom, left > right, bottom > h or right > w.
 abbrev pub outside : Plan → (top left bottom right : ℕ) → Bool
 outside plan top left bottom right =
-    leb bottom top || (leb right left || (ltb (plan .grid .rows) bottom || ltb (plan .grid .columns) right))
+    ltb bottom top || (ltb right left || (ltb (plan .grid .rows) bottom || ltb (plan .grid .columns) right))
 
 -- The sum is lent a table.
 abbrev pub lentToSum : List ℕ → Lengths

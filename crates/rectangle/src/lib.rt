@@ -20,7 +20,8 @@ pub enum RectangleSum {
     Refused(Refusal),
 }
 
-// The sum over the rows from `top` to before `bottom` and the columns from `left` to before `right`, read as signed.
+// The sum over the rows from `top` to before `bottom` and the columns from `left` to before `right`, read as signed; 0
+// where `top` equals `bottom` or `left` equals `right`.
 pub fn rectangle_sum(
     plan: Plan,
     top: usize,
@@ -60,15 +61,15 @@ fn answer(
     }
 }
 
-// Refused by 12 where the rectangle is empty or leaves the map.
+// Refused by 12 where top lies past bottom, left past right, or bottom or right past the map.
 fn outside(plan: Plan, top: usize, left: usize, bottom: usize, right: usize) -> Outcome
     ensures { λ r. ⌜ answerOf r ≡ firstDue (12 at 0 when outside plan top left bottom right ∷ []) ⌝ }
 {
     let refused = Outcome::Refused(Refusal::RectangleOutside);
-    if bottom <= top {
+    if bottom < top {
         return refused;
     }
-    if right <= left {
+    if right < left {
         return refused;
     }
     if plan.grid.rows < bottom {

@@ -1,5 +1,5 @@
 -- The totals that an operator reads: the table of a job with all its tasks done gives the heights' sums, as whole
--- numbers. Document 01, the paragraph on the rectangle sum; document 02, CR 2.
+-- numbers. Document 01, the paragraph on the rectangle sum; document 02, CR 2 and CR 5.
 use mathlib.Core.Path.{_≡_}
 use mathlib.Core.List.{List}
 use Prim.Native.Nat.{ℕ, _≤_}

@@ -96,6 +96,15 @@ corners p q a b =
     (ap (_% modulus) {y = a + minusOne * b + modulus * (p + q)} (rw modulus-is (omega arith))
     ∙ add-mul-mod-self-left _ _ _)
 
+-- Four corners make 0 where the two that are added are together the two that are taken away.
+pub corners-cancel : (a b c d : ℕ) → a + d ≡ b + c → a ⊖ b ⊖ c ⊕ d ≡ 0
+unfolding _⊖_ _⊕_
+corners-cancel a b c d e =
+    simp reduce
+    (ap (_% modulus) {y = 0 + modulus * (b + c)} (rw modulus-is (omega (arith, e)))
+    ∙ add-mul-mod-self-left _ _ _
+    ∙ zero-mod modulus)
+
 -- ---- 0, 1 and -1
 
 pub zero-add : 0 ⊕ 0 ≡ 0

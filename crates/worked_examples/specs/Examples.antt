@@ -150,13 +150,13 @@ columnPlan = record { grid = record { rows = 3; columns = 1; side = 2 }; passes 
 
 -- ---- the list
 
--- The starred examples, in the document's order. Order 9 stands for order 5 by request CR 1; order 8 beside order 4
--- holds the limit from below.
+-- The starred examples, in the document's order. By request CR 5 the rectangle without rows has the sum 0. Order 9
+-- stands for order 5 by request CR 1; order 8 beside order 4 holds the limit from below.
 unfoldable pub starred : List (Example (List ℤ))
 starred =
     serialExample tablePlan oneToSix (pos 1 ∷ pos 3 ∷ pos 6 ∷ pos 5 ∷ pos 12 ∷ pos 21 ∷ [])
     ∷ rectangleExample oneToSix 0 1 2 3 0 0 (pos 16)
-    ∷ rectangleExample oneToSix 0 0 0 3 12 0 (pos 0)
+    ∷ rectangleExample oneToSix 0 0 0 3 0 0 (pos 0)
     ∷ serialExample (planOf 3 1 down unchangedPass unchangedPass unchangedPass) oneThenZeros (pos 6 ∷ minus 12 ∷ pos 24 ∷ [])
     ∷ serialExample (planOf 3 1 down up unchangedPass unchangedPass) oneThenZeros (minus 126 ∷ pos 60 ∷ minus 24 ∷ [])
     ∷ outputExample columnPlan oneThenZeros (twoBlocks 1 2) (minus 126 ∷ pos 60 ∷ minus 24 ∷ [])
@@ -173,14 +173,23 @@ starred =
     ∷ readingExample (planWords 0x20000009 0x30000009 (coefficientsOfOne 9)) (3 ∷ 2 ∷ [])
     ∷ []
 
--- Further rectangles: document 01's second; and by request CR 2, of a map with heights below 0, totals below 0 of a row
--- and of the whole map, and a total of 0.
+-- Further rectangles: document 01's second; by request CR 2, of a map with heights below 0, totals below 0 of a row and
+-- of the whole map, and a total of 0; by request CR 5, no rows, no columns at the right edge, and neither at the far
+-- corner. Refused by 12: neither past that corner; top past bottom; left past right; bottom past the map; right past it.
 unfoldable pub furtherRectangles : List (Example (List ℤ))
 furtherRectangles =
     rectangleExample oneToSix 1 0 2 1 0 0 (pos 4)
     ∷ rectangleExample aboveAndBelow 1 0 2 3 0 0 (minus 5)
     ∷ rectangleExample aboveAndBelow 0 0 2 3 0 0 (minus 3)
     ∷ rectangleExample aboveAndBelow 0 1 2 3 0 0 (pos 0)
+    ∷ rectangleExample oneToSix 1 1 1 3 0 0 (pos 0)
+    ∷ rectangleExample oneToSix 0 3 2 3 0 0 (pos 0)
+    ∷ rectangleExample oneToSix 2 3 2 3 0 0 (pos 0)
+    ∷ rectangleExample oneToSix 3 4 3 4 12 0 (pos 0)
+    ∷ rectangleExample oneToSix 2 0 1 3 12 0 (pos 0)
+    ∷ rectangleExample oneToSix 0 2 2 1 12 0 (pos 0)
+    ∷ rectangleExample oneToSix 0 0 3 3 12 0 (pos 0)
+    ∷ rectangleExample oneToSix 0 0 2 4 12 0 (pos 0)
     ∷ []
 
 -- The starred examples, further rectangles, and strips and outputs of two jobs of order 2 whose last block is short.
