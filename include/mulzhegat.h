@@ -63,7 +63,7 @@ enum {
     MZG_MARK_BROKEN = 9,        /* a mark looked at has a wrong kind or a spare bit; place: the least such block */
     MZG_ALREADY_MARKED = 10,    /* the task is already marked */
     MZG_NEED_UNMARKED = 11,     /* a need of the task is not marked yet */
-    MZG_RECTANGLE_OUTSIDE = 12, /* top >= bottom, left >= right, bottom > rows or right > columns */
+    MZG_RECTANGLE_OUTSIDE = 12, /* top > bottom, left > right, bottom > rows or right > columns */
     /* 13 is for inputs of the program `smooth`: no function answers it */
     MZG_STRIPS_TOO_SHORT = 14,  /* the strips are too short */
     MZG_MAP_TOO_SHORT = 15,     /* the map is too short */
@@ -177,10 +177,16 @@ uint64_t mzg_serial(const mzg_plan *plan, const int32_t *map, size_t map_len, ui
  * On the summed-area table of a map this is the exact sum of the heights, negative for a pocket below the datum:
  * heights have 32 bits and a map no more than 2^24 of them, so that the sum lies between -2^55 and 2^55. On any other
  * table it is what the four words make of it, from -2^63 (where they make 2^63) to 2^63 - 1; where they make 0 it is 0.
+ * With top equal to bottom, or left equal to right, the rectangle is empty and the sum is 0, whatever the table holds.
+ * All four numbers are tested as for any other rectangle, up to the map's far edges: (rows, columns, rows, columns) has
+ * the sum 0; (rows + 1, 0, rows + 1, columns), (0, 0, 0, columns + 1) and (0, 1, 0, 0) are refused. So are edges that
+ * have crossed: a loop that moves two opposite ones, or one by more than 1, has to stop where they meet.
  * The record, the length and the rectangle are tested, not that plan and table are those of a summed-area table.
- * The sum is signed: print it with PRId64, and make a count signed before dividing by it.
- * Needs sizes.pixels table words.
- * Refused: 6, 7 (table), 12; the sum is then 0, as that of an accepted call can be: look at the answer first. */
+ * The sum is signed: print it with PRId64, and make a count signed before dividing by it. The number of pixels,
+ * (bottom - top) * (right - left), can be 0: test it before dividing.
+ * Needs sizes.pixels table words, also for an empty rectangle.
+ * Refused: 6, 7 (table), 12 (top > bottom, left > right, bottom > rows or right > columns); the sum is then 0, as that
+ * of an accepted call can be: look at the answer first. */
 uint64_t mzg_rectangle(const mzg_plan *plan, size_t top, size_t left, size_t bottom, size_t right,
                        const uint64_t *table, size_t table_len, int64_t *sum);
 

@@ -134,9 +134,15 @@ int main(void)
         printf("total %" PRId64 ", added one by one %" PRId64 "\n", total, added);
     }
 
-    /* A refused call says why: this rectangle has no rows. */
-    uint64_t answer = mzg_rectangle(&plan, 2, 2, 2, 6, output, (size_t)sizes.pixels, &total);
-    printf("an empty rectangle: refused %" PRIu64 " at %" PRIu64 "\n", MZG_NUMBER(answer), MZG_PLACE(answer));
+    /* A rectangle that shrinks row by row until it closes: nothing is in the last one, and its total is 0. */
+    for (size_t rows = 3; rows-- > 0;) {
+        accept("rectangle", mzg_rectangle(&plan, 2, 2, 2 + rows, 6, output, (size_t)sizes.pixels, &total));
+        printf("rows %zu, total %" PRId64 "\n", rows, total);
+    }
+
+    /* A refused call says why: the map has 5 rows. */
+    uint64_t answer = mzg_rectangle(&plan, 2, 2, 6, 6, output, (size_t)sizes.pixels, &total);
+    printf("a rectangle past the map: refused %" PRIu64 " at %" PRIu64 "\n", MZG_NUMBER(answer), MZG_PLACE(answer));
 
     free(pairs);
     free(output);
