@@ -29,7 +29,7 @@ pub enum Refusal {
     AlreadyMarked,
     /// 11: a need is unmarked.
     NeedUnmarked,
-    /// 12: the rectangle is empty or leaves the map.
+    /// 12: top > bottom, left > right, bottom > rows or right > columns.
     RectangleOutside,
     /// 14: the strips are too short.
     StripsTooShort,

@@ -34,7 +34,8 @@ pub fn run(plan: &Plan, map: &[i32], output: &mut [u64]) -> Result<(), Refusal> 
     Refusal::check(unsafe { mzg_serial(plan, map.as_ptr(), map.len(), output.as_mut_ptr(), output.len()) })
 }
 
-/// A rectangle of the map: rows `top` to `bottom - 1`, columns `left` to `right - 1`.
+/// A rectangle of the map: rows `top` to `bottom - 1`, columns `left` to `right - 1`. With `top` equal to `bottom`, or
+/// `left` equal to `right`, nothing is in it.
 #[derive(Clone, Copy, Debug, PartialEq, Eq)]
 pub struct Rectangle {
     /// The first row.
@@ -56,10 +57,11 @@ impl Rectangle {
 
 /// Gives the sum over a rectangle of a finished summed-area table: the exact sum of the heights in it, below 0 where
 /// the heights below the datum outweigh those above. On any other table it is the word that the four corners make
-/// modulo 2^64, read as signed. The table needs rows * columns words.
+/// modulo 2^64, read as signed. Where nothing is in the rectangle it is 0, on any table and up to the map's far edges
+/// (`top` and `bottom` both the number of rows, say). The table needs rows * columns words.
 ///
 /// # Errors
-/// 6, 7 (table), 12.
+/// 6, 7 (table), 12 (top > bottom, left > right, bottom > rows or right > columns).
 ///
 /// # Example
 /// ```
@@ -69,6 +71,7 @@ impl Rectangle {
 /// let mut table = [0; 6];
 /// serial::run(&plan, &[1, -2, 3, -4, 5, -6], &mut table).unwrap();
 /// assert_eq!(serial::rectangle(&plan, Rectangle::new(1, 0, 2, 3), &table), Ok(-5));
+/// assert_eq!(serial::rectangle(&plan, Rectangle::new(1, 0, 1, 3), &table), Ok(0));
 /// ```
 pub fn rectangle(plan: &Plan, rectangle: Rectangle, table: &[u64]) -> Result<i64, Refusal> {
     let mut sum = 0;

@@ -194,13 +194,16 @@ pub fn serial(plan: &Plan, map: &[i32], output: &mut [u64]) -> Result<(), Refusa
     Ok(())
 }
 
-/// Sums over a rectangle, given as top, left, bottom, right; a sum is from -2^63 to 2^63 - 1.
+/// Sums over a rectangle, given as top, left, bottom, right; a sum is from -2^63 to 2^63 - 1, 0 of an empty rectangle.
 pub fn rectangle(plan: &Plan, rectangle: [usize; 4], table: &[u64]) -> Result<i64, Refusal> {
     let [top, left, bottom, right] = rectangle;
     let job = Job::of(plan)?;
     job.check_lengths(&[Buffer::Table(table.len())])?;
-    if top >= bottom || left >= right || bottom > job.rows || right > job.columns {
+    if top > bottom || left > right || bottom > job.rows || right > job.columns {
         return Err(Refusal::RectangleOutside);
+    }
+    if top == bottom || left == right {
+        return Ok(0);
     }
     // The table at the row and the column before, each counted from 1; 0 for row or column -1.
     let before = |row: usize, column: usize| match (row, column) {
@@ -555,7 +558,8 @@ mod tests {
         assert_eq!(strips, [0, 0, 3, 12, 0, 0, 0, 0]);
         assert_eq!(rectangle(&plan, [0, 1, 2, 3], &output), Ok(16));
         assert_eq!(rectangle(&plan, [1, 0, 2, 1], &output), Ok(4));
-        assert_eq!(rectangle(&plan, [0, 0, 0, 3], &output), Err(Refusal::RectangleOutside));
+        assert_eq!(rectangle(&plan, [0, 0, 0, 3], &output), Ok(0));
+        assert_eq!(rectangle(&plan, [0, 0, 3, 3], &output), Err(Refusal::RectangleOutside));
         let (_, _, output) = whole_job(&plan, &[1, -2, 3, -4, 5, -6]);
         assert_eq!(rectangle(&plan, [1, 0, 2, 3], &output), Ok(-5));
     }

@@ -108,10 +108,14 @@ impl Random {
         (0..length).map(|_| self.height()).collect()
     }
 
-    /// A rectangle of a map of this size, not empty: top, left, bottom, right.
+    /// A rectangle of a map of this size, which may have no rows or no columns: top, left, bottom, right.
     pub fn rectangle(&mut self, rows: usize, columns: usize) -> [usize; 4] {
-        let (top, left) = (self.below(rows), self.below(columns));
-        [top, left, self.between(top + 1, rows), self.between(left + 1, columns)]
+        let [[top, bottom], [left, right]] = [rows, columns].map(|most| {
+            let mut edges = [self.between(0, most), self.between(0, most)];
+            edges.sort();
+            edges
+        });
+        [top, left, bottom, right]
     }
 
     /// Words of any value.

@@ -41,7 +41,7 @@ fn every_refusal_number_from_1_to_12_and_14_to_16_is_seen() {
     perform(0, 4, &mut marks).unwrap();
     note(perform(0, 4, &mut marks).unwrap_err());
     note(perform(5, 4, &mut marks).unwrap_err());
-    note(serial::rectangle(&valid, Rectangle::new(2, 0, 2, 1), &output).unwrap_err());
+    note(serial::rectangle(&valid, Rectangle::new(2, 0, 1, 1), &output).unwrap_err());
 
     let mut expected = BTreeMap::from([6, 7, 8, 10, 11, 12, 14, 15, 16].map(|number| (number, 0)));
     expected.extend([(1, 9), (2, 4), (3, 6), (4, 1), (5, 13), (9, 5)]);

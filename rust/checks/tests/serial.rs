@@ -40,12 +40,13 @@ fn example_rectangle_below_the_datum() {
 }
 
 #[test]
-fn example_empty_rectangle_is_refused_12() {
-    let mut sum = 77;
-    let answer =
-        serial::rectangle_into(&Plan::summed(2, 3, 2), Rectangle::new(0, 0, 0, 3), &[1, 3, 6, 5, 12, 21], &mut sum);
-    let refusal = answer.unwrap_err();
-    assert_eq!((refusal.number(), refusal.place(), sum), (12, 0, 0));
+fn example_rectangle_with_nothing_in_it() {
+    let (plan, table) = (Plan::summed(2, 3, 2), [1, 3, 6, 5, 12, 21]);
+    assert_eq!(sum(&plan, [0, 0, 0, 3], &table), Ok(0));
+    // At the map's far corner, and past it.
+    assert_eq!(sum(&plan, [2, 3, 2, 3], &table), Ok(0));
+    let refusal = sum(&plan, [3, 4, 3, 4], &table).unwrap_err();
+    assert_eq!((refusal.number(), refusal.place()), (12, 0));
 }
 
 #[test]
@@ -178,33 +179,72 @@ fn sum_and_compare(plan: &Plan, corners: [usize; 4], table: &[u64]) -> Result<i6
     expected
 }
 
-#[test]
-fn all_rectangles_of_small_tables() {
-    let mut random = random::of_test("all_rectangles_of_small_tables");
-    let (mut calls, mut accepted) = (0, 0);
-    for (rows, columns) in [(1, 1), (1, 4), (4, 1), (3, 4), (4, 3)] {
-        let plan = random.plan(rows, columns, 4, [1, 0, 2, 4]);
-        let table = random.words(rows * columns + 1);
+/// Goes through every top, left, bottom and right from 0 to two past the size, on maps of 1 to 4 rows and columns.
+/// `prepare` makes what belongs to a map of so many rows and columns, and `answer` says what four numbers of it gave.
+/// The rectangles of the map are to be accepted and no others, and of these the empty ones are to give 0.
+fn all_rectangles_of_small_maps<T>(
+    mut prepare: impl FnMut(usize, usize) -> T,
+    answer: impl Fn(&T, [usize; 4]) -> Result<i64, Refusal>,
+) {
+    // How many pairs of edges, the first at most the last, a map of so many rows or columns has.
+    let edge_pairs = |most: usize| (most + 1) * (most + 2) / 2;
+    for size in 0..16 {
+        let (rows, columns) = (size / 4 + 1, size % 4 + 1);
+        let map = prepare(rows, columns);
+        let (mut accepted, mut empty) = (0, 0);
         for number in 0..(rows + 3).pow(2) * (columns + 3).pow(2) {
             let (rest, top) = (number / (rows + 3), number % (rows + 3));
             let (rest, bottom) = (rest / (rows + 3), rest % (rows + 3));
             let (right, left) = (rest / (columns + 3), rest % (columns + 3));
-            accepted += usize::from(sum_and_compare(&plan, [top, left, bottom, right], &table).is_ok());
-            calls += 1;
+            let inside = top <= bottom && left <= right && bottom <= rows && right <= columns;
+            match answer(&map, [top, left, bottom, right]) {
+                Ok(sum) => {
+                    assert!(inside, "{:?} of {rows} by {columns}", [top, left, bottom, right]);
+                    accepted += 1;
+                    if top == bottom || left == right {
+                        assert_eq!(sum, 0, "{:?} of {rows} by {columns}", [top, left, bottom, right]);
+                        empty += 1;
+                    }
+                }
+                Err(refusal) => assert!(!inside && refusal == Refusal::RectangleOutside, "{refusal}"),
+            }
         }
+        assert_eq!(accepted, edge_pairs(rows) * edge_pairs(columns));
+        assert_eq!(empty, accepted - edge_pairs(rows - 1) * edge_pairs(columns - 1));
     }
-    let expected = [(1, 1), (1, 4), (4, 1), (3, 4), (4, 3)]
-        .iter()
-        .map(|(h, w)| h * (h + 1) / 2 * (w * (w + 1) / 2))
-        .sum::<usize>();
-    assert_eq!(accepted, expected);
-    assert!(calls > 4_000);
+}
+
+#[test]
+fn all_rectangles_of_small_tables() {
+    let mut random = random::of_test("all_rectangles_of_small_tables");
+    all_rectangles_of_small_maps(
+        |rows, columns| (random.plan(rows, columns, 4, [1, 0, 2, 4]), random.words(rows * columns + 1)),
+        |(plan, table), corners| sum_and_compare(plan, corners, table),
+    );
+}
+
+#[test]
+fn all_rectangles_of_small_summed_maps() {
+    let mut random = random::of_test("all_rectangles_of_small_summed_maps");
+    all_rectangles_of_small_maps(
+        |rows, columns| {
+            let (plan, map) = (Plan::summed(rows, columns, 2), random.heights(rows * columns));
+            let table = run(&plan, &map);
+            (plan, map, table)
+        },
+        |(plan, map, table), corners| {
+            let sum = sum_and_compare(plan, corners, table)?;
+            let added = reference::total(map, plan.columns as usize, corners);
+            assert_eq!(i128::from(sum), added, "{corners:?} of {map:?}");
+            Ok(sum)
+        },
+    );
 }
 
 #[test]
 fn rectangles_of_summed_tables_are_sums_of_heights() {
     let mut random = random::of_test("rectangles_of_summed_tables_are_sums_of_heights");
-    let (mut below, mut above) = (0, 0);
+    let (mut below, mut above, mut empty) = (0, 0, 0);
     for _ in 0..300 * random::rounds() {
         let (rows, columns) = (random.between(1, 40), random.between(1, 40));
         let plan = Plan::summed(rows, columns, random.between(1, 32));
@@ -216,9 +256,13 @@ fn rectangles_of_summed_tables_are_sums_of_heights() {
             assert_eq!(sum_and_compare(&plan, corners, &table).map(i128::from), Ok(expected));
             below += usize::from(expected < 0);
             above += usize::from(expected > 0);
+            empty += usize::from(corners[0] == corners[2] || corners[1] == corners[3]);
         }
     }
-    assert!(below > 1_000 && above > 1_000, "{below} sums below 0, {above} above");
+    assert!(
+        below > 1_000 && above > 1_000 && empty > 500,
+        "{below} sums below 0, {above} above, {empty} of empty rectangles"
+    );
 }
 
 /// All heights the least, all the greatest: no allowed map has a lower or a higher total.
@@ -262,6 +306,10 @@ fn rectangles_with_huge_numbers_are_refused_12() {
             corners[place] = number;
             assert_eq!(sum_and_compare(&plan, corners, &table), Err(Refusal::RectangleOutside));
         }
+        // Empty, and past the map.
+        for corners in [[number, 2, number, 4], [1, number, 3, number], [number; 4]] {
+            assert_eq!(sum_and_compare(&plan, corners, &table), Err(Refusal::RectangleOutside));
+        }
         for _ in 0..200 {
             let corners = [0; 4].map(|_| if random.once_in(2) { random.pick(&huge) } else { random.below(5) });
             let _ = sum_and_compare(&plan, corners, &table);
@@ -279,7 +327,7 @@ fn rectangle_refuses_6_then_7_then_12() {
         let (rows, columns) = (plan.rows as usize, plan.columns as usize);
         let table = Lent::new(rows * columns, || random.word());
         let lend = |[length]: [usize; 1]| table.shortened(length);
-        for corners in [random.rectangle(rows, columns), [1, 0, 1, 1], [0, 0, rows + 1, columns]] {
+        for corners in [random.rectangle(rows, columns), [1, 0, 1, 1], [1, 0, 0, 1], [0, 0, rows + 1, columns]] {
             let calls = [sum, model::rectangle]
                 .map(|sum| move |plan: &Plan, table: &mut Lent<u64>| sum(plan, corners, table.get()));
             short.try_all([&plan, &broken], [rows * columns], lend, calls);
