@@ -108,7 +108,7 @@ impl Random {
         (0..length).map(|_| self.height()).collect()
     }
 
-    /// A rectangle of a map of this size, which may have no rows or no columns: top, left, bottom, right.
+    /// A rectangle of a map of this size, which may be empty: top, left, bottom, right.
     pub fn rectangle(&mut self, rows: usize, columns: usize) -> [usize; 4] {
         let [[top, bottom], [left, right]] = [rows, columns].map(|most| {
             let mut edges = [self.between(0, most), self.between(0, most)];
