@@ -134,7 +134,7 @@ int main(void)
         printf("total %" PRId64 ", added one by one %" PRId64 "\n", total, added);
     }
 
-    /* A rectangle that shrinks row by row until it closes: nothing is in the last one, and its total is 0. */
+    /* A rectangle that shrinks row by row until it is empty: its last total is 0. */
     for (size_t rows = 3; rows-- > 0;) {
         accept("rectangle", mzg_rectangle(&plan, 2, 2, 2 + rows, 6, output, (size_t)sizes.pixels, &total));
         printf("rows %zu, total %" PRId64 "\n", rows, total);

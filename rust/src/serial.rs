@@ -35,7 +35,7 @@ pub fn run(plan: &Plan, map: &[i32], output: &mut [u64]) -> Result<(), Refusal> 
 }
 
 /// A rectangle of the map: rows `top` to `bottom - 1`, columns `left` to `right - 1`. With `top` equal to `bottom`, or
-/// `left` equal to `right`, nothing is in it.
+/// `left` equal to `right`, it is empty.
 #[derive(Clone, Copy, Debug, PartialEq, Eq)]
 pub struct Rectangle {
     /// The first row.
@@ -57,8 +57,8 @@ impl Rectangle {
 
 /// Gives the sum over a rectangle of a finished summed-area table: the exact sum of the heights in it, below 0 where
 /// the heights below the datum outweigh those above. On any other table it is the word that the four corners make
-/// modulo 2^64, read as signed. Where nothing is in the rectangle it is 0, on any table and up to the map's far edges
-/// (`top` and `bottom` both the number of rows, say). The table needs rows * columns words.
+/// modulo 2^64, read as signed. Of an empty rectangle it is 0, on any table and up to the map's far edges (`top` and
+/// `bottom` both the number of rows, say). The table needs rows * columns words.
 ///
 /// # Errors
 /// 6, 7 (table), 12 (top > bottom, left > right, bottom > rows or right > columns).

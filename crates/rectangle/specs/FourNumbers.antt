@@ -1,6 +1,6 @@
 -- What the rectangle sum answers to its four numbers, whatever words the table holds, once the record and the table's
--- length have passed 6 and 7: 0 where nothing is in the rectangle, 12 where they are no rectangle of the map. Document
--- 02, CR 5.
+-- length have passed 6 and 7: the sum 0 where they are an empty rectangle of the map, 12 where they are no rectangle of
+-- it. Document 02, CR 5.
 use mathlib.Core.Path.{_≡_}
 use mathlib.Core.Bool.{true}
 use mathlib.Core.List.{List}

@@ -174,8 +174,9 @@ starred =
     ∷ []
 
 -- Further rectangles: document 01's second; by request CR 2, of a map with heights below 0, totals below 0 of a row and
--- of the whole map, and a total of 0; by request CR 5, no rows, no columns at the right edge, and neither at the far
--- corner. Refused by 12: neither past that corner; top past bottom; left past right; bottom past the map; right past it.
+-- of the whole map, and a total of 0; by request CR 5, three empty ones, without rows, without columns at the right
+-- edge, and without both at the far corner. Refused by 12: an empty one past that corner; top past bottom; left past
+-- right; bottom past the map; right past the map.
 unfoldable pub furtherRectangles : List (Example (List ℤ))
 furtherRectangles =
     rectangleExample oneToSix 1 0 2 1 0 0 (pos 4)
