@@ -43,6 +43,6 @@ pub record Given (A : Type 0) : Type 0 where
   pub answer : Answer
   pub value : A
 
--- The value of an accepted call; beside a refusal it is all zeros.
-abbrev pub given : {A : Type 0} → Answer → A → A → Given A
-given answer value zeros = record { answer = answer; value = ifAccepted answer value zeros }
+-- The value of an accepted call, or what stands beside a refusal: all zeros, for a macro variable vacant.
+abbrev pub given : {A : Type 0} → Answer → (value otherwise : A) → Given A
+given answer value otherwise = record { answer = answer; value = ifAccepted answer value otherwise }
