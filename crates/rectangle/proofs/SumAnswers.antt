@@ -81,6 +81,11 @@ module _ (plan : Plan) (table : List ℕ) (top left bottom right : ℕ) where
     refused-when none =
         rectangle-decides ∙ rw (not-eq-not {b = true} .0 (λ within. none (not-outside plan top left bottom right within)))
 
+  pub accepted-rules : rectangleCall plan table top left bottom right .answer ≡ accepted → keepsRules plan ≡ true
+  unfolding rectangleCall
+  accepted-rules e =
+      suffices plan (lentToSum table) (rows-accepted (lentRows plan (lentToSum table)) (isOutside ∷ []) e .0) .rules
+
   pub accepted-fits : rectangleCall plan table top left bottom right .answer ≡ accepted
       → (neededPixels plan ≤ length table) × Inside plan top left bottom right
   unfolding rectangleCall

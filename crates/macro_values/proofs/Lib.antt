@@ -1,0 +1,4 @@
+pub mod Ends
+pub mod WholeFloats
+pub mod Quantities
+pub mod ExactOrVacant

@@ -1,0 +1,3 @@
+pub mod MacroValues
+pub mod ExactOrVacant
+pub mod SumFits
