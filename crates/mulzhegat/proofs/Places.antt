@@ -10,7 +10,7 @@ use lib.ListN.{length}
 use borrow.Author.Tests.{leb-true, ltb-true, not-false}
 use Rattle.refusal.specs.declared.Refusal.{Refusal}
 use Rattle.refusal.specs.Refusals.{placeOf, refused, placeIn}
-use Rattle.refusal.specs.Table.{Row, firstDue}
+use Rattle.refusal.specs.Table.{Row, firstDue, answerOf}
 use Rattle.plan.specs.declared.BufferOf7.the-variants.{NoneOf7}
 use Rattle.plan.specs.declared.Lengths.{Lengths}
 use Rattle.plan.specs.declared.Plan.{Plan}
@@ -30,6 +30,10 @@ use Rattle.serial.specs.Serial.{lentToPasses, serialAnswer}
 use Rattle.rectangle.specs.declared.RectangleSum.{RectangleSum}
 use Rattle.rectangle.specs.declared.RectangleSum.the-variants as rectangle
 use Rattle.rectangle.specs.Rectangle.{lentToSum, rectangleCall, sumGiven}
+use Rattle.macro_values.specs.declared.Quantity.{Quantity}
+use Rattle.macro_values.specs.declared.MacroRead.{MacroRead}
+use Rattle.macro_values.specs.declared.PairRead.{PairRead}
+use Rattle.macro_values.specs.MacroValues.{macroCall, pairCall, valueGiven, pairGiven}
 use Rattle.tasks.specs.Verdict.{verdictRows}
 use Rattle.job_spec.specs.Calls.{Buffers, lentToStart, startAnswer, lentToTask, taskAnswer}
 use Rattle.report.specs.declared.ReportAnswer.{ReportAnswer}
@@ -191,6 +195,17 @@ module _ (plan : Plan) where
   unfolding rectangleCall
   rectangle-place table top left bottom right = after-lent (lentToSum table) _ (λ kept. (at-0, λ n. tt))
 
+  -- Macro variables have the answer of the rectangle sum.
+  macro-place : (quantity : Quantity) (table : List ℕ) (top left bottom right : ℕ)
+      → placeIn (macroCall quantity plan table top left bottom right .answer) < half
+  unfolding macroCall
+  macro-place quantity table top left bottom right = rectangle-place table top left bottom right
+
+  pair-place : (table : List ℕ) (top left bottom right : ℕ)
+      → placeIn (pairCall plan table top left bottom right .answer) < half
+  unfolding pairCall
+  pair-place table top left bottom right = rectangle-place table top left bottom right
+
 pub places-fit : PlacesFit
 places-fit =
     record {
@@ -202,6 +217,8 @@ places-fit =
       report-on = report-place;
       serial = serial-place;
       rectangle = rectangle-place;
+      macro = λ quantity plan. macro-place plan quantity;
+      pair = pair-place;
     }
 
 -- ---- the place of a refusal that a call answered
@@ -224,3 +241,14 @@ module _ (plan : Plan) (refusal : Refusal) where
       → placeOf refusal < half
   rectangle-refused table top left bottom right answer is e =
       rw e at (rw (← is) at (rectangle-place plan table top left bottom right))
+
+-- ---- the place beside a macro variable
+
+module _ (plan : Plan) (table : List ℕ) (top left bottom right : ℕ) where
+  pub macro-answered : (quantity : Quantity) (read : MacroRead)
+      → valueGiven read ≡ macroCall quantity plan table top left bottom right → placeIn (answerOf (read .outcome)) < half
+  macro-answered quantity read is = rw (← is) at (macro-place plan quantity table top left bottom right)
+
+  pub pair-answered : (read : PairRead) → pairGiven read ≡ pairCall plan table top left bottom right
+      → placeIn (answerOf (read .outcome)) < half
+  pair-answered read is = rw (← is) at (pair-place plan table top left bottom right)

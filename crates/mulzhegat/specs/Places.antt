@@ -9,6 +9,8 @@ use Rattle.plan_reader.specs.ReadPlan.{readPlan}
 use Rattle.plan_writer.specs.WritePlan.{writePlan}
 use Rattle.serial.specs.Serial.{serialAnswer}
 use Rattle.rectangle.specs.Rectangle.{rectangleCall}
+use Rattle.macro_values.specs.declared.Quantity.{Quantity}
+use Rattle.macro_values.specs.MacroValues.{macroCall, pairCall}
 use Rattle.job_spec.specs.Calls.{Buffers, startAnswer, taskAnswer}
 use Rattle.report.specs.Report.{report}
 use Rattle.mulzhegat.specs.Codes.{codeHalf}
@@ -28,3 +30,7 @@ pub record PlacesFit : Type 0 where
   pub serial : (plan : Plan) (mapLength outputLength : ℕ) → Fits (serialAnswer plan mapLength outputLength)
   pub rectangle : (plan : Plan) (table : List ℕ) (top left bottom right : ℕ)
       → Fits (rectangleCall plan table top left bottom right .answer)
+  pub macro : (quantity : Quantity) (plan : Plan) (table : List ℕ) (top left bottom right : ℕ)
+      → Fits (macroCall quantity plan table top left bottom right .answer)
+  pub pair : (plan : Plan) (table : List ℕ) (top left bottom right : ℕ)
+      → Fits (pairCall plan table top left bottom right .answer)

@@ -1,5 +1,9 @@
-// The C interface: each function takes its arguments apart, calls the Rattle function of the same job, and answers one
-// number: 0 where the call is accepted, else the documents' number of the refusal times 2^32, plus its place.
+// The C interface: each function takes its arguments apart, calls the Rattle function of the same job, or for macro
+// variables the two that it is made of, and answers one number: 0 where the call is accepted, else the documents' number
+// of the refusal times 2^32, plus its place.
+use macro_values::Macro;
+use macro_values::MacroPair;
+use macro_values::Quantity;
 use plan::PlanSizes;
 use plan::Sizes;
 use plan_writer::PlanWritten;
@@ -18,12 +22,13 @@ ghost use Rattle.plan_reader.specs.ReadPlan.{readPlan};
 ghost use Rattle.plan_writer.specs.WritePlan.{writePlan, writtenWords};
 ghost use Rattle.plan_record.specs.Records.{planOfRecord, recordOfPlan};
 ghost use Rattle.serial.specs.Serial.{serialAnswer, serialOutput};
-ghost use Rattle.rectangle.specs.Rectangle.{rectangleCall};
+ghost use Rattle.rectangle.specs.Rectangle.{rectangleCall, sumGiven};
+ghost use Rattle.macro_values.specs.MacroValues.{macroCall, pairCall, variableOf, pairOf};
 ghost use Rattle.job_spec.specs.Calls.{lists, startAnswer, marksAfterStart, stripsAfterStart, taskAnswer, afterTask};
 ghost use Rattle.report.specs.Values.{valuesOf};
 ghost use Rattle.report.specs.Report.{report};
 ghost use Rattle.mulzhegat.specs.Places.{Fits};
-ghost use Rattle.mulzhegat.specs.Codes.{codeOf, sizesRecord, progressRecord};
+ghost use Rattle.mulzhegat.specs.Codes.{codeOf, sizesRecord, progressRecord, stateOf, floatIn, VariableWritten, pairStates, pairFloats, PairWritten};
 
 // ---- plans
 
@@ -159,8 +164,7 @@ pub extern "C" fn mzg_rectangle(
 ) -> u64
     ensures { λ r. ⌜ (r ≡ codeOf (rectangleCall (planOfRecord (now (plan .entry))) (now (table .entry)) top left bottom right .answer)) × (now (sum .exit) ≡ rectangleCall (planOfRecord (now (plan .entry))) (now (table .entry)) top left bottom right .value) ⌝ }
 {
-    let taken = plan_record::plan_of_record(plan);
-    let answer = rectangle::rectangle_sum(taken, top, left, bottom, right, table);
+    let answer = rectangle_by_record(plan, top, left, bottom, right, table);
     match answer {
         RectangleSum::Sum(total) => {
             *sum = total;
@@ -171,6 +175,125 @@ pub extern "C" fn mzg_rectangle(
             refusal_code(refusal)
         }
     }
+}
+
+// ---- macro variables
+
+// Gives the total of a rectangle as a macro variable, exact or vacant; vacant beside a refusal.
+#[no_mangle]
+pub extern "C" fn mzg_macro_total(
+    plan: &[i64; plan_record::RECORD_LENGTH],
+    top: usize,
+    left: usize,
+    bottom: usize,
+    right: usize,
+    table: &[u64],
+    state: &mut u64,
+    value: &mut f64,
+) -> u64
+    ensures { λ r. ⌜ VariableWritten (macroCall Quantity.Total (planOfRecord (now (plan .entry))) (now (table .entry)) top left bottom right) r (now (state .exit)) (now (value .exit)) ⌝ }
+{
+    macro_quantity(
+        plan,
+        Quantity::Total,
+        top,
+        left,
+        bottom,
+        right,
+        table,
+        state,
+        value,
+    )
+}
+
+// Gives the number of pixels of a rectangle as a macro variable, exact or vacant; vacant beside a refusal.
+#[no_mangle]
+pub extern "C" fn mzg_macro_pixels(
+    plan: &[i64; plan_record::RECORD_LENGTH],
+    top: usize,
+    left: usize,
+    bottom: usize,
+    right: usize,
+    table: &[u64],
+    state: &mut u64,
+    value: &mut f64,
+) -> u64
+    ensures { λ r. ⌜ VariableWritten (macroCall Quantity.Pixels (planOfRecord (now (plan .entry))) (now (table .entry)) top left bottom right) r (now (state .exit)) (now (value .exit)) ⌝ }
+{
+    macro_quantity(
+        plan,
+        Quantity::Pixels,
+        top,
+        left,
+        bottom,
+        right,
+        table,
+        state,
+        value,
+    )
+}
+
+// Gives total and number of pixels of a rectangle as macro variables, the total first; both vacant beside a refusal.
+#[no_mangle]
+pub extern "C" fn mzg_macro_pair(
+    plan: &[i64; plan_record::RECORD_LENGTH],
+    top: usize,
+    left: usize,
+    bottom: usize,
+    right: usize,
+    table: &[u64],
+    states: &mut [u64; 2],
+    values: &mut [f64; 2],
+) -> u64
+    ensures { λ r. ⌜ PairWritten (pairCall (planOfRecord (now (plan .entry))) (now (table .entry)) top left bottom right) r (now (states .exit)) (now (values .exit)) ⌝ }
+{
+    let answer = rectangle_by_record(plan, top, left, bottom, right, table);
+    let read = macro_values::pair_by_sum(answer, top, left, bottom, right);
+    let pair = read.pair;
+    *states = pair_states(pair);
+    *values = pair_floats(pair);
+    let outcome = read.outcome;
+    outcome_code(outcome)
+}
+
+// One quantity, for the total and for the number of pixels.
+fn macro_quantity(
+    plan: &[i64; plan_record::RECORD_LENGTH],
+    quantity: Quantity,
+    top: usize,
+    left: usize,
+    bottom: usize,
+    right: usize,
+    table: &[u64],
+    state: &mut u64,
+    value: &mut f64,
+) -> u64
+    ensures { λ r. ⌜ VariableWritten (macroCall quantity (planOfRecord (now (plan .entry))) (now (table .entry)) top left bottom right) r (now (state .exit)) (now (value .exit)) ⌝ }
+{
+    let answer = rectangle_by_record(plan, top, left, bottom, right, table);
+    let read = macro_values::value_by_sum(answer, quantity, top, left, bottom, right);
+    let variable = read.value;
+    *state = macro_state(variable);
+    *value = macro_float(variable);
+    let outcome = read.outcome;
+    outcome_code(outcome)
+}
+
+// ---- rectangles
+
+// The rectangle sum, for all calls that begin with it: one function, so that the record is copied once.
+fn rectangle_by_record(
+    plan: &[i64; plan_record::RECORD_LENGTH],
+    top: usize,
+    left: usize,
+    bottom: usize,
+    right: usize,
+    table: &[u64],
+) -> RectangleSum
+    ensures { λ r. ⌜ sumGiven r ≡ rectangleCall (planOfRecord (now (plan .entry))) (now (table .entry)) top left bottom right ⌝ }
+{
+    let taken = plan_record::plan_of_record(plan);
+    rectangle::rectangle_sum(taken, top, left, bottom, right, table)
 }
 
 // ---- answers
@@ -220,4 +343,40 @@ fn progress_record(made: Progress) -> [u64; 5]
         ],
         Next::Nothing => [made.marked as u64, made.tally as u64, 0, 0, 0],
     }
+}
+
+fn macro_state(variable: Macro) -> u64
+    ensures { λ r. ⌜ r ≡ stateOf (variableOf variable) ⌝ }
+{
+    match variable {
+        Macro::Vacant => 0,
+        Macro::Total(_) => 1,
+        Macro::Pixels(_) => 2,
+    }
+}
+
+fn macro_float(variable: Macro) -> f64
+    ensures { λ r. ⌜ r ≡ floatIn (variableOf variable) ⌝ }
+{
+    match variable {
+        Macro::Vacant => 0.0,
+        Macro::Total(total) => total,
+        Macro::Pixels(pixels) => pixels,
+    }
+}
+
+fn pair_states(pair: MacroPair) -> [u64; 2]
+    ensures { λ r. ⌜ r ≡ pairStates (pairOf pair) ⌝ }
+{
+    let total = pair.total;
+    let pixels = pair.pixels;
+    [macro_state(total), macro_state(pixels)]
+}
+
+fn pair_floats(pair: MacroPair) -> [f64; 2]
+    ensures { λ r. ⌜ r ≡ pairFloats (pairOf pair) ⌝ }
+{
+    let total = pair.total;
+    let pixels = pair.pixels;
+    [macro_float(total), macro_float(pixels)]
 }
