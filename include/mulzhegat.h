@@ -25,11 +25,12 @@
  * named; mzg_plan_sizes gives the lengths that all of them need.
  *
  * Buffers. A buffer is lent as a pointer and its length in words; words past the needed length are never altered. A
- * refused call leaves every lent buffer as it was. What a call answers beside its number (plan, sizes, progress, sum)
- * is written whole on every call: all zeros beside a refusal.
+ * refused call leaves every lent buffer as it was. What a call answers beside its number (plan, sizes, progress, sum,
+ * states, values) is written whole on every call: all zeros beside a refusal.
  *
  * Pointers are not tested, nor that a buffer is as long as is said. None may be null, each must be aligned for its
- * type, and no two of a call may overlap, the plan record and what is answered (plan, sizes, progress, sum) among them.
+ * type, and no two of a call may overlap, the plan record and what is answered (plan, sizes, progress, sum, states,
+ * values) among them.
  * Where no strip word is needed (all orders 0), lend the address of any 64-bit word with length 0, which overlaps
  * nothing.
  *
@@ -189,6 +190,46 @@ uint64_t mzg_serial(const mzg_plan *plan, const int32_t *map, size_t map_len, ui
  * of an accepted call can be: look at the answer first. */
 uint64_t mzg_rectangle(const mzg_plan *plan, size_t top, size_t left, size_t bottom, size_t right,
                        const uint64_t *table, size_t table_len, int64_t *sum);
+
+/* The states of a macro variable. They are written to a state; they are no answers, no arguments and no indices. */
+enum {
+    MZG_VACANT = 0, /* no value */
+    MZG_TOTAL = 1,  /* the value is a total */
+    MZG_PIXELS = 2  /* the value is a number of pixels */
+};
+
+/* Give quantities of a rectangle, rows top to bottom - 1 and columns left to right - 1, as macro variables. A control
+ * keeps these as 64-bit floats, with a state called vacant for no value. The quantities: the total, which is the sum
+ * that mzg_rectangle gives, in units of the heights; the number of pixels, (bottom - top) * (right - left); or both,
+ * the total as states[0] and values[0], the number of pixels as states[1] and values[1].
+ * A value equals the whole number, without rounding; a total of 0 is +0.0. An accepted call gives vacant, with +0.0 for
+ * a value, in two cases only: both quantities of an empty rectangle, and a total below -2^53 or above 2^53
+ * (9007199254740992), also one that a float could hold. So the number of pixels is vacant just where the rectangle is
+ * empty, and a vacant total beside a number of pixels lies outside that range: mzg_rectangle gives it still. On a
+ * summed-area table that takes more than 2^22 pixels, since heights have 32 bits. That a table is finished is not
+ * tested: vacant does not stand for one that is not. A macro loop, over a rectangle that shrinks until it closes:
+ *
+ *     uint64_t answer, states[2];
+ *     double values[2];
+ *     for (size_t bottom = rows;; bottom--) {
+ *         answer = mzg_macro_pair(&plan, top, left, bottom, right, table, table_len, states, values);
+ *         if (answer != MZG_ACCEPTED || states[1] == MZG_VACANT)
+ *             break; // refused, or closed: the answer says which
+ *         if (states[0] == MZG_TOTAL)
+ *             cut_by_mean(values[0] / values[1]); // both are exact, and the quotient is rounded once
+ *         else
+ *             stop_for_the_operator(); // the total lies outside -2^53 to 2^53
+ *     }
+ *
+ * Needs sizes.pixels table words, also for the number of pixels and for an empty rectangle.
+ * Refused: 6, 7 (table), 12, as mzg_rectangle; every state is then vacant, as for an empty rectangle: look at the
+ * answer first, then at the state, then at the value. */
+uint64_t mzg_macro_total(const mzg_plan *plan, size_t top, size_t left, size_t bottom, size_t right,
+                         const uint64_t *table, size_t table_len, uint64_t *state, double *value);
+uint64_t mzg_macro_pixels(const mzg_plan *plan, size_t top, size_t left, size_t bottom, size_t right,
+                          const uint64_t *table, size_t table_len, uint64_t *state, double *value);
+uint64_t mzg_macro_pair(const mzg_plan *plan, size_t top, size_t left, size_t bottom, size_t right,
+                        const uint64_t *table, size_t table_len, uint64_t states[2], double values[2]);
 
 #ifdef __cplusplus
 }

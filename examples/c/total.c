@@ -140,6 +140,17 @@ int main(void)
         printf("rows %zu, total %" PRId64 "\n", rows, total);
     }
 
+    /* The same rectangle as a macro of the control reads it, total and pixel count as floats: vacant at the end. */
+    for (size_t rows = 3; rows-- > 0;) {
+        uint64_t states[2];
+        double values[2];
+        accept("macro_pair", mzg_macro_pair(&plan, 2, 2, 2 + rows, 6, output, (size_t)sizes.pixels, states, values));
+        if (states[0] == MZG_TOTAL && states[1] == MZG_PIXELS)
+            printf("rows %zu, mean %.3f\n", rows, values[0] / values[1]);
+        else
+            printf("rows %zu, vacant\n", rows);
+    }
+
     /* A refused call says why: the map has 5 rows. */
     uint64_t answer = mzg_rectangle(&plan, 2, 2, 6, 6, output, (size_t)sizes.pixels, &total);
     printf("a rectangle past the map: refused %" PRIu64 " at %" PRIu64 "\n", MZG_NUMBER(answer), MZG_PLACE(answer));

@@ -22,6 +22,25 @@ int64_t total_of(const mzg_plan *plan, const uint64_t *table)
     return mzg_rectangle(plan, 0, 0, 1, 1, table, 1, &total) == MZG_ACCEPTED ? total : 0;
 }
 
+/* A macro variable is a state, compared with the constants without a cast, and a 64-bit float. */
+CLAIM(states_are_0_1_2, MZG_VACANT == 0 && MZG_TOTAL == 1 && MZG_PIXELS == 2);
+CLAIM(floats_have_64_bits, sizeof(double) == 8);
+
+double mean_of(const mzg_plan *plan, const uint64_t *table);
+
+double mean_of(const mzg_plan *plan, const uint64_t *table)
+{
+    uint64_t state, states[2];
+    double value, values[2];
+    if (mzg_macro_total(plan, 0, 0, 1, 1, table, 1, &state, &value) != MZG_ACCEPTED || state == MZG_VACANT)
+        return 0;
+    if (mzg_macro_pixels(plan, 0, 0, 1, 1, table, 1, &state, &value) != MZG_ACCEPTED || state != MZG_PIXELS)
+        return 0;
+    if (mzg_macro_pair(plan, 0, 0, 1, 1, table, 1, states, values) != MZG_ACCEPTED || states[0] != MZG_TOTAL)
+        return 0;
+    return values[0] / values[1];
+}
+
 /* Answers are compared with the constants, and taken apart, without a cast. */
 uint64_t block_of_a_broken_mark(uint64_t answer);
 
