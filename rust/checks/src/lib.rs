@@ -4,12 +4,14 @@
 //!   from the paper that defines the calls, not from the library, and call nothing of it.
 //! - [`random`]: numbers, plans and maps from a seed that is printed.
 //! - [`lent`]: buffers with watched words around them. [`short`]: calls that are lent too few words.
+//! - [`rectangles`]: rectangles of small maps, and four numbers around them.
 //! - [`records`]: plan records as words, and damage to them.
 
 pub mod lent;
 pub mod model;
 pub mod random;
 pub mod records;
+pub mod rectangles;
 pub mod reference;
 pub mod short;
 

@@ -4,10 +4,9 @@ use checks::lent::Lent;
 use checks::random::{self, Random, Reached};
 use checks::records::{all_orders, broken_record};
 use checks::short::ShortBuffers;
-use checks::{model, reference};
+use checks::{model, rectangles, reference};
 use mulzhegat::serial::{self, Rectangle};
 use mulzhegat::{Pass, Plan, Refusal, DOWN, LEFT, RIGHT, UP};
-use std::ops::RangeInclusive;
 
 fn run(plan: &Plan, map: &[i32]) -> Vec<u64> {
     let mut output = vec![0x5555; map.len()];
@@ -180,11 +179,6 @@ fn sum_and_compare(plan: &Plan, corners: [usize; 4], table: &[u64]) -> Result<i6
     expected
 }
 
-/// All pairs of two numbers of a range.
-fn pairs(range: RangeInclusive<usize>) -> impl Iterator<Item = (usize, usize)> {
-    range.clone().flat_map(move |first| range.clone().map(move |second| (first, second)))
-}
-
 /// Every top, left, bottom and right from 0 to two past the size, on maps of 1 to 4 rows and columns: the rectangles of
 /// the map are to be accepted and no others, and of these the empty ones are to give 0. `prepare` makes what belongs to
 /// a map of so many rows and columns, and `answer` says what four numbers of it gave.
@@ -192,16 +186,12 @@ fn all_rectangles_of_small_maps<T>(
     mut prepare: impl FnMut(usize, usize) -> T,
     answer: impl Fn(&T, [usize; 4]) -> Result<i64, Refusal>,
 ) {
-    for (rows, columns) in pairs(1..=4) {
+    for (rows, columns) in rectangles::pairs(1..=4) {
         let map = prepare(rows, columns);
-        for ((top, bottom), (left, right)) in
-            pairs(0..=rows + 2).flat_map(|edges| pairs(0..=columns + 2).map(move |others| (edges, others)))
-        {
-            let corners = [top, left, bottom, right];
-            let inside = top <= bottom && left <= right && bottom <= rows && right <= columns;
-            let empty = top == bottom || left == right;
+        for corners in rectangles::around(rows, columns) {
+            let inside = rectangles::is_inside(corners, rows, columns);
             let fits = match answer(&map, corners) {
-                Ok(sum) => inside && (sum == 0 || !empty),
+                Ok(sum) => inside && (sum == 0 || !rectangles::is_empty(corners)),
                 Err(refusal) => !inside && refusal == Refusal::RectangleOutside,
             };
             assert!(fits, "{corners:?} of {rows} by {columns}");
@@ -251,7 +241,7 @@ fn rectangles_of_summed_tables_are_sums_of_heights() {
             assert_eq!(sum_and_compare(&plan, corners, &table).map(i128::from), Ok(expected));
             below += usize::from(expected < 0);
             above += usize::from(expected > 0);
-            empty += usize::from(corners[0] == corners[2] || corners[1] == corners[3]);
+            empty += usize::from(rectangles::is_empty(corners));
         }
     }
     assert!(
