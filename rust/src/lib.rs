@@ -2,6 +2,7 @@
 //!
 //! - [`plan`]: plan words to a plan record and back, and the buffer lengths that a plan needs.
 //! - [`serial`]: the four passes over a whole map, and the sum over a rectangle of a summed-area table.
+//! - [`macros`]: total and number of pixels of a rectangle as macro variables of a control, exact or vacant.
 //! - [`job`]: start a job, perform its tasks in any order that respects their needs, report progress.
 //!
 //! Slices go in and `Result<_, Refusal>` comes out; the errors of a call are listed by the numbers of [`Refusal`], in
@@ -12,6 +13,7 @@
 //! of stack, every other call less than 4 KiB.
 
 pub mod job;
+pub mod macros;
 pub mod plan;
 mod refusal;
 pub mod serial;

@@ -4,6 +4,7 @@
 //! from the passes over one block with words standing around it ([`Job::filter`]), strip places from one formula
 //! ([`Job::strip_place`]); nothing else knows the layout.
 
+use mulzhegat::macros::{Macro, Quantity};
 use mulzhegat::{Pass, Plan, Progress, Refusal, Sizes, DOWN, RIGHT, UP};
 
 /// The largest order of a pass, from the paper and not from the crate.
@@ -213,6 +214,18 @@ pub fn rectangle(plan: &Plan, rectangle: [usize; 4], table: &[u64]) -> Result<i6
     let sum = before(bottom, right) - before(top, right) - before(bottom, left) + before(top, left);
     let word = sum.rem_euclid(1 << 64);
     Ok(if word < 1 << 63 { word as i64 } else { (word - (1 << 64)) as i64 })
+}
+
+/// A quantity of a rectangle as a macro variable, vacant where the paper says so.
+pub fn macro_value(plan: &Plan, quantity: Quantity, corners: [usize; 4], table: &[u64]) -> Result<Macro, Refusal> {
+    let sum = rectangle(plan, corners, table)?;
+    let [top, left, bottom, right] = corners;
+    Ok(match quantity {
+        _ if top == bottom || left == right => Macro::Vacant,
+        Quantity::Total if !(-(1 << 53)..=1 << 53).contains(&sum) => Macro::Vacant,
+        Quantity::Total => Macro::Total(sum as f64),
+        Quantity::Pixels => Macro::Pixels(((bottom - top) * (right - left)) as f64),
+    })
 }
 
 /// The mark of a block of which nothing is done.
