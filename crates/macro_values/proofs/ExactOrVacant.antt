@@ -2,20 +2,22 @@
 use mathlib.Core.Path.{_≡_, refl, sym, ap, _∙_, subst}
 use mathlib.Core.List.{List}
 use mathlib.Core.Logic.{⊎-elim}
-use Prim.Native.Nat.{ℕ, zero, suc, _-_, _*_, _≤_}
-use native.Mathlib.Nat.{one-mul, zero-mul, mul-zero, mul-pos, eq-zero-or-pos}
+use Prim.Native.Nat.{ℕ, zero, suc, _-_, _*_, _≤_, _^_}
+use native.Mathlib.Nat.{one-mul, zero-mul, mul-zero, mul-pos, mul-assoc, mul-comm, eq-zero-or-pos}
 use native.Mathlib.Omega.{arith}
 use lib.IntN.{ℤ, pos, _+ℤ_}
 use Rattle.refusal.specs.Refusals.{Answer, accepted, refused}
 use Rattle.refusal.specs.Table.{Given, given, ifAccepted}
 use Rattle.plan.specs.declared.Plan.{Plan}
 use Rattle.passes.specs.Table.{signedSumOf, heightsInside}
-use Rattle.rectangle.specs.Rectangle.{rectangleCall}
+use Rattle.rectangle.specs.Rectangle.{Inside, rectangleCall}
 use Rattle.rectangle.specs.FourNumbers.{Empty, no-row, no-column}
+use Rattle.rectangle.specs.Heights.{HeightsFit, heightSum}
+use Rattle.rectangle.proofs.Bound.{rectangle-bounded}
 use Rattle.macro_values.specs.declared.Quantity.{Quantity}
 use Rattle.macro_values.specs.declared.Quantity.the-variants as wanted
 use Rattle.macro_values.specs.MacroValues.{Variable, vacant, holding, pixelCount, floatOf, totalValue, nonEmptyValue, quantityValue, macroCall, VariablePair, pairCall}
-use Rattle.macro_values.specs.ExactOrVacant.{InFloatRange, wholeNumber, VacantCause, empty-rectangle, total-outside, GivesExactly, ExactOrVacant, TotalAtSum, TotalsAtEnds, PixelsCounted, PairOfBoth, TotalsHeights}
+use Rattle.macro_values.specs.ExactOrVacant.{InFloatRange, wholeNumber, VacantCause, empty-rectangle, total-outside, GivesExactly, ExactOrVacant, TotalAtSum, TotalsAtEnds, PixelsCounted, PairOfBoth, TotalsHeights, FewPixelsGiven}
 use Rattle.macro_values.proofs.Ends.{zero-given, greatest-given, least-given, past-greatest-vacant, past-least-vacant}
 use Rattle.macro_values.proofs.WholeFloats.{in-range-test, out-of-range-test, range-decided, small-in-range, whole-floats}
 use Rattle.macro_values.proofs.Quantities.{total-inside-test, value-no-row, value-no-column, value-not-empty, value-outside, fits-accepted, same-answer, value-accepted, value-refused}
@@ -45,7 +47,8 @@ module _ (plan : Plan) (table : List ℕ) (top left bottom right : ℕ) where
   number-in-range wanted.Total accepts none =
       ⊎-elim (λ range. range) (λ outside. absurd (none (total-outside outside))) (range-decided sum)
   number-in-range wanted.Pixels accepts none =
-      small-in-range _ (omega (arith, fits-accepted plan table top left bottom right accepts .pixels-high))
+      small-in-range (pos (pixelCount top left bottom right))
+      (omega (arith, fits-accepted plan table top left bottom right accepts .pixels-high))
 
   -- and it is given as that.
   given-in-range : (quantity : Quantity) → InFloatRange (wholeNumber quantity plan table top left bottom right)
@@ -174,3 +177,20 @@ totals-heights plan heights table over top left bottom right inside filled =
           value-accepted plan table top left bottom right wanted.Total accepts
           (vacant-by plan table top left bottom right wanted.Total (total-outside (λ range. none (rw is at range))));
     }
+
+-- Of so few pixels the sum of the heights is in range.
+few-in-range : (plan : Plan) (heights : List ℤ) → HeightsFit plan heights
+    → (top left bottom right : ℕ) → Inside plan top left bottom right → pixelCount top left bottom right ≤ 2 ^ 22
+    → InFloatRange (heightSum plan heights top left bottom right)
+few-in-range plan heights fit top left bottom right inside few =
+    let rows = bottom - top in
+    let columns = right - left in
+    let regrouped : columns * (rows * 2 ^ 31) ≡ rows * columns * 2 ^ 31 =
+    sym (mul-assoc columns rows (2 ^ 31)) ∙ ap (λ (n : ℕ). n * 2 ^ 31) (mul-comm columns rows) in
+    small-in-range (heightSum plan heights top left bottom right)
+    (omega (arith, rw regrouped at (rectangle-bounded plan heights fit top left bottom right inside)))
+
+pub few-pixels-given : FewPixelsGiven
+few-pixels-given plan heights table over fit top left bottom right inside filled few =
+    totals-heights plan heights table over top left bottom right inside filled .exact-inside
+    (few-in-range plan heights fit top left bottom right inside few)

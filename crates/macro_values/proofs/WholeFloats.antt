@@ -3,7 +3,7 @@
 use mathlib.Core.Path.{_≡_, refl, ap, subst, sym, _∙_}
 use mathlib.Core.Bool.{Bool, true, false, not, not-eq-not, true≢false}
 use mathlib.Core.Logic.{_⊎_, inl, inr}
-use Prim.Native.Nat.{ℕ, suc, _≤_, _^_}
+use Prim.Native.Nat.{suc, _≤_, _^_}
 use native.Mathlib.Omega.{arith}
 use lib.IntN.{ℤ, pos, negsuc, negℤ, natAbs}
 use lib.Signed.{ltZ, _≤ℤ_, ltZ-yes, ltZ-no, clashℤ}
@@ -45,8 +45,10 @@ range-decided number = by (outsideFloats number) refl
     by false e = inl (test-in-range number e)
     by true e = inr (λ range. true≢false (sym e ∙ in-range-test number range))
 
-pub small-in-range : (n : ℕ) → n ≤ 2 ^ 53 → InFloatRange (pos n)
-small-in-range n low = record { low = record { le = tt }; high = record { le = le→leb n (2 ^ 53) low } }
+pub small-in-range : (number : ℤ) → natAbs number ≤ 2 ^ 53 → InFloatRange number
+small-in-range (pos n) small = record { low = record { le = tt }; high = record { le = le→leb n (2 ^ 53) small } }
+small-in-range (negsuc n) small =
+    record { low = record { le = le→leb n 9007199254740991 (omega arith) }; high = record { le = tt } }
 
 size-in-range : (number : ℤ) → InFloatRange number → natAbs number ≤ 2 ^ 53
 size-in-range (pos n) range = leb→le n (2 ^ 53) (range .high .le)

@@ -13,7 +13,7 @@ use Rattle.plan.specs.declared.Plan.{Plan}
 use Rattle.passes.specs.Table.{heightsInside}
 use Rattle.rectangle.specs.Rectangle.{Inside, rectangleCall}
 use Rattle.rectangle.specs.FourNumbers.{Empty}
-use Rattle.rectangle.specs.Heights.{heightSum, SumsOver}
+use Rattle.rectangle.specs.Heights.{HeightsFit, heightSum, SumsOver}
 use Rattle.macro_values.specs.declared.Quantity.{Quantity}
 use Rattle.macro_values.specs.declared.Quantity.the-variants as wanted
 use Rattle.macro_values.specs.MacroValues.{Variable, vacant, holding, pixelCount, floatOf, macroCall, pairCall}
@@ -149,3 +149,11 @@ TotalsHeights =
     (plan : Plan) (heights : List ℤ) (table : List ℕ) → SumsOver plan heights table
     → (top left bottom right : ℕ) → Inside plan top left bottom right → (Empty top left bottom right → ⊥)
     → TotalHeights plan heights table top left bottom right
+
+-- With heights of 32 bits every rectangle of 1 to 2^22 pixels has its total.
+abbrev pub FewPixelsGiven : Type 0
+FewPixelsGiven =
+    (plan : Plan) (heights : List ℤ) (table : List ℕ) → SumsOver plan heights table → HeightsFit plan heights
+    → (top left bottom right : ℕ) → Inside plan top left bottom right → (Empty top left bottom right → ⊥)
+    → pixelCount top left bottom right ≤ 2 ^ 22
+    → GivesExactly wanted.Total (heightSum plan heights top left bottom right) plan table top left bottom right

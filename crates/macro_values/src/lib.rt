@@ -129,7 +129,7 @@ pub fn pair_by_sum(
     }
 }
 
-// A quantity of a rectangle of the map, whose sum is given.
+// A quantity of a rectangle of the map, by the rectangle's sum.
 fn quantity_value(
     quantity: Quantity,
     sum: i64,

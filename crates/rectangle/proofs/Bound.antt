@@ -58,16 +58,24 @@ height-at-bounded plan heights fit y x a b =
     let w = plan .grid .columns in
     height-bounded (heightAt w heights y x) (fit (rowMajor w y x) (place-below (plan .grid .rows) w y x a b))
 
-pub sums-bounded : SumsBounded
+-- 2^31 for each pixel of the rectangle,
+pub rectangle-bounded : (plan : Plan) (heights : List ℤ) → HeightsFit plan heights
+    → (top left bottom right : ℕ) → Inside plan top left bottom right
+    → natAbs (heightSum plan heights top left bottom right) ≤ (right - left) * ((bottom - top) * 2 ^ 31)
 unfolding heightsInside
+rectangle-bounded plan heights fit top left bottom right inside =
+    sum-bounded (right - left) ((bottom - top) * 2 ^ 31) _ (λ k a.
+    sum-bounded (bottom - top) (2 ^ 31) (λ j. heightAt (plan .grid .columns) heights (top + j) (left + k)) (λ j b.
+    height-at-bounded plan heights fit (top + j) (left + k)
+    (omega (arith, inside .bottom-low)) (omega (arith, inside .right-low))))
+
+-- and there are at most 2^24 of them.
+pub sums-bounded : SumsBounded
 sums-bounded plan kept heights fit top left bottom right inside =
     let known = rules plan kept in
     let high : bottom - top ≤ 4096 = omega (arith, inside .bottom-low, known .rows-high) in
     let wide : right - left ≤ 4096 = omega (arith, inside .right-low, known .columns-high) in
-    le-trans
-    (sum-bounded (right - left) ((bottom - top) * 2 ^ 31) _ (λ k a.
-    sum-bounded (bottom - top) (2 ^ 31) (λ j. heightAt (plan .grid .columns) heights (top + j) (left + k)) (λ j b.
-    height-at-bounded plan heights fit (top + j) (left + k) (omega (arith, inside .bottom-low)) (omega (arith, inside .right-low)))))
+    le-trans (rectangle-bounded plan heights fit top left bottom right inside)
     (mul-le-mul {n₂ = 4096} wide (mul-le-mul {n₂ = 4096} high (le-refl (2 ^ 31))))
 
 -- So it is a number of signed 64 bits.

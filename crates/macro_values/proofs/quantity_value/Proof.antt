@@ -68,7 +68,7 @@ cast-whole-float c = search needs
 whole-float-requires : tie.Need-whole-float-requires
 whole-float-requires c κs =
     let start = c .before .before .before .before in
-    rw (read-pixels start) (small-in-range (pixels start) (omega (arith, start .pre .pixels-high)))
+    rw (read-pixels start) (small-in-range (pos (pixels start)) (omega (arith, start .pre .pixels-high)))
 
 returns-3 : tie.Need-returns-3
 returns-3 c =
