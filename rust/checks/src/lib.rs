@@ -4,7 +4,7 @@
 //!   from the paper that defines the calls, not from the library, and call nothing of it.
 //! - [`random`]: numbers, plans and maps from a seed that is printed.
 //! - [`lent`]: buffers with watched words around them. [`short`]: calls that are lent too few words.
-//! - [`rectangles`]: rectangles of small maps, and four numbers around them.
+//! - [`rectangles`]: four numbers inside and around a small map, and tables whose corners make a word.
 //! - [`records`]: plan records as words, and damage to them.
 
 pub mod lent;
@@ -15,7 +15,15 @@ pub mod rectangles;
 pub mod reference;
 pub mod short;
 
+use mulzhegat::{serial, Plan};
 use std::path::{Path, PathBuf};
+
+/// The output of the library's serial passes over a map.
+pub fn serial_output(plan: &Plan, map: &[i32]) -> Vec<u64> {
+    let mut output = vec![0x5555; map.len()];
+    serial::run(plan, map, &mut output).unwrap();
+    output
+}
 
 /// The root of the repository.
 pub fn repository() -> PathBuf {

@@ -1,5 +1,6 @@
-//! Rectangles as four numbers: top, left, bottom, right.
+//! Rectangles as four numbers: top, left, bottom, right; and tables for them.
 
+use mulzhegat::Plan;
 use std::ops::RangeInclusive;
 
 /// All pairs of two numbers of a range.
@@ -21,4 +22,11 @@ pub fn is_inside([top, left, bottom, right]: [usize; 4], rows: usize, columns: u
 /// Whether there is nothing in a rectangle.
 pub fn is_empty([top, left, bottom, right]: [usize; 4]) -> bool {
     top == bottom || left == right
+}
+
+/// A table of one word and one of four words, each with its plan and a rectangle whose corners make that word.
+pub fn tables_of(word: u64) -> [(Plan, [usize; 4], Vec<u64>); 2] {
+    // Of the four corners the last is 5 + 7 + word - 3.
+    let four = vec![3, 5, 7, word.wrapping_add(9)];
+    [(Plan::summed(1, 1, 1), [0, 0, 1, 1], vec![word]), (Plan::summed(2, 2, 1), [1, 1, 2, 2], four)]
 }

@@ -4,9 +4,9 @@ use checks::lent::Lent;
 use checks::random::{self, Random};
 use checks::records::broken_record;
 use checks::short::ShortBuffers;
-use checks::{model, rectangles, reference};
+use checks::{model, rectangles, reference, serial_output};
 use mulzhegat::macros::{self, Macro, MacroPair, MacroWords, Quantity};
-use mulzhegat::serial::{self, Rectangle};
+use mulzhegat::serial::Rectangle;
 use mulzhegat::{Plan, Refusal};
 
 const QUANTITIES: [Quantity; 2] = [Quantity::Total, Quantity::Pixels];
@@ -70,12 +70,6 @@ fn read_and_compare(plan: &Plan, corners: [usize; 4], table: &[u64]) -> Result<[
     expected
 }
 
-fn summed(plan: &Plan, map: &[i32]) -> Vec<u64> {
-    let mut table = vec![0x5555; map.len()];
-    serial::run(plan, map, &mut table).unwrap();
-    table
-}
-
 const VACANT: Bits = (0, 0);
 
 fn total(value: f64) -> Bits {
@@ -101,52 +95,41 @@ fn quantities_of_the_example_map() {
 #[test]
 fn quantities_below_the_datum_and_a_total_of_0() {
     let plan = Plan::summed(2, 3, 2);
-    let table = summed(&plan, &[1, -2, 3, -4, 5, -6]);
+    let table = serial_output(&plan, &[1, -2, 3, -4, 5, -6]);
     assert_eq!(read_and_compare(&plan, [1, 0, 2, 3], &table), Ok([total(-5.0), pixels(3.0)]));
     // Positive zero: no bit is set.
     assert_eq!(read_and_compare(&plan, [0, 1, 2, 3], &table), Ok([(1, 0), pixels(4.0)]));
 }
 
-/// The table of one word, and one of four whose corners make the same word.
-fn tables_of(sum: i64) -> [(Plan, [usize; 4], Vec<u64>); 2] {
-    let word = sum as u64;
-    // Of the four corners the last is 5 + 7 + word - 3.
-    let four = vec![3, 5, 7, word.wrapping_add(9)];
-    [(Plan::summed(1, 1, 1), [0, 0, 1, 1], vec![word]), (Plan::summed(2, 2, 1), [1, 1, 2, 2], four)]
-}
-
-/// The total of a table that makes a sum. One that is given is compared with `as f64`, and back.
-fn total_of(sum: i64) -> Option<f64> {
-    let [one, four] = tables_of(sum).map(|(plan, corners, table)| {
+/// The total of tables that make a sum: given, as the bits of its float, or vacant. The bits are those of `as f64`, and
+/// the float is the sum when it is taken back.
+fn total_of(sum: i64) -> Option<u64> {
+    let [one, four] = rectangles::tables_of(sum as u64).map(|(plan, corners, table)| {
         let [total, count] = read_and_compare(&plan, corners, &table).unwrap();
         assert_eq!(count, pixels(1.0));
         total
     });
     assert_eq!(one, four);
-    let value = f64::from_bits(one.1);
-    if one.0 == 1 {
-        assert_eq!(one.1, (sum as f64).to_bits());
-        assert_eq!(value as i128, i128::from(sum));
-    } else {
-        assert_eq!(one, VACANT);
+    if one == VACANT {
+        return None;
     }
-    (one.0 == 1).then_some(value)
+    assert_eq!(one, total(sum as f64));
+    assert_eq!(f64::from_bits(one.1) as i128, i128::from(sum));
+    Some(one.1)
 }
 
 #[test]
 fn totals_at_0_and_around_both_ends() {
     let end = 1i64 << 53;
     for sum in [0, 1, 2, end - 2, end - 1, end] {
-        assert_eq!(total_of(sum), Some(sum as f64));
-        assert_eq!(total_of(-sum), Some(-(sum as f64)));
-        assert_eq!(total_of(-sum).map(f64::to_bits), Some((-sum as f64).to_bits()));
+        assert!(total_of(sum).is_some() && total_of(-sum).is_some(), "{sum}");
     }
-    assert_eq!(total_of(end).map(f64::to_bits), Some(0x4340000000000000));
-    assert_eq!(total_of(-end).map(f64::to_bits), Some(0xC340000000000000));
+    assert_eq!(total_of(0), Some(0));
+    assert_eq!(total_of(end), Some(0x4340000000000000));
+    assert_eq!(total_of(-end), Some(0xC340000000000000));
     // Past the ends some whole numbers are floats and some are not; all are vacant.
-    for sum in [end + 1, end + 2, end + 3, 1 << 54, (1 << 55) - (1 << 24), 1 << 55, 1 << 62, i64::MAX, i64::MIN + 1] {
-        assert_eq!(total_of(sum), None);
-        assert_eq!(total_of(-sum), None);
+    for sum in [end + 1, end + 2, end + 3, 1 << 54, (1 << 55) - (1 << 24), 1 << 55, 1 << 62, i64::MAX] {
+        assert!(total_of(sum).is_none() && total_of(-sum).is_none(), "{sum}");
     }
     assert_eq!(total_of(i64::MIN), None);
 }
@@ -177,7 +160,7 @@ fn quantities_of_all_rectangles_of_small_maps() {
     let mut random = random::of_test("quantities_of_all_rectangles_of_small_maps");
     for (rows, columns) in rectangles::pairs(1..=4) {
         let (plan, map) = (Plan::summed(rows, columns, 2), random.heights(rows * columns));
-        let table = summed(&plan, &map);
+        let table = serial_output(&plan, &map);
         for corners in rectangles::around(rows, columns) {
             let answer = read_and_compare(&plan, corners, &table);
             if !rectangles::is_inside(corners, rows, columns) {
@@ -224,7 +207,7 @@ fn totals_and_pixel_counts_of_the_largest_map() {
     let plan = Plan::summed(4096, 4096, 32);
     let mut random = random::of_test("totals_and_pixel_counts_of_the_largest_map");
     for (height, largest) in [(i32::MIN, -9007199254740992.0), (i32::MAX, 9007199250546688.0)] {
-        let table = summed(&plan, &vec![height; 1 << 24]);
+        let table = serial_output(&plan, &vec![height; 1 << 24]);
         assert_eq!(read_and_compare(&plan, [0, 0, 4096, 1024], &table), Ok([total(largest), pixels(4194304.0)]));
         assert_eq!(read_and_compare(&plan, [0, 0, 4096, 1025], &table), Ok([VACANT, pixels(4198400.0)]));
         assert_eq!(read_and_compare(&plan, [0, 0, 4096, 4096], &table), Ok([VACANT, pixels(16777216.0)]));

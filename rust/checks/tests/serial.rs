@@ -4,15 +4,9 @@ use checks::lent::Lent;
 use checks::random::{self, Random, Reached};
 use checks::records::{all_orders, broken_record};
 use checks::short::ShortBuffers;
-use checks::{model, rectangles, reference};
+use checks::{model, rectangles, reference, serial_output};
 use mulzhegat::serial::{self, Rectangle};
 use mulzhegat::{Pass, Plan, Refusal, DOWN, LEFT, RIGHT, UP};
-
-fn run(plan: &Plan, map: &[i32]) -> Vec<u64> {
-    let mut output = vec![0x5555; map.len()];
-    serial::run(plan, map, &mut output).unwrap();
-    output
-}
 
 fn modulo(words: &[i64]) -> Vec<u64> {
     words.iter().map(|&word| word as u64).collect()
@@ -20,7 +14,7 @@ fn modulo(words: &[i64]) -> Vec<u64> {
 
 #[test]
 fn example_summed_table_of_six_heights() {
-    assert_eq!(run(&Plan::summed(2, 3, 2), &[1, 2, 3, 4, 5, 6]), [1, 3, 6, 5, 12, 21]);
+    assert_eq!(serial_output(&Plan::summed(2, 3, 2), &[1, 2, 3, 4, 5, 6]), [1, 3, 6, 5, 12, 21]);
 }
 
 #[test]
@@ -33,7 +27,7 @@ fn example_rectangles_of_the_summed_table() {
 #[test]
 fn example_rectangle_below_the_datum() {
     let plan = Plan::summed(2, 3, 2);
-    let table = run(&plan, &[1, -2, 3, -4, 5, -6]);
+    let table = serial_output(&plan, &[1, -2, 3, -4, 5, -6]);
     assert_eq!(serial::rectangle(&plan, Rectangle::new(1, 0, 2, 3), &table), Ok(-5));
     assert_eq!(serial::rectangle(&plan, Rectangle::new(0, 1, 2, 3), &table), Ok(0));
     assert_eq!(serial::rectangle(&plan, Rectangle::new(0, 0, 2, 3), &table), Ok(-3));
@@ -51,38 +45,41 @@ fn example_rectangle_with_nothing_in_it() {
 
 #[test]
 fn example_column_down_with_gain_6() {
-    assert_eq!(run(&Plan::plain(3, 1, 1).with(DOWN, 6, &[2]), &[1, 0, 0]), modulo(&[6, -12, 24]));
+    assert_eq!(serial_output(&Plan::plain(3, 1, 1).with(DOWN, 6, &[2]), &[1, 0, 0]), modulo(&[6, -12, 24]));
 }
 
 #[test]
 fn example_column_down_then_up() {
     for side in [1, 2, 3] {
         let plan = Plan::plain(3, 1, side).with(DOWN, 6, &[2]).with(UP, -1, &[2]);
-        assert_eq!(run(&plan, &[1, 0, 0]), modulo(&[-126, 60, -24]));
+        assert_eq!(serial_output(&plan, &[1, 0, 0]), modulo(&[-126, 60, -24]));
     }
 }
 
 #[test]
 fn example_row_right_and_left() {
     let plan = Plan::plain(1, 3, 1).with(RIGHT, 1, &[-1]).with(LEFT, 1, &[-1]);
-    assert_eq!(run(&plan, &[1, 0, 0]), [3, 2, 1]);
+    assert_eq!(serial_output(&plan, &[1, 0, 0]), [3, 2, 1]);
 }
 
 #[test]
 fn example_one_height_of_minus_one() {
-    assert_eq!(run(&Plan::plain(1, 1, 1), &[-1]), [18446744073709551615]);
+    assert_eq!(serial_output(&Plan::plain(1, 1, 1), &[-1]), [18446744073709551615]);
 }
 
 #[test]
 fn example_four_gains_of_65536() {
     let plan = Plan { passes: [Pass::new(65536, &[]); 4], ..Plan::plain(1, 1, 1) };
-    assert_eq!(run(&plan, &[1]), [0]);
+    assert_eq!(serial_output(&plan, &[1]), [0]);
 }
 
 #[test]
 fn example_least_height_and_least_gain() {
     for pass in [DOWN, UP, RIGHT, LEFT] {
-        assert_eq!(run(&Plan::plain(1, 1, 1).with(pass, -134217728, &[]), &[-2147483648]), [288230376151711744]);
+        assert_eq!(
+            serial_output(&Plan::plain(1, 1, 1).with(pass, -134217728, &[]), &[-2147483648]),
+            [288230376151711744]
+        );
     }
 }
 
@@ -214,7 +211,7 @@ fn all_rectangles_of_small_summed_maps() {
     all_rectangles_of_small_maps(
         |rows, columns| {
             let (plan, map) = (Plan::summed(rows, columns, 2), random.heights(rows * columns));
-            let table = run(&plan, &map);
+            let table = serial_output(&plan, &map);
             (plan, map, table)
         },
         |(plan, map, table), corners| {
@@ -234,7 +231,7 @@ fn rectangles_of_summed_tables_are_sums_of_heights() {
         let (rows, columns) = (random.between(1, 40), random.between(1, 40));
         let plan = Plan::summed(rows, columns, random.between(1, 32));
         let map = random.heights(rows * columns);
-        let table = run(&plan, &map);
+        let table = serial_output(&plan, &map);
         for _ in 0..20 {
             let corners = random.rectangle(rows, columns);
             let expected = reference::total(&map, columns, corners);
@@ -272,10 +269,9 @@ fn totals_of_the_largest_maps_are_exact() {
 fn totals_of_other_tables_at_zero_and_at_both_ends() {
     let words = [(0, 0), ((1 << 63) - 1, i64::MAX), (1 << 63, i64::MIN), (u64::MAX, -1), (1 << 62, 1 << 62)];
     for (word, sum) in words {
-        assert_eq!(sum_and_compare(&Plan::summed(1, 1, 1), [0, 0, 1, 1], &[word]), Ok(sum));
-        // The same word from four corners, of which the last is 5 + 7 + word - 3.
-        let table = [3, 5, 7, word.wrapping_add(9)];
-        assert_eq!(sum_and_compare(&Plan::summed(2, 2, 1), [1, 1, 2, 2], &table), Ok(sum));
+        for (plan, corners, table) in rectangles::tables_of(word) {
+            assert_eq!(sum_and_compare(&plan, corners, &table), Ok(sum));
+        }
     }
 }
 
