@@ -3,15 +3,29 @@
 ghost use mathlib.Core.Path.{_≡_};
 ghost use Prim.Native.Nat.{_+_, _*_, _≤_};
 ghost use lib.ListN.{length};
-ghost use Rattle.buffer.specs.Pixel.{pixel};
+ghost use Rattle.buffer.specs.Pixel.{isDropout, pixel};
 ghost use Rattle.buffer.specs.Copies.{WordsFit, wordsFrom, scaledFrom, heightsFrom};
 ghost use Rattle.buffer.specs.Written.{written, rowWritten, cleared};
 
-// The word that a pixel enters the passes with.
+// What the laser's head writes where the beam gets no return.
+const DROPOUT: i32 = -2147483648;
+
+// Whether a height is a dropout.
+pub fn is_dropout(height: i32) -> bool
+    ensures { λ r. ⌜ r ≡ isDropout height ⌝ }
+{
+    height == DROPOUT
+}
+
+// The word that a pixel enters the passes with: 0 for a dropout.
 pub fn read_pixel(height: i32) -> u64
     ensures { λ r. ⌜ r ≡ pixel height ⌝ }
 {
-    word::residue_of_height(height)
+    if is_dropout(height) {
+        0
+    } else {
+        word::residue_of_height(height)
+    }
 }
 
 // The words of heights, one after another.

@@ -1,7 +1,7 @@
--- Two's complement by the sign, its range, and that reading bits and taking bits undo each other, whatever the width;
--- what the machine makes of it. Assumes nothing.
-use mathlib.Core.Path.{_≡_, sym, ap, _∙_}
-use mathlib.Core.Bool.{true}
+-- What the test that two signed numbers are equal says; two's complement by the sign, its range, and that reading bits
+-- and taking bits undo each other, whatever the width; what the machine makes of it. Assumes nothing.
+use mathlib.Core.Path.{_≡_, refl, sym, ap, _∙_}
+use mathlib.Core.Bool.{Bool, true, false, true≢false}
 use mathlib.Core.Logic.{⊎-elim}
 use Prim.Native.Nat.{ℕ, zero, suc, _+_, _-_, _<_, _≤_, _^_}
 use native.Mathlib.Nat.{two-pow-succ}
@@ -10,9 +10,26 @@ use lib.IntN.{ℤ, pos, negsuc, _-ℤ_}
 use mir.Syntax.{Width, w64}
 use mir.Val.{hbits, SFits, toZ, ofZ}
 use mir.ValLaws.{toZ-pos, toZ-ofZ}
-use borrow.Author.Tests.{lt-ltb, le-ltb, ltb-true}
-use Rattle.number.specs.SignedBits.{inSigned, twosComplement, signedBits}
+use borrow.Author.Tests.{lt-ltb, le-ltb, ltb-true, eqb-true, eq-eqb}
+use Rattle.number.specs.SignedBits.{eqZ, inSigned, twosComplement, signedBits}
 use Rattle.number.proofs.Tests.{lt-or-ge}
+
+pub eqZ-true : (a b : ℤ) → eqZ a b ≡ true → a ≡ b
+eqZ-true (pos a) (pos b) e = ap pos (eqb-true a b e)
+eqZ-true (pos a) (negsuc b) e = absurd (true≢false (sym e))
+eqZ-true (negsuc a) (pos b) e = absurd (true≢false (sym e))
+eqZ-true (negsuc a) (negsuc b) e = ap negsuc (eqb-true a b e)
+
+pub eqZ-refl : (a : ℤ) → eqZ a a ≡ true
+eqZ-refl (pos a) = eq-eqb a a refl
+eqZ-refl (negsuc a) = eq-eqb a a refl
+
+pub eqZ-false : (a b : ℤ) → (a ≡ b → ⊥) → eqZ a b ≡ false
+eqZ-false a b other = by (eqZ a b) refl
+  where
+    by : (t : Bool) → eqZ a b ≡ t → t ≡ false
+    by true e = absurd (other (eqZ-true a b e))
+    by false e = refl
 
 module _ (bits n : ℕ) where
   pub complement-low : n < 2 ^ (bits - 1) → twosComplement bits n ≡ pos n

@@ -1,9 +1,16 @@
--- Signed numbers of one bit or more, two's complement: their range, the signed number that a number of so many bits
--- stands for, and the number that stands for a signed one. `negsuc n` is -(n + 1).
-use mathlib.Core.Bool.{Bool, cond}
+-- Signed numbers: a test that two are equal; and of one bit or more, two's complement: their range, the signed number
+-- that a number of so many bits stands for, and the number that stands for a signed one. `negsuc n` is -(n + 1).
+use mathlib.Core.Bool.{Bool, false, cond}
 use Prim.Native.Nat.{ℕ, suc, _-_, _^_}
 use lib.IntN.{ℤ, pos, negsuc}
-use lib.Dec.{ltb}
+use lib.Dec.{ltb, eqb}
+
+-- The test that two signed numbers are equal.
+abbrev pub eqZ : ℤ → ℤ → Bool
+eqZ (pos a) (pos b) = eqb a b
+eqZ (pos a) (negsuc b) = false
+eqZ (negsuc a) (pos b) = false
+eqZ (negsuc a) (negsuc b) = eqb a b
 
 -- From -2^(bits-1) to 2^(bits-1) - 1.
 abbrev pub inSigned : (bits : ℕ) → ℤ → Bool

@@ -12,7 +12,6 @@ use Rattle.passes.specs.Line.{history, output}
 use Rattle.passes.specs.Filter.{lessFeedback, filterStep}
 use Rattle.axis.specs.Axis.{forward, backward}
 use Rattle.passes.specs.Passes.{filterLine, filterLines, passesOver, serialPasses}
-use Rattle.buffer.specs.Pixel.{pixel}
 use Rattle.passes.specs.Table.{runningSum, unchanged, summedAreaTable, sumOf, sumInside, cornerOf, rectangleSum, signedSumOf, heightsInside}
 use Rattle.passes.proofs.Passes.{filterLine-unchanged}
 use Rattle.word.proofs.Residues.{residue-add, residue-zero}
@@ -128,12 +127,12 @@ unfolding sumOf signedSumOf
 sumOf-residue zero z = sym residue-zero
 sumOf-residue (suc n) z = ap (_⊕ residue (z n)) (sumOf-residue n z) ∙ sym (residue-add _ _)
 
--- On the summed-area table of a map of heights the rectangle sum is the heights' sum modulo 2^64.
+-- On the summed-area table of the residues of heights the rectangle sum is the residue of the heights' sum.
 pub rectangle-heights : (h w : ℕ) (S : ℕ → ℕ → ℕ) (heights : ℕ → ℕ → ℤ)
-    → ((y x : ℕ) → y < h → x < w → S y x ≡ serialPasses summedAreaTable h w (λ y x. pixel (heights y x)) 4 y x)
+    → ((y x : ℕ) → y < h → x < w → S y x ≡ serialPasses summedAreaTable h w (λ y x. residue (heights y x)) 4 y x)
     → (top left bottom right : ℕ) → top ≤ bottom → left ≤ right → bottom ≤ h → right ≤ w
     → rectangleSum S top left bottom right ≡ residue (heightsInside heights top left bottom right)
-unfolding heightsInside pixel
+unfolding heightsInside
 rectangle-heights h w S heights e t l b r p q u v =
     rectangle-true h w S _ e t l b r p q u v
     ∙ ap (sumOf (r - l)) (fun-ext (λ k. sumOf-residue (b - t) (λ j. heights (t + j) (l + k))))

@@ -1,7 +1,7 @@
 -- The size of a sum of heights: at most 2^31 for each pixel of the rectangle, so at most 2^55, and it is a number of
 -- signed 64 bits. Assumes nothing.
-use mathlib.Core.Path.{_≡_}
-use mathlib.Core.Bool.{true}
+use mathlib.Core.Path.{_≡_, refl}
+use mathlib.Core.Bool.{Bool, true, false}
 use mathlib.Core.Logic.{⊎-elim}
 use mathlib.Core.List.{List}
 use Prim.Native.Nat.{ℕ, zero, suc, _+_, _-_, _*_, _≤_, _<_, _^_}
@@ -16,7 +16,8 @@ use Rattle.number.proofs.RowMajor.{place-below}
 use Rattle.plan.specs.declared.Plan.{Plan}
 use Rattle.plan.specs.Rules.{keepsRules}
 use Rattle.plan.proofs.Record.{rules}
-use Rattle.buffer.specs.Pixel.{heightAt}
+use Rattle.buffer.specs.Pixel.{isDropout, reading, heightAt, readingAt}
+use Rattle.buffer.proofs.Pixel.{reading-dropout, reading-other}
 use Rattle.passes.specs.Table.{signedSumOf, heightsInside}
 use Rattle.rectangle.specs.Rectangle.{Inside}
 use Rattle.rectangle.specs.Heights.{HeightFits, HeightsFit, heightSum, SumsBounded}
@@ -51,12 +52,19 @@ height-bounded : (z : ℤ) → HeightFits z → natAbs z ≤ 2 ^ 31
 height-bounded (pos n) fit = omega (arith, ltb-true n _ fit)
 height-bounded (negsuc n) fit = omega (arith, ltb-true n _ fit)
 
-height-at-bounded : (plan : Plan) (heights : List ℤ) → HeightsFit plan heights
+reading-bounded : (z : ℤ) → HeightFits z → natAbs (reading z) ≤ 2 ^ 31
+reading-bounded z fit = by (isDropout z) refl
+  where
+    by : (dropped : Bool) → isDropout z ≡ dropped → natAbs (reading z) ≤ 2 ^ 31
+    by true e = rw (reading-dropout z e) (omega arith)
+    by false e = rw (reading-other z e) (height-bounded z fit)
+
+reading-at-bounded : (plan : Plan) (heights : List ℤ) → HeightsFit plan heights
     → (y x : ℕ) → y < plan .grid .rows → x < plan .grid .columns
-    → natAbs (heightAt (plan .grid .columns) heights y x) ≤ 2 ^ 31
-height-at-bounded plan heights fit y x a b =
+    → natAbs (readingAt (plan .grid .columns) heights y x) ≤ 2 ^ 31
+reading-at-bounded plan heights fit y x a b =
     let w = plan .grid .columns in
-    height-bounded (heightAt w heights y x) (fit (rowMajor w y x) (place-below (plan .grid .rows) w y x a b))
+    reading-bounded (heightAt w heights y x) (fit (rowMajor w y x) (place-below (plan .grid .rows) w y x a b))
 
 -- 2^31 for each pixel of the rectangle,
 pub rectangle-bounded : (plan : Plan) (heights : List ℤ) → HeightsFit plan heights
@@ -65,8 +73,8 @@ pub rectangle-bounded : (plan : Plan) (heights : List ℤ) → HeightsFit plan h
 unfolding heightsInside
 rectangle-bounded plan heights fit top left bottom right inside =
     sum-bounded (right - left) ((bottom - top) * 2 ^ 31) _ (λ k a.
-    sum-bounded (bottom - top) (2 ^ 31) (λ j. heightAt (plan .grid .columns) heights (top + j) (left + k)) (λ j b.
-    height-at-bounded plan heights fit (top + j) (left + k)
+    sum-bounded (bottom - top) (2 ^ 31) (λ j. readingAt (plan .grid .columns) heights (top + j) (left + k)) (λ j b.
+    reading-at-bounded plan heights fit (top + j) (left + k)
     (omega (arith, inside .bottom-low)) (omega (arith, inside .right-low))))
 
 -- and there are at most 2^24 of them.

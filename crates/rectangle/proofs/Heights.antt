@@ -18,7 +18,7 @@ use Rattle.buffer.specs.Lists.{wordAt, numberAt}
 use Rattle.buffer.proofs.Listed.{listed-length, listed-at}
 use Rattle.passes.specs.Filter.{Filter}
 use Rattle.passes.specs.Passes.{passesOver, serialPasses}
-use Rattle.buffer.specs.Pixel.{heightAt, heightMap}
+use Rattle.buffer.specs.Pixel.{readingAt, pixel, heightMap}
 use Rattle.passes.specs.Table.{runningSum, unchanged, firstAlone, summedAreaTable, rectangleSum}
 use Rattle.passes.proofs.Table.{rectangle-heights}
 use Rattle.filter.specs.PlanFilters.{filterOf, filtersOf, mapOf, serialResult, runningSumPass, unchangedPass, summedAreaPasses}
@@ -129,9 +129,9 @@ module _ (plan : Plan) (kept : keepsRules plan ≡ true) (passes : plan .passes 
   corners-word : (top left bottom right : ℕ) → Inside plan top left bottom right
       → rectangleSum (tableOf plan (serialOutput plan heights output)) top left bottom right
       ≡ residue (heightSum plan heights top left bottom right)
-  unfolding heightMap
+  unfolding pixel heightMap
   corners-word top left bottom right inside =
-      rectangle-heights (plan .grid .rows) (plan .grid .columns) _ (heightAt (plan .grid .columns) heights)
+      rectangle-heights (plan .grid .rows) (plan .grid .columns) _ (readingAt (plan .grid .columns) heights)
       (λ y x a b.
       table-at plan kept heights output long room y x a b
       ∙ ap (λ (Z : ℕ → ℕ → ℕ). Z y x)

@@ -1,5 +1,5 @@
 -- On a summed-area table the rectangle sum is the heights' sum, a whole number and no residue; what it gives at zero
--- and at both ends on any table. Document 01, 'The four passes' and the rectangle sum; document 02, CR 2 and CR 5.
+-- and at both ends on any table. Document 01, 'The four passes' and the rectangle sum; document 02, CR 2, CR 5, CR 7.
 use mathlib.Core.Path.{_≡_}
 use mathlib.Core.Bool.{true}
 use mathlib.Core.List.{List}
@@ -12,7 +12,7 @@ use Rattle.plan.specs.declared.Plan.{Plan}
 use Rattle.plan.specs.Rules.{keepsRules}
 use Rattle.plan.specs.Sizes.{neededPixels}
 use Rattle.buffer.specs.Lists.{numberAt}
-use Rattle.buffer.specs.Pixel.{heightAt}
+use Rattle.buffer.specs.Pixel.{readingAt}
 use Rattle.passes.specs.Table.{heightsInside, rectangleSum}
 use Rattle.serial.specs.Serial.{serialOutput}
 use Rattle.rectangle.specs.Rectangle.{tableOf, Inside, rectangleCall}
@@ -28,10 +28,10 @@ HeightFits height = inSigned 32 height ≡ true
 abbrev pub HeightsFit : Plan → List ℤ → Type 0
 HeightsFit plan heights = (place : ℕ) → place < neededPixels plan → HeightFits (numberAt heights place)
 
--- The sum of the heights in a rectangle of a plan's map, as a whole number.
+-- The sum of the heights in a rectangle of a plan's map with dropouts replaced by 0, as a whole number.
 abbrev pub heightSum : Plan → List ℤ → (top left bottom right : ℕ) → ℤ
 heightSum plan heights top left bottom right =
-    heightsInside (heightAt (plan .grid .columns) heights) top left bottom right
+    heightsInside (readingAt (plan .grid .columns) heights) top left bottom right
 
 -- Its size is 2^24 × 2^31 = 2^55 at most.
 abbrev pub SumsBounded : Type 0

@@ -14,7 +14,7 @@ use Rattle.plan_reader.specs.ReadPlan.{passPlace, wordRows, headRows, coefficie
 use Rattle.passes.specs.Line.{history, output}
 use Rattle.passes.specs.Filter.{lessFeedback, filterStep}
 use Rattle.passes.specs.Passes.{filterLine, filterLines, passesOver, serialPasses}
-use Rattle.buffer.specs.Pixel.{pixel, heightMap}
+use Rattle.buffer.specs.Pixel.{isDropout, reading, pixel, heightMap}
 use Rattle.passes.specs.Table.{cornerOf, rectangleSum}
 use Rattle.filter.specs.PlanFilters.{filterOf}
 use Rattle.serial.specs.Serial.{serialAnswer, serialWords, serialOutput}
@@ -30,7 +30,7 @@ use Rattle.worked_examples.specs.Examples.{serialExample, rectangleExamp
 pub examples-hold : ExamplesHold
 unfolding modulus minusOne _⊕_ _⊖_ _⊗_ residue twosComplement signed allBelow coefficientsKept passKept passesKept keepsRules blockCount
     blockExtent gridKept blockArea sizesOf listOf joined passPlace wordRows headRows coefficientRows passRows passesRows endRows sideRows planRows readPlan history
-    output lessFeedback filterStep filterLine filterLines passesOver serialPasses pixel heightMap cornerOf rectangleSum filterOf
+    output lessFeedback filterStep filterLine filterLines passesOver serialPasses isDropout reading pixel heightMap cornerOf rectangleSum filterOf
     written serialAnswer serialWords serialOutput rectangleCall hasTask exists needsOf allDone total hasBit isMarked spareClear
     markValid markOf withBit blocksOf lookedAt leastBrokenOf leastBroken verdictRows blockRow blockColumn blockPixelPlace neighbour
     goesOn stripPlace insideBlock edgeWord stripWord nearestFirst pastEdges stripWrittenTo rowWritten slotWritten aloneWord

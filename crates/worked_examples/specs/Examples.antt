@@ -165,7 +165,7 @@ starred =
     ∷ serialExample (planOf 1 1 (gainAlone (pos 65536)) (gainAlone (pos 65536)) (gainAlone (pos 65536)) (gainAlone (pos 65536)))
     (pos 1 ∷ []) (pos 0 ∷ [])
     ∷ serialExample (planOf 1 1 (gainAlone (minus 134217728)) unchangedPass unchangedPass unchangedPass) (minus 2147483648 ∷ [])
-    (pos 288230376151711744 ∷ [])
+    (pos 0 ∷ [])
     ∷ readingExample (planWords 0x20000004 0x30000004 (coefficientsOfOne 4)) (0 ∷ 0 ∷ [])
     ∷ readingExample (planWords 0x20000003 0x30000004 (coefficientsOfOne 4)) (4 ∷ 1 ∷ [])
     ∷ readingExample (planWords 0x20000008 0x30000008 (coefficientsOfOne 8)) (0 ∷ 0 ∷ [])
