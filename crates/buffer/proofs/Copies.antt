@@ -34,6 +34,13 @@ unfolding rowWritten
 row-at start words n a e room i p h f =
     ap₂ wordAt e f ∙ written-at (λ j. start + j) words n a (λ j k c d. omega arith) (λ j c. omega arith) i h
 
+-- A row that goes through a buffer of its length.
+pub row-through : (start : ℕ) (words : ℕ → ℕ) (n : ℕ) (a b c : List ℕ) → c ≡ rowWritten 0 words n b → length b ≡ n
+    → rowWritten start (wordsFrom c 0) n a ≡ rowWritten start words n a
+unfolding rowWritten
+row-through start words n a b c e room =
+    written-same _ _ _ _ n a (λ i h. refl) (λ i h. row-at 0 words n b e (omega arith) i (0 + i) h refl)
+
 -- Places that lie 1 apart are a row.
 pub row-apart : (start : ℕ) (words : ℕ → ℕ) (n : ℕ) (a : List ℕ)
     → written (λ i. start + i * 1) words n a ≡ rowWritten start words n a

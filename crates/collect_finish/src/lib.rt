@@ -196,14 +196,24 @@ fn copy_rectangle(
     copy_rows(from, source, to, target, height, width, gain);
 }
 
-// The words of a row's heights. As many as a cache line holds are a loop of known length, which the compiler writes
-// out: a sign extension and a store for each.
+// The words of as many heights as a cache line holds. All are read before the first is stored: the compiler, which does
+// not know that map and work array lie apart, then handles several at once, in registers.
+fn load_line(map: &[i32], map_start: usize, work: &mut [u64], work_start: usize)
+    requires { ⌜ («map_start» + 16 ≤ length (now map)) × («work_start» + 16 ≤ length (now work)) ⌝ }
+    ensures { λ _. ⌜ now (work .exit) ≡ rowWritten «work_start» (heightsFrom (now (map .entry)) «map_start») 16 (now (work .entry)) ⌝ }
+{
+    let mut words = [0; LINE_HEIGHTS];
+    buffer::read_heights(map, map_start, &mut words, 0, LINE_HEIGHTS);
+    buffer::copy_words(&words, 0, work, work_start, LINE_HEIGHTS);
+}
+
+// The words of a row's heights.
 fn load_row(map: &[i32], map_start: usize, work: &mut [u64], work_start: usize, count: usize)
     requires { ⌜ («map_start» + count ≤ length (now map)) × («work_start» + count ≤ length (now work)) ⌝ }
     ensures { λ _. ⌜ now (work .exit) ≡ rowWritten «work_start» (heightsFrom (now (map .entry)) «map_start») count (now (work .entry)) ⌝ }
 {
     if count == LINE_HEIGHTS {
-        buffer::read_heights(map, map_start, work, work_start, LINE_HEIGHTS);
+        load_line(map, map_start, work, work_start);
     } else {
         buffer::read_heights(map, map_start, work, work_start, count);
     }
