@@ -1,4 +1,5 @@
 pub mod CornerPlaces
+pub mod RectangleAnswers
 pub mod SumAnswers
 pub mod Bound
 pub mod Heights

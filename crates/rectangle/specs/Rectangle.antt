@@ -35,19 +35,19 @@ abbrev pub outside : Plan → (top left bottom right : ℕ) → Bool
 outside plan top left bottom right =
     ltb bottom top || (ltb right left || (ltb (plan .grid .rows) bottom || ltb (plan .grid .columns) right))
 
--- The sum is lent a table.
+-- The tests of a call about a rectangle that is lent buffers of these lengths, in their order: 6 for the record, the
+-- lengths, 12 for the rectangle.
+abbrev pub rectangleRows : Plan → Lengths → (top left bottom right : ℕ) → List Row
+rectangleRows plan lent top left bottom right = lentRows plan lent ++ (12 at 0 when outside plan top left bottom right ∷ [])
+
+-- The sum is lent a table, so that 7 stands between 6 and 12.
 abbrev pub lentToSum : List ℕ → Lengths
 lentToSum table = onlyOf7 (Table (length table))
-
--- The tests in their order: 6 for the record, 7 for the table, 12 for the rectangle.
-abbrev pub rectangleRows : Plan → List ℕ → (top left bottom right : ℕ) → List Row
-rectangleRows plan table top left bottom right =
-    lentRows plan (lentToSum table) ++ (12 at 0 when outside plan top left bottom right ∷ [])
 
 -- The sum over a rectangle, from -2^63 to 2^63 - 1: the word of the four corners, read as signed; 0 beside a refusal.
 unfoldable pub rectangleCall : Plan → List ℕ → (top left bottom right : ℕ) → Given ℤ
 rectangleCall plan table top left bottom right =
-    given (firstDue (rectangleRows plan table top left bottom right))
+    given (firstDue (rectangleRows plan (lentToSum table) top left bottom right))
     (signed (rectangleSum (tableOf plan table) top left bottom right)) (pos 0)
 
 -- Document 01's number and place, and the sum, of each case that `rectangle_sum` answers.

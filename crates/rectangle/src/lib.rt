@@ -1,5 +1,6 @@
 // The sum over a rectangle of a summed-area table.
 use plan::BufferOf7;
+use plan::Lengths;
 use plan::Plan;
 use plan::PlanSizes;
 use refusal::Outcome;
@@ -12,7 +13,7 @@ ghost use Rattle.refusal.specs.Table.{_at_when_, firstDue, answerOf};
 ghost use Rattle.plan.specs.Sizes.{neededPixels};
 ghost use Rattle.passes.specs.Table.{cornerOf, rectangleSum};
 ghost use Rattle.rectangle.specs.Corners.{CornerFits};
-ghost use Rattle.rectangle.specs.Rectangle.{tableOf, Inside, outside, rectangleCall, sumGiven};
+ghost use Rattle.rectangle.specs.Rectangle.{tableOf, Inside, outside, rectangleRows, rectangleCall, sumGiven};
 
 // The sum, or why there is none.
 pub enum RectangleSum {
@@ -32,7 +33,8 @@ pub fn rectangle_sum(
 ) -> RectangleSum
     ensures { λ r. ⌜ sumGiven r ≡ rectangleCall plan (now (table .entry)) top left bottom right ⌝ }
 {
-    let outcome = answer(plan, top, left, bottom, right, table);
+    let lent = plan::only_of_7(BufferOf7::Table(table.len()));
+    let outcome = answer(plan, lent, top, left, bottom, right);
     match outcome {
         Outcome::Refused(refusal) => RectangleSum::Refused(refusal),
         Outcome::Accepted => {
@@ -42,18 +44,18 @@ pub fn rectangle_sum(
     }
 }
 
-// The answer to the record, the length of the table and the rectangle, in this order.
-fn answer(
+// The answer of every call about a rectangle: to the record, the lengths of what the call is lent and the rectangle, in
+// this order.
+pub fn answer(
     plan: Plan,
+    lent: Lengths,
     top: usize,
     left: usize,
     bottom: usize,
     right: usize,
-    table: &[u64],
 ) -> Outcome
-    ensures { λ r. ⌜ answerOf r ≡ rectangleCall plan (now (table .entry)) top left bottom right .answer ⌝ }
+    ensures { λ r. ⌜ answerOf r ≡ firstDue (rectangleRows plan lent top left bottom right) ⌝ }
 {
-    let lent = plan::only_of_7(BufferOf7::Table(table.len()));
     let known = plan.sizes_for(lent);
     match known {
         PlanSizes::Refused(refusal) => Outcome::Refused(refusal),

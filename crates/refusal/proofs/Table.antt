@@ -87,6 +87,21 @@ none-of (row ∷ rows) e =
     let n = not-due (row .due) (row .number) (row .place) (firstDue rows) e in
     (n .first, none-of rows (n .others))
 
+-- No row of a list has a number,
+abbrev pub NoneNumbered : ℕ → List Row → Type 0
+NoneNumbered number [] = Unit {0}
+NoneNumbered number (row ∷ rows) = (row .number ≡ number → ⊥) × NoneNumbered number rows
+
+-- so that they do not answer it.
+pub not-answered : (number : ℕ) (rows : List Row) → NoneNumbered number rows → {place : ℕ} → firstDue rows ≡ refused number place → ⊥
+not-answered number [] none e = not-accepted (sym e)
+not-answered number (row ∷ rows) none {place} e = by (row .due) (not-answered number rows (none .1)) e
+  where
+    by : (due : Bool) → (firstDue rows ≡ refused number place → ⊥)
+        → cond due (refused (row .number) (row .place)) (firstDue rows) ≡ refused number place → ⊥
+    by true others e = none .0 cc
+    by false others e = others e
+
 -- ---- an outcome is known by its number and place
 
 named : ℕ → ℕ → Refusal
