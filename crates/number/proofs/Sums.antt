@@ -1,5 +1,5 @@
 -- Laws of sums over the numbers below a bound, and of a test of each of them. Assumes nothing.
-use mathlib.Core.Path.{_≡_, refl, ap, ap₂, _∙_}
+use mathlib.Core.Path.{_≡_, refl, sym, ap, ap₂, _∙_}
 use mathlib.Core.Logic.{⊎-elim, _≢_}
 use mathlib.Core.Bool.{Bool, true, false, cond}
 use Prim.Native.Nat.{ℕ, zero, suc, _+_, _-_, _*_, _<_, _≤_, min}
@@ -63,6 +63,10 @@ total-grows f u (suc v) h =
     ⊎-elim (λ (e : u ≡ v). rw e (omega arith)) (λ (l : u < v). omega (arith, total-grows f u v l))
     (eq-or-lt-of-le {n = u} {m = v} (omega arith))
 
+-- Where a sum is 0, so is each of its terms.
+pub total-nothing : (f : ℕ → ℕ) (n : ℕ) → total f n ≡ 0 → (i : ℕ) → i < n → f i ≡ 0
+total-nothing f n e i h = omega (arith, total-grows f i n h)
+
 -- Where each is at most its fellow and the sums are equal, each is its fellow.
 pub total-tight : (f g : ℕ → ℕ) (n : ℕ) → ((i : ℕ) → i < n → f i ≤ g i) → total f n ≡ total g n → (i : ℕ) → i < n → f i ≡ g i
 unfolding total
@@ -72,6 +76,15 @@ total-tight f g (suc n) e q i h =
     let m = e n (omega arith) in
     ⊎-elim (λ (p : i ≡ n). rw p (omega arith)) (λ (p : i < n). total-tight f g n (λ i h. e i (omega arith)) (omega arith) i p)
     (eq-or-lt-of-le {n = i} {m = n} (omega arith))
+
+pub total-constant : (c n : ℕ) → total (λ i. c) n ≡ n * c
+unfolding total
+total-constant c zero = omega arith
+total-constant c (suc n) = omega (arith, total-constant c n)
+
+-- Where each is at most a number and the sum is as many times it, each is it.
+pub total-full : (f : ℕ → ℕ) (c n : ℕ) → ((i : ℕ) → i < n → f i ≤ c) → total f n ≡ n * c → (i : ℕ) → i < n → f i ≡ c
+total-full f c n e q = total-tight f (λ i. c) n e (q ∙ sym (total-constant c n))
 
 -- Sums that differ in one place.
 pub total-bump : (f g : ℕ → ℕ) (j d n : ℕ) → j < n → ((i : ℕ) → i ≢ j → g i ≡ f i) → g j ≡ f j + d → total g n ≡ total f n + d
@@ -97,6 +110,13 @@ pub total-add : (f g : ℕ → ℕ) (n : ℕ) → total (λ i. f i + g i) n ≡ 
 unfolding total
 total-add f g zero = refl
 total-add f g (suc n) = let h = total-add f g n in omega arith
+
+-- The columns of a rectangle added up, or its rows.
+pub total-exchange : (f : ℕ → ℕ → ℕ) (m n : ℕ) → total (λ k. total (λ j. f j k) m) n ≡ total (λ j. total (f j) n) m
+unfolding total
+total-exchange f m zero = sym (total-zero (λ j. 0) m (λ j h. refl))
+total-exchange f m (suc n) =
+    ap (λ s. s + total (λ j. f j n) m) (total-exchange f m n) ∙ sym (total-add (λ j. total (f j) n) (λ j. f j n) m)
 
 total-split : (f : ℕ → ℕ) (a n : ℕ) → total f (a + n) ≡ total f a + total (λ i. f (a + i)) n
 unfolding total

@@ -1,9 +1,9 @@
-// Numbers: the lesser of two, one or none below a bound, a range from 1 on, and words of a kind and a payload.
+// Numbers: the lesser of two, one for yes, one or none below a bound, a range from 1 on, and words of a kind and a payload.
 ghost use mathlib.Core.Path.{_≡_};
 ghost use mathlib.Core.Bool.{cond};
 ghost use lib.Dec.{ltb};
 ghost use Prim.Native.Nat.{_<_, min};
-ghost use Rattle.number.specs.Numbers.{within};
+ghost use Rattle.number.specs.Numbers.{within, one};
 ghost use Rattle.number.specs.KindWords.{payloadLimit, kindOf, payloadOf, wordOf};
 
 // The lesser of two numbers.
@@ -11,6 +11,13 @@ pub fn lesser(a: usize, b: usize) -> usize
     ensures { λ r. ⌜ r ≡ min a b ⌝ }
 {
     if a < b { a } else { b }
+}
+
+// 1 for yes, 0 for no.
+pub fn one_if(yes: bool) -> usize
+    ensures { λ r. ⌜ r ≡ one yes ⌝ }
+{
+    if yes { 1 } else { 0 }
 }
 
 // A number where i is below a bound, and 0 where not.

@@ -7,7 +7,6 @@ use refusal::Refusal;
 ghost use mathlib.Core.Path.{_≡_};
 ghost use Prim.Native.Nat.{_<_};
 ghost use lib.ListN.{length};
-ghost use Rattle.number.specs.Numbers.{one};
 ghost use Rattle.tasks.specs.Counts.{doneAt};
 ghost use Rattle.tasks.specs.Marks.{isMarked};
 ghost use Rattle.tasks.specs.Lent.{Lent, LentAt};
@@ -87,12 +86,6 @@ fn first_broken(grid: Grid, marks: &[u32]) -> usize
     block
 }
 
-fn one_if(yes: bool) -> usize
-    ensures { λ r. ⌜ r ≡ one yes ⌝ }
-{
-    if yes { 1 } else { 0 }
-}
-
 // How many tasks of a block are marked.
 fn marked_at(marks: &[u32], block: usize) -> usize
     requires { ⌜ block < length (now marks) ⌝ }
@@ -101,7 +94,7 @@ fn marked_at(marks: &[u32], block: usize) -> usize
     let mut sum = 0;
     let mut task = 0;
     while task < tasks::TASKS {
-        sum += one_if(tasks::is_marked(marks, task, block));
+        sum += number::one_if(tasks::is_marked(marks, task, block));
         task += 1;
     }
     sum
@@ -112,8 +105,8 @@ fn tally_at(grid: Grid, marks: &[u32], block: usize) -> usize
     requires { ⌜ LentAt grid (length (now marks)) block ⌝ }
     ensures { λ r. ⌜ r ≡ tallyAt grid (isMarked (now (marks .entry))) block ⌝ }
 {
-    let times = one_if(tasks::is_marked(marks, 0, block))
-        + one_if(tasks::is_marked(marks, 5, block));
+    let times = number::one_if(tasks::is_marked(marks, 0, block))
+        + number::one_if(tasks::is_marked(marks, 5, block));
     times * grid.block_area(block)
 }
 

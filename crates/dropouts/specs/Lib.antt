@@ -1,0 +1,3 @@
+pub mod Dropouts
+pub mod Rows
+pub mod CountedDropouts
