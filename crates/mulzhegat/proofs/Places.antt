@@ -30,6 +30,9 @@ use Rattle.serial.specs.Serial.{lentToPasses, serialAnswer}
 use Rattle.rectangle.specs.declared.RectangleSum.{RectangleSum}
 use Rattle.rectangle.specs.declared.RectangleSum.the-variants as rectangle
 use Rattle.rectangle.specs.Rectangle.{lentToSum, rectangleCall, sumGiven}
+use Rattle.dropouts.specs.declared.DropoutCount.{DropoutCount}
+use Rattle.dropouts.specs.declared.DropoutCount.the-variants as count
+use Rattle.dropouts.specs.Dropouts.{lentToCount, dropoutsCall, countGiven}
 use Rattle.macro_values.specs.declared.Quantity.{Quantity}
 use Rattle.macro_values.specs.declared.MacroRead.{MacroRead}
 use Rattle.macro_values.specs.declared.PairRead.{PairRead}
@@ -195,6 +198,11 @@ module _ (plan : Plan) where
   unfolding rectangleCall
   rectangle-place table top left bottom right = after-lent (lentToSum table) _ (λ kept. (at-0, λ n. tt))
 
+  dropouts-place : (heights : List ℤ) (top left bottom right : ℕ)
+      → placeIn (dropoutsCall plan heights top left bottom right .answer) < half
+  unfolding dropoutsCall
+  dropouts-place heights top left bottom right = after-lent (lentToCount heights) _ (λ kept. (at-0, λ n. tt))
+
   -- Macro variables have the answer of the rectangle sum.
   macro-place : (quantity : Quantity) (table : List ℕ) (top left bottom right : ℕ)
       → placeIn (macroCall quantity plan table top left bottom right .answer) < half
@@ -217,6 +225,7 @@ places-fit =
       report-on = report-place;
       serial = serial-place;
       rectangle = rectangle-place;
+      dropouts = dropouts-place;
       macro = λ quantity plan. macro-place plan quantity;
       pair = pair-place;
     }
@@ -241,6 +250,12 @@ module _ (plan : Plan) (refusal : Refusal) where
       → placeOf refusal < half
   rectangle-refused table top left bottom right answer is e =
       rw e at (rw (← is) at (rectangle-place plan table top left bottom right))
+
+  pub dropouts-refused : (heights : List ℤ) (top left bottom right : ℕ) (answer : DropoutCount)
+      → countGiven answer ≡ dropoutsCall plan heights top left bottom right → answer ≡ count.Refused refusal
+      → placeOf refusal < half
+  dropouts-refused heights top left bottom right answer is e =
+      rw e at (rw (← is) at (dropouts-place plan heights top left bottom right))
 
 -- ---- the place beside a macro variable
 

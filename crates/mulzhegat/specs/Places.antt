@@ -9,6 +9,7 @@ use Rattle.plan_reader.specs.ReadPlan.{readPlan}
 use Rattle.plan_writer.specs.WritePlan.{writePlan}
 use Rattle.serial.specs.Serial.{serialAnswer}
 use Rattle.rectangle.specs.Rectangle.{rectangleCall}
+use Rattle.dropouts.specs.Dropouts.{dropoutsCall}
 use Rattle.macro_values.specs.declared.Quantity.{Quantity}
 use Rattle.macro_values.specs.MacroValues.{macroCall, pairCall}
 use Rattle.job_spec.specs.Calls.{Buffers, startAnswer, taskAnswer}
@@ -30,6 +31,8 @@ pub record PlacesFit : Type 0 where
   pub serial : (plan : Plan) (mapLength outputLength : ℕ) → Fits (serialAnswer plan mapLength outputLength)
   pub rectangle : (plan : Plan) (table : List ℕ) (top left bottom right : ℕ)
       → Fits (rectangleCall plan table top left bottom right .answer)
+  pub dropouts : (plan : Plan) (heights : List ℤ) (top left bottom right : ℕ)
+      → Fits (dropoutsCall plan heights top left bottom right .answer)
   pub macro : (quantity : Quantity) (plan : Plan) (table : List ℕ) (top left bottom right : ℕ)
       → Fits (macroCall quantity plan table top left bottom right .answer)
   pub pair : (plan : Plan) (table : List ℕ) (top left bottom right : ℕ)

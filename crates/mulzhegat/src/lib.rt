@@ -1,6 +1,7 @@
 // The C interface: each function takes its arguments apart, calls the Rattle function of the same job, or for macro
 // variables the two that it is made of, and answers one number: 0 where the call is accepted, else the documents' number
 // of the refusal times 2^32, plus its place.
+use dropouts::DropoutCount;
 use macro_values::Macro;
 use macro_values::MacroPair;
 use macro_values::Quantity;
@@ -23,6 +24,7 @@ ghost use Rattle.plan_writer.specs.WritePlan.{writePlan, writtenWords};
 ghost use Rattle.plan_record.specs.Records.{planOfRecord, recordOfPlan};
 ghost use Rattle.serial.specs.Serial.{serialAnswer, serialOutput};
 ghost use Rattle.rectangle.specs.Rectangle.{rectangleCall, sumGiven};
+ghost use Rattle.dropouts.specs.Dropouts.{dropoutsCall};
 ghost use Rattle.macro_values.specs.MacroValues.{macroCall, pairCall, variableOf, pairOf};
 ghost use Rattle.job_spec.specs.Calls.{lists, startAnswer, marksAfterStart, stripsAfterStart, taskAnswer, afterTask};
 ghost use Rattle.report.specs.Values.{valuesOf};
@@ -172,6 +174,33 @@ pub extern "C" fn mzg_rectangle(
         }
         RectangleSum::Refused(refusal) => {
             *sum = 0;
+            refusal_code(refusal)
+        }
+    }
+}
+
+// Counts the dropouts in a rectangle of a map; 0 beside a refusal.
+#[no_mangle]
+pub extern "C" fn mzg_dropouts(
+    plan: &[i64; plan_record::RECORD_LENGTH],
+    top: usize,
+    left: usize,
+    bottom: usize,
+    right: usize,
+    map: &[i32],
+    count: &mut u64,
+) -> u64
+    ensures { λ r. ⌜ (r ≡ codeOf (dropoutsCall (planOfRecord (now (plan .entry))) (now (map .entry)) top left bottom right .answer)) × (now (count .exit) ≡ dropoutsCall (planOfRecord (now (plan .entry))) (now (map .entry)) top left bottom right .value) ⌝ }
+{
+    let taken = plan_record::plan_of_record(plan);
+    let answer = dropouts::count_dropouts(taken, top, left, bottom, right, map);
+    match answer {
+        DropoutCount::Count(found) => {
+            *count = found as u64;
+            0
+        }
+        DropoutCount::Refused(refusal) => {
+            *count = 0;
             refusal_code(refusal)
         }
     }

@@ -1,6 +1,6 @@
 -- The starred examples of document 01, with document 02's changes, in one list, each through the definition that the
--- contract of its call cites; further rectangles, and two jobs worked by hand, their strips word by word after the
--- collects and after all tasks.
+-- contract of its call cites; further rectangles, a map with dropouts, and two jobs worked by hand, their strips word by
+-- word after the collects and after all tasks.
 use mathlib.Core.Path.{_≡_}
 use mathlib.Core.List.{List, [], _∷_, _++_, map}
 use Prim.Native.Nat.{ℕ}
@@ -15,6 +15,7 @@ use Rattle.plan_reader.specs.ReadPlan.{readPlan}
 use Rattle.passes.specs.Examples.{Example, minus}
 use Rattle.serial.specs.Serial.{serialOutput}
 use Rattle.rectangle.specs.Rectangle.{rectangleCall}
+use Rattle.dropouts.specs.Dropouts.{dropoutsCall}
 use Rattle.tasks.specs.Tasks.{BlockTask}
 use Rattle.task_words.specs.Examples.{WorkedJob, columnJob, rowJob}
 use Rattle.job_spec.specs.Calls.{Buffers, started, afterCalls}
@@ -99,6 +100,21 @@ rectangleExample heights top left bottom right number place sum =
       expected = pos number ∷ pos place ∷ sum ∷ [];
     }
 
+-- ---- dropouts
+
+-- A map with two dropouts, and the height that is next to one: 1 - 3 / - 5 -2147483647
+abbrev withDropouts : List ℤ
+withDropouts = pos 1 ∷ minus 2147483648 ∷ pos 3 ∷ minus 2147483648 ∷ pos 5 ∷ minus 2147483647 ∷ []
+
+-- What the count of dropouts answers of a map of two rows and three columns: number, place and count.
+unfoldable pub dropoutsExample : List ℤ → (top left bottom right : ℕ) → (number place count : ℕ) → Example (List ℤ)
+dropoutsExample heights top left bottom right number place count =
+    let given = dropoutsCall tablePlan heights top left bottom right in
+    record {
+      computed = numberAndPlace (given .answer) ++ (pos (given .value) ∷ []);
+      expected = pos number ∷ pos place ∷ pos count ∷ [];
+    }
+
 -- ---- jobs
 
 -- Buffers of just the needed lengths, of words of 7.
@@ -150,8 +166,9 @@ columnPlan = record { grid = record { rows = 3; columns = 1; side = 2 }; passes 
 
 -- ---- the list
 
--- The starred examples, in the document's order. By request CR 5 the rectangle without rows has the sum 0. Order 9
--- stands for order 5 by request CR 1; order 8 beside order 4 holds the limit from below.
+-- The starred examples, in the document's order. By request CR 5 the rectangle without rows has the sum 0, by request
+-- CR 7 the height -2147483648 gives 0. Order 9 stands for order 5 by request CR 1; order 8 beside order 4 holds the
+-- limit from below.
 unfoldable pub starred : List (Example (List ℤ))
 starred =
     serialExample tablePlan oneToSix (pos 1 ∷ pos 3 ∷ pos 6 ∷ pos 5 ∷ pos 12 ∷ pos 21 ∷ [])
@@ -193,9 +210,28 @@ furtherRectangles =
     ∷ rectangleExample oneToSix 0 0 2 4 12 0 (pos 0)
     ∷ []
 
--- The starred examples, further rectangles, and strips and outputs of two jobs of order 2 whose last block is short.
+-- Dropouts, by request CR 7: the height next to one with document 01's gain; of the map with two, its table by the
+-- serial passes and by a job of two blocks, its total; its dropouts, in one column, in none, in an empty rectangle; and
+-- refused by 12, and by 15 before it.
+unfoldable pub dropouts : List (Example (List ℤ))
+dropouts =
+    serialExample (planOf 1 1 (gainAlone (minus 134217728)) unchangedPass unchangedPass unchangedPass) (minus 2147483647 ∷ [])
+    (pos 288230376017494016 ∷ [])
+    ∷ serialExample tablePlan withDropouts (pos 1 ∷ pos 1 ∷ pos 4 ∷ pos 1 ∷ pos 6 ∷ minus 2147483638 ∷ [])
+    ∷ outputExample tablePlan withDropouts (twoBlocks 3 4) (pos 1 ∷ pos 1 ∷ pos 4 ∷ pos 1 ∷ pos 6 ∷ minus 2147483638 ∷ [])
+    ∷ rectangleExample withDropouts 0 0 2 3 0 0 (minus 2147483638)
+    ∷ dropoutsExample withDropouts 0 0 2 3 0 0 2
+    ∷ dropoutsExample withDropouts 0 1 2 2 0 0 1
+    ∷ dropoutsExample withDropouts 0 2 2 3 0 0 0
+    ∷ dropoutsExample withDropouts 1 0 1 3 0 0 0
+    ∷ dropoutsExample withDropouts 0 0 3 3 12 0 0
+    ∷ dropoutsExample (pos 1 ∷ []) 0 0 3 3 15 0 0
+    ∷ []
+
+-- The starred examples, further rectangles, dropouts, and strips and outputs of two jobs of order 2 whose last block is
+-- short.
 abbrev pub examples : List (Example (List ℤ))
-examples = starred ++ (furtherRectangles ++ (jobExamples columnJob 1 2 ++ jobExamples rowJob 3 4))
+examples = starred ++ (furtherRectangles ++ (dropouts ++ (jobExamples columnJob 1 2 ++ jobExamples rowJob 3 4)))
 
 -- The definitions compute what is given, in every example.
 abbrev pub ExamplesHold : Type 0
