@@ -2,11 +2,10 @@
 use mathlib.Core.Path.{_≡_, refl, sym}
 use mathlib.Core.Bool.{true, false}
 use mathlib.Core.List.{List}
-use Prim.Native.Nat.{ℕ, _-_, _≤_, _<_}
+use Prim.Native.Nat.{ℕ, _≤_, _<_}
 use native.Mathlib.Omega.{arith}
 use lib.IntN.{ℤ}
 use lib.ListN.{length}
-use Rattle.number.proofs.Sums.{total-none, total-zero}
 use Rattle.refusal.specs.Refusals.{Answer, accepted, refused}
 use Rattle.refusal.specs.Table.{firstDue, Given}
 use Rattle.plan.specs.declared.Plan.{Plan}
@@ -15,10 +14,12 @@ use Rattle.plan.specs.Sizes.{neededPixels}
 use Rattle.plan.specs.FirstTests.{lentRows, ShortBuffer, of7-short, strips-short, map-short, output-short}
 use Rattle.plan.proofs.FirstTests.{Suffices, least-short-decides}
 use Rattle.rectangle.specs.Rectangle.{Inside, rectangleRows}
-use Rattle.rectangle.specs.FourNumbers.{Empty, no-row, no-column}
+use Rattle.rectangle.specs.FourNumbers.{Empty}
+use Rattle.rectangle.proofs.FourNumbers.{no-pixels}
 use Rattle.rectangle.proofs.RectangleAnswers.{inside-accepted, others-refused, accepted-inside}
 use Rattle.dropouts.specs.Dropouts.{dropoutsInside, lentToCount, dropoutsCall}
 use Rattle.dropouts.specs.CountedDropouts.{CountsAnswered}
+use Rattle.dropouts.proofs.CountedDropouts.{counts-told}
 
 module _ (plan : Plan) (heights : List ℤ) (top left bottom right : ℕ) where
   -- What the tests answer.
@@ -70,11 +71,12 @@ module _ (plan : Plan) (heights : List ℤ) (top left bottom right : ℕ) where
         sym (given-accepted (inside-accepted plan (lentToCount heights) top left bottom right enough inside) is)
 
   empty-count : Empty top left bottom right → dropoutsInside plan heights top left bottom right ≡ 0
-  unfolding dropoutsInside
-  empty-count (no-row e) =
-      let none : bottom - top ≡ 0 = omega arith in
-      total-zero _ (right - left) (λ k h. rw none (total-none _))
-  empty-count (no-column e) = let none : right - left ≡ 0 = omega arith in rw none (total-none _)
+  empty-count empty =
+      omega (
+        arith,
+        counts-told plan heights top left bottom right .at-most-pixels,
+        no-pixels top left bottom right empty,
+      )
 
 pub counts-answered : CountsAnswered
 counts-answered plan heights t l b r =

@@ -1,3 +1,3 @@
 pub mod Rows
-pub mod CountAnswers
 pub mod CountedDropouts
+pub mod CountAnswers

@@ -3,7 +3,7 @@ use mathlib.Core.Path.{_≡_, refl, sym, ap, _∙_, subst}
 use mathlib.Core.List.{List}
 use mathlib.Core.Logic.{⊎-elim}
 use Prim.Native.Nat.{ℕ, zero, suc, _-_, _*_, _≤_, _^_}
-use native.Mathlib.Nat.{one-mul, zero-mul, mul-zero, mul-pos, mul-assoc, mul-comm, eq-zero-or-pos}
+use native.Mathlib.Nat.{one-mul, mul-pos, mul-assoc, mul-comm, eq-zero-or-pos}
 use native.Mathlib.Omega.{arith}
 use lib.IntN.{ℤ, pos, _+ℤ_}
 use Rattle.refusal.specs.Refusals.{Answer, accepted, refused}
@@ -14,6 +14,7 @@ use Rattle.rectangle.specs.Rectangle.{Inside, rectangleCall}
 use Rattle.rectangle.specs.FourNumbers.{Empty, no-row, no-column}
 use Rattle.rectangle.specs.Heights.{HeightsFit, heightSum}
 use Rattle.rectangle.proofs.Bound.{rectangle-bounded}
+use Rattle.rectangle.proofs.FourNumbers.{no-pixels}
 use Rattle.macro_values.specs.declared.Quantity.{Quantity}
 use Rattle.macro_values.specs.declared.Quantity.the-variants as wanted
 use Rattle.macro_values.specs.MacroValues.{Variable, vacant, holding, pixelCount, floatOf, totalValue, nonEmptyValue, quantityValue, macroCall, VariablePair, pairCall}
@@ -118,10 +119,6 @@ module _ (top left bottom right : ℕ) where
       (ap (λ (z : ℤ). signedSumOf (right - left) (λ k. z)) (same-sum 1 rows ∙ ap pos (one-mul rows))
       ∙ same-sum rows (right - left))
 
-  none-if-empty : Empty top left bottom right → pixelCount top left bottom right ≡ 0
-  none-if-empty (no-row e) = let none : bottom - top ≡ 0 = omega arith in rw none (zero-mul (right - left))
-  none-if-empty (no-column e) = let none : right - left ≡ 0 = omega arith in rw none (mul-zero (bottom - top))
-
   empty-if-none : top ≤ bottom → left ≤ right → pixelCount top left bottom right ≡ 0 → Empty top left bottom right
   empty-if-none rows columns none =
       ⊎-elim (λ no-rows. no-row (omega arith))
@@ -135,7 +132,7 @@ pub pixels-counted : PixelsCounted
 pixels-counted top left bottom right =
     record {
       counted = ones-counted top left bottom right;
-      none-if-empty = none-if-empty top left bottom right;
+      none-if-empty = no-pixels top left bottom right;
       empty-if-none = empty-if-none top left bottom right;
     }
 

@@ -1,6 +1,8 @@
 -- What the call answers to its four numbers. Assumes nothing.
 use mathlib.Core.Path.{_≡_, sym}
-use Prim.Native.Nat.{ℕ}
+use Prim.Native.Nat.{ℕ, _-_, _*_}
+use native.Mathlib.Nat.{zero-mul, mul-zero}
+use native.Mathlib.Omega.{arith}
 use Rattle.passes.specs.Table.{rectangleSum}
 use Rattle.passes.proofs.Table.{no-row-sum, no-column-sum}
 use Rattle.rectangle.specs.Rectangle.{tableOf, lentToSum, rectangleCall}
@@ -8,6 +10,10 @@ use Rattle.rectangle.specs.FourNumbers.{Empty, no-row, no-column, FourNu
 use Rattle.rectangle.proofs.RectangleAnswers.{inside-not-12}
 use Rattle.rectangle.proofs.SumAnswers.{accepted-when, refused-when, given-refused}
 use Rattle.rectangle.proofs.Heights.{sums-at-ends}
+
+pub no-pixels : (top left bottom right : ℕ) → Empty top left bottom right → (bottom - top) * (right - left) ≡ 0
+no-pixels top left bottom right (no-row e) = let none : bottom - top ≡ 0 = omega arith in rw none (zero-mul (right - left))
+no-pixels top left bottom right (no-column e) = let none : right - left ≡ 0 = omega arith in rw none (mul-zero (bottom - top))
 
 empty-sum : (S : ℕ → ℕ → ℕ) (top left bottom right : ℕ) → Empty top left bottom right
     → rectangleSum S top left bottom right ≡ 0
