@@ -11,6 +11,11 @@
  * Outputs outside the map count as 0, and all words are taken modulo 2^64. The passes run over the whole map in one
  * call (mzg_serial), or block by block in any order that respects the tasks' needs (mzg_start, mzg_task, mzg_report).
  *
+ * Dropouts. Where the laser's beam gets no return, the height is MZG_DROPOUT. The passes read it as 0, in mzg_serial as
+ * in mzg_task: outputs, tables and totals are those of the map with every dropout replaced by 0, and none of them shows
+ * that there was one. mzg_dropouts counts them in the map itself. A smoothing pass takes a hole for a height of 0 as
+ * well, so that words near one are drawn towards 0.
+ *
  * Answers. Every function answers 0 where the call is accepted, else number * 2^32 + place: the cause, by the numbers
  * in the enum below, and where it is. MZG_NUMBER and MZG_PLACE take an answer apart. Keep it in a uint64_t: its low 32
  * bits are 0 for most refusals. Words, blocks, rows and columns count from 0.
@@ -26,11 +31,11 @@
  *
  * Buffers. A buffer is lent as a pointer and its length in words; words past the needed length are never altered. A
  * refused call leaves every lent buffer as it was. What a call answers beside its number (plan, sizes, progress, sum,
- * states, values) is written whole on every call: all zeros beside a refusal.
+ * states, values, count) is written whole on every call: all zeros beside a refusal.
  *
  * Pointers are not tested, nor that a buffer is as long as is said. None may be null, each must be aligned for its
  * type, and no two of a call may overlap, the plan record and what is answered (plan, sizes, progress, sum, states,
- * values) among them.
+ * values, count) among them.
  * Where no strip word is needed (all orders 0), lend the address of any 64-bit word with length 0, which overlaps
  * nothing.
  *
@@ -70,6 +75,10 @@ enum {
     MZG_MAP_TOO_SHORT = 15,     /* the map is too short */
     MZG_OUTPUT_TOO_SHORT = 16   /* the output is too short */
 };
+
+/* What the head writes for the height of a pixel where the laser's beam gets no return: -2147483648. No other height is
+ * a dropout, nor is -2147483647. */
+#define MZG_DROPOUT (-2147483647 - 1)
 
 /* The number and the place of an answer. */
 #define MZG_NUMBER(answer) ((answer) >> 32)
@@ -175,21 +184,44 @@ uint64_t mzg_serial(const mzg_plan *plan, const int32_t *map, size_t map_len, ui
 /* Gives the sum over rows top to bottom - 1 and columns left to right - 1 from a finished summed-area table S: the word
  * S(bottom-1, right-1) - S(top-1, right-1) - S(bottom-1, left-1) + S(top-1, left-1) modulo 2^64, a row or column of -1
  * counting as 0, read as signed: the word itself below 2^63, and less 2^64 from there on.
- * On the summed-area table of a map this is the exact sum of the heights, negative for a pocket below the datum:
- * heights have 32 bits and a map no more than 2^24 of them, so that the sum lies between -2^55 and 2^55. On any other
- * table it is what the four words make of it, from -2^63 (where they make 2^63) to 2^63 - 1; where they make 0 it is 0.
+ * On the summed-area table of a map this is the exact sum of the heights, negative for a pocket below the datum; a
+ * dropout counts as 0. Heights have 32 bits and a map no more than 2^24 of them, so that the sum lies between -2^55 and
+ * 2^55. On any other table it is what the four words make of it, from -2^63 (where they make 2^63) to 2^63 - 1; where
+ * they make 0 it is 0.
  * With top equal to bottom, or left equal to right, the rectangle is empty and the sum is 0, whatever the table holds.
  * All four numbers are tested as for any other rectangle, up to the map's far edges: (rows, columns, rows, columns) has
  * the sum 0; (rows + 1, 0, rows + 1, columns), (0, 0, 0, columns + 1) and (0, 1, 0, 0) are refused. So are edges that
  * have crossed: a loop that moves two opposite ones, or one by more than 1, has to stop where they meet.
  * The record, the length and the rectangle are tested, not that plan and table are those of a summed-area table.
  * The sum is signed: print it with PRId64, and make a count signed before dividing by it. The number of pixels,
- * (bottom - top) * (right - left), can be 0: test it before dividing.
+ * (bottom - top) * (right - left), can be 0: test it before dividing. It has the dropouts in it: mzg_dropouts says how
+ * many, and how to take the mean of what was seen.
  * Needs sizes.pixels table words, also for an empty rectangle.
  * Refused: 6, 7 (table), 12 (top > bottom, left > right, bottom > rows or right > columns); the sum is then 0, as that
  * of an accepted call can be: look at the answer first. */
 uint64_t mzg_rectangle(const mzg_plan *plan, size_t top, size_t left, size_t bottom, size_t right,
                        const uint64_t *table, size_t table_len, int64_t *sum);
+
+/* Counts the dropouts in a rectangle of a map, rows top to bottom - 1 and columns left to right - 1: the heights that
+ * are MZG_DROPOUT. It looks at the map as it was scanned; a table or an output no longer tells a hole from a height of
+ * 0. Total and dropouts of one rectangle do:
+ *
+ *     int64_t total;
+ *     uint64_t dropouts, pixels = (uint64_t)(bottom - top) * (right - left);
+ *     if (mzg_rectangle(&plan, top, left, bottom, right, table, table_len, &total) != MZG_ACCEPTED
+ *         || mzg_dropouts(&plan, top, left, bottom, right, map, map_len, &dropouts) != MZG_ACCEPTED)
+ *         stop_for_the_operator();
+ *     else if (dropouts == pixels)
+ *         nothing_was_seen(); // every pixel is a hole, or there is none: the total is 0 and says nothing
+ *     else
+ *         cut_by_mean((double)total / (double)(pixels - dropouts)); // the mean of the heights that were seen
+ *
+ * No more are counted than the rectangle has pixels, and 0 of an empty one; the four numbers are tested as those of
+ * mzg_rectangle. Of the plan only rows and columns count, though the whole record is tested.
+ * Needs sizes.pixels heights, also for an empty rectangle.
+ * Refused: 6, 15 (map), 12; the count is then 0, as that of an accepted call can be: look at the answer first. */
+uint64_t mzg_dropouts(const mzg_plan *plan, size_t top, size_t left, size_t bottom, size_t right,
+                      const int32_t *map, size_t map_len, uint64_t *count);
 
 /* The states of a macro variable. They are written to a state; they are no answers, no arguments and no indices. */
 enum {
@@ -216,7 +248,7 @@ enum {
  *         if (answer != MZG_ACCEPTED || states[1] == MZG_VACANT)
  *             break; // refused, or closed: the answer says which
  *         if (states[0] == MZG_TOTAL)
- *             cut_by_mean(values[0] / values[1]); // both are exact, and the quotient is rounded once
+ *             cut_by_mean(values[0] / values[1]); // exact both, rounded once; with dropouts, see mzg_dropouts
  *         else
  *             stop_for_the_operator(); // the total lies outside -2^53 to 2^53
  *     }

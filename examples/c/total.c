@@ -24,7 +24,7 @@ static const uint32_t plan_words[] = {
 };
 
 static const int32_t map[5 * 7] = {
-     3, -1,  4,  1, -5,  9,  2,
+     3, -1,  4,  1, -5, MZG_DROPOUT, 2,
      6,  5, -3,  5,  8, -9,  7,
     -9,  3,  2,  3,  8,  4, -6,
      2,  6,  4, -3,  3,  8,  3,
@@ -71,6 +71,8 @@ static void shuffle(size_t *list, size_t length)
 
 int main(void)
 {
+    const size_t map_length = sizeof map / sizeof map[0];
+
     /* The plan, and the lengths that it needs. */
     mzg_plan plan;
     mzg_sizes sizes;
@@ -100,7 +102,7 @@ int main(void)
     while (progress.ready) {
         size_t left = 0;
         for (size_t i = 0; i < waiting; i++) {
-            uint64_t answer = mzg_task(&plan, pairs[i] % 6, pairs[i] / 6, map, sizeof map / sizeof map[0],
+            uint64_t answer = mzg_task(&plan, pairs[i] % 6, pairs[i] / 6, map, map_length,
                                        marks, (size_t)sizes.marks, strips, (size_t)sizes.strips,
                                        output, (size_t)sizes.pixels);
             switch (MZG_NUMBER(answer)) {
@@ -149,6 +151,16 @@ int main(void)
             printf("rows %zu, mean %.3f\n", rows, values[0] / values[1]);
         else
             printf("rows %zu, vacant\n", rows);
+    }
+
+    /* A pixel that the laser did not see and one of height 0 have the same total: the dropouts tell them apart. */
+    uint64_t dropouts;
+    static const size_t pixels[2][2] = { { 0, 5 }, { 4, 4 } };
+    for (size_t i = 0; i < 2; i++) {
+        size_t top = pixels[i][0], left = pixels[i][1], bottom = top + 1, right = left + 1;
+        accept("rectangle", mzg_rectangle(&plan, top, left, bottom, right, output, (size_t)sizes.pixels, &total));
+        accept("dropouts", mzg_dropouts(&plan, top, left, bottom, right, map, map_length, &dropouts));
+        printf("row %zu, column %zu: total %" PRId64 ", dropouts %" PRIu64 "\n", top, left, total, dropouts);
     }
 
     /* A refused call says why: the map has 5 rows. */

@@ -33,7 +33,8 @@ pub fn start(plan: &Plan, marks: &mut [u32], strips: &mut [u64]) -> Result<(), R
     Refusal::check(unsafe { mzg_start(plan, marks.as_mut_ptr(), marks.len(), strips.as_mut_ptr(), strips.len()) })
 }
 
-/// Performs one task on one block. Needs the lengths of [`Sizes`]: `pixels` map and output words, `marks`, `strips`.
+/// Performs one task on one block; collect and finish read dropouts as 0. Needs the lengths of [`Sizes`]: `pixels` map
+/// and output words, `marks`, `strips`.
 ///
 /// # Errors
 /// 6, then 7 (marks), 14 (strips), 15 (map) and 16 (output), also where the task does not read or write that buffer;

@@ -45,9 +45,9 @@ extern "C" {
 /// Which quantity of a rectangle is wanted.
 #[derive(Clone, Copy, Debug, PartialEq, Eq)]
 pub enum Quantity {
-    /// The sum of its heights, by a summed-area table.
+    /// The sum of its heights, by a summed-area table; a dropout counts as 0.
     Total,
-    /// How many pixels it has.
+    /// How many pixels it has, dropouts among them.
     Pixels,
 }
 
@@ -152,7 +152,8 @@ pub fn value_into(
     })
 }
 
-/// Gives total and number of pixels of a rectangle, each as [`value`] does.
+/// Gives total and number of pixels of a rectangle, each as [`value`] does. Where the map has dropouts, a mean of the
+/// heights seen divides by the pixels less [`dropouts::count`](crate::dropouts::count).
 ///
 /// # Errors
 /// As [`value`].

@@ -16,7 +16,7 @@ extern "C" {
     ) -> u64;
 }
 
-/// Runs the four passes over the whole map. Map and output need rows * columns words.
+/// Runs the four passes over the whole map, with dropouts read as 0. Map and output need rows * columns words.
 ///
 /// # Errors
 /// 6, 15 (map), 16 (output).
@@ -56,9 +56,10 @@ impl Rectangle {
 }
 
 /// Gives the sum over a rectangle of a finished summed-area table: the exact sum of the heights in it, below 0 where
-/// the heights below the datum outweigh those above. On any other table it is the word that the four corners make
-/// modulo 2^64, read as signed. Of an empty rectangle it is 0, on any table and up to the map's far edges (`top` and
-/// `bottom` both the number of rows, say). The table needs rows * columns words.
+/// the heights below the datum outweigh those above. A dropout counts as 0;
+/// [`dropouts::count`](crate::dropouts::count) says how many there are. On any other table the sum is the word that the
+/// four corners make modulo 2^64, read as signed. Of an empty rectangle it is 0, on any table and up to the map's far
+/// edges (`top` and `bottom` both the number of rows, say). The table needs rows * columns words.
 ///
 /// # Errors
 /// 6, 7 (table), 12 (top > bottom, left > right, bottom > rows or right > columns).

@@ -4,7 +4,7 @@
 //!   from the paper that defines the calls, not from the library, and call nothing of it.
 //! - [`random`]: numbers, plans and maps from a seed that is printed.
 //! - [`lent`]: buffers with watched words around them. [`short`]: calls that are lent too few words.
-//! - [`rectangles`]: four numbers inside and around a small map, and tables whose corners make a word.
+//! - [`rectangles`]: four numbers inside and around a map, and tables whose corners make a word.
 //! - [`records`]: plan records as words, and damage to them.
 
 pub mod lent;

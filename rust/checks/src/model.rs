@@ -4,6 +4,7 @@
 //! from the passes over one block with words standing around it ([`Job::filter`]), strip places from one formula
 //! ([`Job::strip_place`]); nothing else knows the layout.
 
+use crate::reference;
 use mulzhegat::macros::{Macro, Quantity};
 use mulzhegat::{Pass, Plan, Progress, Refusal, Sizes, DOWN, RIGHT, UP};
 
@@ -191,7 +192,7 @@ pub fn report(plan: &Plan, marks: &[u32]) -> Result<Progress, Refusal> {
 pub fn serial(plan: &Plan, map: &[i32], output: &mut [u64]) -> Result<(), Refusal> {
     let job = Job::of(plan)?;
     job.check_lengths(&[Buffer::Map(map.len()), Buffer::Output(output.len())])?;
-    output[..job.pixels()].copy_from_slice(&crate::reference::serial(plan, map));
+    output[..job.pixels()].copy_from_slice(&reference::serial(plan, map));
     Ok(())
 }
 
@@ -200,9 +201,7 @@ pub fn rectangle(plan: &Plan, rectangle: [usize; 4], table: &[u64]) -> Result<i6
     let [top, left, bottom, right] = rectangle;
     let job = Job::of(plan)?;
     job.check_lengths(&[Buffer::Table(table.len())])?;
-    if top > bottom || left > right || bottom > job.rows || right > job.columns {
-        return Err(Refusal::RectangleOutside);
-    }
+    job.check_rectangle(rectangle)?;
     if top == bottom || left == right {
         return Ok(0);
     }
@@ -226,6 +225,14 @@ pub fn macro_value(plan: &Plan, quantity: Quantity, corners: [usize; 4], table: 
         Quantity::Total => Macro::Total(sum as f64),
         Quantity::Pixels => Macro::Pixels(((bottom - top) * (right - left)) as f64),
     })
+}
+
+/// Counts the dropouts in a rectangle of the map.
+pub fn dropouts(plan: &Plan, rectangle: [usize; 4], map: &[i32]) -> Result<u64, Refusal> {
+    let job = Job::of(plan)?;
+    job.check_lengths(&[Buffer::Map(map.len())])?;
+    job.check_rectangle(rectangle)?;
+    Ok(reference::dropouts(map, job.columns, rectangle))
 }
 
 /// The mark of a block of which nothing is done.
@@ -330,6 +337,14 @@ impl<'a> Job<'a> {
             if length < needed {
                 return Err(refusal);
             }
+        }
+        Ok(())
+    }
+
+    /// Refusal 12 of four numbers that are no rectangle of the map.
+    fn check_rectangle(&self, [top, left, bottom, right]: [usize; 4]) -> Result<(), Refusal> {
+        if top > bottom || left > right || bottom > self.rows || right > self.columns {
+            return Err(Refusal::RectangleOutside);
         }
         Ok(())
     }
@@ -492,13 +507,16 @@ impl<'a> Job<'a> {
         }
     }
 
-    fn heights(&self, block: &Block, map: &[i32]) -> Vec<u64> {
+    /// The pixels of a block, as the passes read them.
+    fn readings(&self, block: &Block, map: &[i32]) -> Vec<u64> {
         let row = |row: usize| &map[(block.top + row) * self.columns + block.left..][..block.width];
-        (0..block.height).flat_map(|number| row(number).iter().map(|&height| i64::from(height) as u64)).collect()
+        (0..block.height)
+            .flat_map(|number| row(number).iter().map(|&height| reference::reading(height) as u64))
+            .collect()
     }
 
     fn collect(&self, block: &Block, map: &[i32], strips: &mut [u64]) {
-        let alone = self.filter(block, self.heights(block, map), |_, _, _| 0);
+        let alone = self.filter(block, self.readings(block, map), |_, _, _| 0);
         for (pass, result) in alone.iter().enumerate() {
             self.write_strip(block, pass, strips, |pixel, _, _| result[pixel]);
         }
@@ -511,7 +529,7 @@ impl<'a> Job<'a> {
     }
 
     fn finish(&self, block: &Block, map: &[i32], strips: &[u64], output: &mut [u64]) {
-        let [.., last] = self.filter(block, self.heights(block, map), self.strips_around(block, 4, strips));
+        let [.., last] = self.filter(block, self.readings(block, map), self.strips_around(block, 4, strips));
         for row in 0..block.height {
             output[(block.top + row) * self.columns + block.left..][..block.width]
                 .copy_from_slice(&last[row * block.width..][..block.width]);
@@ -575,6 +593,21 @@ mod tests {
         assert_eq!(rectangle(&plan, [0, 0, 3, 3], &output), Err(Refusal::RectangleOutside));
         let (_, _, output) = whole_job(&plan, &[1, -2, 3, -4, 5, -6]);
         assert_eq!(rectangle(&plan, [1, 0, 2, 3], &output), Ok(-5));
+    }
+
+    #[test]
+    fn a_hole_in_the_same_map_worked_out_by_hand() {
+        let (plan, map) = (Plan::summed(2, 3, 2), [1, -2147483648, 3, 4, 5, 6]);
+        let (_, strips, output) = whole_job(&plan, &map);
+        assert_eq!(output, [1, 1, 4, 5, 10, 19]);
+        assert_eq!(strips, [0, 0, 1, 10, 0, 0, 0, 0]);
+        assert_eq!(rectangle(&plan, [0, 1, 1, 3], &output), Ok(3));
+        assert_eq!(dropouts(&plan, [0, 1, 1, 3], &map), Ok(1));
+        assert_eq!(dropouts(&plan, [1, 0, 2, 3], &map), Ok(0));
+        assert_eq!(dropouts(&plan, [0, 1, 0, 2], &map), Ok(0));
+        assert_eq!(dropouts(&plan, [0, 1, 3, 2], &map), Err(Refusal::RectangleOutside));
+        assert_eq!(dropouts(&plan, [0, 1, 3, 2], &map[1..]), Err(Refusal::MapTooShort));
+        assert_eq!(dropouts(&Plan { side: 0, ..plan }, [0, 1, 3, 2], &map[1..]), Err(Refusal::RecordBreaksRule));
     }
 
     #[test]

@@ -1,8 +1,9 @@
 //! Random numbers, plans and maps for tests and benchmarks, the same for one seed on every machine.
 
 use crate::model::ORDER_LIMIT;
+use crate::reference::DROPOUT;
 use mulzhegat::{Pass, Plan, DOWN, UP};
-use std::{io::Write, sync::Once};
+use std::{io::Write, iter::repeat_with, sync::Once};
 
 /// The seed of a default run.
 pub const DEFAULT_SEED: u64 = 20240229;
@@ -94,18 +95,32 @@ impl Random {
         self.plan(rows, columns, side, orders)
     }
 
-    /// A height: small, at an end, or any.
+    /// A height that is no dropout: small, at an end, or any.
     pub fn height(&mut self) -> i32 {
         match self.below(4) {
             0 => self.between(0, 20) as i32 - 10,
-            1 => self.pick(&[i32::MIN, i32::MIN + 1, i32::MAX]),
-            _ => self.word() as i32,
+            1 => self.pick(&[-i32::MAX, i32::MAX]),
+            _ => (self.word() as i32).max(-i32::MAX),
         }
     }
 
-    /// Heights of a map.
+    /// A source of the heights of one map, of which none, some or all are dropouts.
+    pub fn heights_of_a_map(&mut self) -> impl FnMut() -> i32 + '_ {
+        // So many of eight: often none, now and then all.
+        let dropouts = self.pick(&[0, 0, 0, 1, 1, 2, 4, 8]);
+        move || if self.below(8) < dropouts { DROPOUT } else { self.height() }
+    }
+
+    /// Heights of a map, of which none, some or all are dropouts.
     pub fn heights(&mut self, length: usize) -> Vec<i32> {
-        (0..length).map(|_| self.height()).collect()
+        repeat_with(self.heights_of_a_map()).take(length).collect()
+    }
+
+    /// Heights of a map, and the same with 0 in the place of each dropout.
+    pub fn holes_and_zeros(&mut self, length: usize) -> [Vec<i32>; 2] {
+        let holes = self.heights(length);
+        let zeros = holes.iter().map(|&height| if height == DROPOUT { 0 } else { height }).collect();
+        [holes, zeros]
     }
 
     /// A rectangle of a map of this size, which may be empty: top, left, bottom, right.
@@ -152,6 +167,28 @@ impl Reached {
     /// Every order that a block can be shorter than, 2 and up, stood in every pass with such a last block.
     pub fn expect_all_short_blocks(&self) {
         assert!(self.with_short_blocks.iter().flat_map(|times| &times[2..]).all(|&times| times > 0), "{self:?}");
+    }
+}
+
+/// How many maps had no dropout, some, and nothing else.
+#[derive(Debug, Default)]
+pub struct MapsSeen([usize; 3]);
+
+impl MapsSeen {
+    /// Counts a map.
+    pub fn note(&mut self, map: &[i32]) {
+        let has = |dropout: bool| map.iter().any(|&height| (height == DROPOUT) == dropout);
+        let kind = match (has(true), has(false)) {
+            (false, _) => 0,
+            (true, true) => 1,
+            (true, false) => 2,
+        };
+        self.0[kind] += 1;
+    }
+
+    /// Each of the three kinds came up so many times at least.
+    pub fn expect_each(&self, times: usize) {
+        assert!(self.0.iter().all(|&seen| seen >= times), "{self:?}");
     }
 }
 

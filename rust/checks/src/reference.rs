@@ -4,6 +4,17 @@
 
 use mulzhegat::{Pass, Plan, DOWN, LEFT, RIGHT, UP};
 
+/// What the head writes where the beam gets no return, from the paper and not from the crate.
+pub const DROPOUT: i32 = -2147483648;
+
+/// The reading of one pixel: 0 for a dropout, and the height otherwise.
+pub fn reading(height: i32) -> i64 {
+    match height {
+        DROPOUT => 0,
+        _ => i64::from(height),
+    }
+}
+
 /// One output: the gain times the input, less each coefficient times the output that many steps back. `earlier` gives
 /// the output `steps` back, or none outside the map, where it counts as 0.
 fn output(pass: &Pass, input: u64, earlier: impl Fn(usize) -> Option<u64>) -> u64 {
@@ -55,10 +66,10 @@ pub fn left(pass: &Pass, words: &mut [u64], rows: usize, columns: usize) {
     }
 }
 
-/// The results of down, up, right and left, each run on the one before; the first on the heights modulo 2^64.
+/// The results of down, up, right and left, each run on the one before; the first on the readings modulo 2^64.
 pub fn results(plan: &Plan, map: &[i32]) -> [Vec<u64>; 4] {
     let (rows, columns) = (plan.rows as usize, plan.columns as usize);
-    let mut words: Vec<u64> = map[..rows * columns].iter().map(|&height| i64::from(height) as u64).collect();
+    let mut words: Vec<u64> = map[..rows * columns].iter().map(|&height| reading(height) as u64).collect();
     down(&plan.passes[DOWN], &mut words, rows, columns);
     let after_down = words.clone();
     up(&plan.passes[UP], &mut words, rows, columns);
@@ -75,10 +86,20 @@ pub fn serial(plan: &Plan, map: &[i32]) -> Vec<u64> {
     last
 }
 
-/// The heights in a rectangle (top, left, bottom, right) added one by one, in numbers that cannot wrap.
-pub fn total(map: &[i32], columns: usize, rectangle: [usize; 4]) -> i128 {
+/// The heights in a rectangle (top, left, bottom, right), row by row.
+fn heights_in(map: &[i32], columns: usize, rectangle: [usize; 4]) -> impl Iterator<Item = i32> + '_ {
     let [top, left, bottom, right] = rectangle;
-    (top..bottom).flat_map(|row| &map[row * columns..][left..right]).map(|&height| i128::from(height)).sum()
+    (top..bottom).flat_map(move |row| &map[row * columns..][left..right]).copied()
+}
+
+/// The readings in a rectangle added one by one, in numbers that cannot wrap.
+pub fn total(map: &[i32], columns: usize, rectangle: [usize; 4]) -> i128 {
+    heights_in(map, columns, rectangle).map(|height| i128::from(reading(height))).sum()
+}
+
+/// The dropouts in a rectangle, counted one by one.
+pub fn dropouts(map: &[i32], columns: usize, rectangle: [usize; 4]) -> u64 {
+    heights_in(map, columns, rectangle).filter(|&height| height == DROPOUT).count() as u64
 }
 
 #[cfg(test)]
@@ -98,7 +119,17 @@ mod tests {
         let large = Plan { passes: [Pass::new(65536, &[]); 4], ..Plan::plain(1, 1, 1) };
         assert_eq!(serial(&large, &[1]), [0]);
         let ends = Plan::plain(1, 1, 1).with(UP, -134217728, &[]);
-        assert_eq!(serial(&ends, &[-2147483648]), [288230376151711744]);
+        assert_eq!(serial(&ends, &[-2147483648]), [0]);
+        assert_eq!(serial(&ends, &[-2147483647]), [288230376017494016]);
+    }
+
+    #[test]
+    fn a_map_with_two_holes_worked_out_by_hand() {
+        let map = [1, -2147483648, 3, -4, 5, -2147483648];
+        assert_eq!(serial(&Plan::summed(2, 3, 2), &map), [1, 1, 4, -3i64 as u64, 2, 5]);
+        assert_eq!((total(&map, 3, [0, 0, 2, 3]), dropouts(&map, 3, [0, 0, 2, 3])), (5, 2));
+        assert_eq!((total(&map, 3, [0, 1, 1, 3]), dropouts(&map, 3, [0, 1, 1, 3])), (3, 1));
+        assert_eq!((total(&map, 3, [1, 0, 2, 2]), dropouts(&map, 3, [1, 0, 2, 2])), (1, 0));
     }
 
     #[test]

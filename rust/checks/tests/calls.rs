@@ -3,7 +3,7 @@
 //! the program reads.
 
 use checks::model::{self, Job};
-use checks::random::{self, Random, Reached};
+use checks::random::{self, MapsSeen, Random, Reached};
 use mulzhegat::{Plan, Refusal};
 use std::env;
 use std::io::Write;
@@ -117,12 +117,14 @@ fn refused_plans_print_one_line() {
 #[test]
 fn random_lists_with_early_repeated_and_foreign_calls() {
     let mut random = random::of_test("random_lists_with_early_repeated_and_foreign_calls");
-    let (mut accepted, mut seen, mut whole_jobs, mut reached) = (0, [0; 13], 0, Reached::default());
+    let (mut accepted, mut seen, mut whole_jobs) = (0, [0; 13], 0);
+    let (mut reached, mut maps) = (Reached::default(), MapsSeen::default());
     for _ in 0..400 * random::rounds() {
         let plan = random.small_plan(MOST_PIXELS);
         reached.note(&plan);
         let job = Job::of(&plan).unwrap();
         let map = random.heights(job.pixels());
+        maps.note(&map);
         let calls = list_of_calls(&job, &mut random);
         let (text, answers) = expected(&plan, &map, &calls);
         let mut words = words_of(&plan, &map, &calls);
@@ -139,4 +141,5 @@ fn random_lists_with_early_repeated_and_foreign_calls() {
     assert!(accepted > 2_000 && whole_jobs > 50, "{accepted} accepted, {whole_jobs} whole jobs");
     assert!([8, 10, 11].iter().all(|&number| seen[number] > 3_000), "refused by number: {seen:?}");
     reached.expect_all_orders();
+    maps.expect_each(20);
 }

@@ -41,6 +41,19 @@ double mean_of(const mzg_plan *plan, const uint64_t *table)
     return values[0] / values[1];
 }
 
+/* A dropout is the least height, and is compared with one without a cast; a count of them is unsigned. */
+CLAIM(dropout_is_the_least_height, MZG_DROPOUT == INT32_MIN && sizeof(MZG_DROPOUT) == sizeof(int32_t));
+
+uint64_t pixels_seen(const mzg_plan *plan, const int32_t *map);
+
+uint64_t pixels_seen(const mzg_plan *plan, const int32_t *map)
+{
+    uint64_t count;
+    if (map[0] == MZG_DROPOUT || mzg_dropouts(plan, 0, 0, 1, 1, map, 1, &count) != MZG_ACCEPTED)
+        return 0;
+    return 1 - count;
+}
+
 /* Answers are compared with the constants, and taken apart, without a cast. */
 uint64_t block_of_a_broken_mark(uint64_t answer);
 

@@ -2,11 +2,10 @@
 
 use checks::lent::Lent;
 use checks::model::{self, Job, NOTHING_DONE};
-use checks::random::{self, Random, Reached};
+use checks::random::{self, MapsSeen, Random, Reached};
 use checks::records::{all_orders, broken_record};
-use checks::reference;
 use checks::short::ShortBuffers;
-use mulzhegat::serial::Rectangle;
+use checks::{rectangles, reference};
 use mulzhegat::{job, plan, serial, Pass, Plan, Progress, Refusal, DOWN, LEFT, RIGHT, UP};
 
 /// The three buffers that calls may write, with the words around them.
@@ -34,13 +33,20 @@ impl<'a> Trial<'a> {
         let job = Job::of(plan).expect("the plan keeps the rules");
         let lengths = [job.pixels(), job.marks(), job.strips(), job.pixels()];
         let [map, marks, strips, output] = lengths.map(|length| length + random.pick(&[0, 0, 1, 2, 7]));
-        let map = Lent::new(map, || random.height());
+        let map = Lent::new(map, random.heights_of_a_map());
         let library = Buffers {
             marks: Lent::new(marks, || random.word() as u32),
             strips: Lent::new(strips, || random.word()),
             output: Lent::new(output, || random.word()),
         };
         Trial { plan, job, map_before: map.clone(), map, model: library.clone(), library, calls: 0 }
+    }
+
+    /// The same job on another map.
+    fn on(mut self, map: &[i32]) -> Trial<'a> {
+        self.map = Lent::of(map, || 0);
+        self.map_before = self.map.clone();
+        self
     }
 
     fn start(&mut self) {
@@ -263,7 +269,8 @@ fn example_single_heights_as_jobs() {
     assert_eq!(perform_what_the_report_names(&gains([1; 4]), &[-1]).1, [18446744073709551615]);
     assert_eq!(perform_what_the_report_names(&gains([65536; 4]), &[1]).1, [0]);
     let least = gains([1, 1, -134217728, 1]);
-    assert_eq!(perform_what_the_report_names(&least, &[-2147483648]).1, [288230376151711744]);
+    assert_eq!(perform_what_the_report_names(&least, &[-2147483648]).1, [0]);
+    assert_eq!(perform_what_the_report_names(&least, &[-2147483647]).1, [288230376017494016]);
 }
 
 #[test]
@@ -330,9 +337,7 @@ fn wrong_turn_of_running_into_rows_past_the_map() {
     // The strip of block 1 holds the one row that it has, -24 and not -120, and 0 for the row past the map.
     let plan = Plan::plain(3, 1, 2).with(DOWN, 6, &[2]).with(UP, -1, &[2, 0]);
     let mut random = Random::new(3);
-    let mut trial = Trial::new(&plan, &mut random);
-    trial.map = Lent::of(&[1, 0, 0], || 0);
-    trial.map_before = trial.map.clone();
+    let mut trial = Trial::new(&plan, &mut random).on(&[1, 0, 0]);
     trial.start();
     for (task, block) in [(0, 1), (0, 0), (1, 0), (2, 1)] {
         assert_eq!(trial.perform(task, block), Ok(()));
@@ -362,11 +367,12 @@ fn start_sets_the_needed_words_and_no_others() {
 #[test]
 fn random_jobs_with_early_repeated_and_foreign_calls() {
     let mut random = random::of_test("random_jobs_with_early_repeated_and_foreign_calls");
-    let (mut calls, mut seen, mut reached) = (0, [0usize; 13], Reached::default());
+    let (mut calls, mut seen, mut reached, mut maps) = (0, [0usize; 13], Reached::default(), MapsSeen::default());
     for _ in 0..2_000 * random::rounds() {
         let plan = random.small_plan(400);
         reached.note(&plan);
         let mut trial = Trial::new(&plan, &mut random);
+        maps.note(trial.map.get());
         let output_before = trial.library.output.clone();
         perform_in_random_order(&mut trial, &mut random, usize::MAX, |trial, random| {
             trial.compare();
@@ -396,6 +402,7 @@ fn random_jobs_with_early_repeated_and_foreign_calls() {
     assert!([0, 8, 10, 11].iter().all(|&number| seen[number] > 100), "answers seen: {seen:?}");
     reached.expect_all_orders();
     reached.expect_all_short_blocks();
+    maps.expect_each(100);
 }
 
 #[test]
@@ -419,6 +426,27 @@ fn broken_off_jobs_leave_unfinished_blocks_untouched() {
         let done = done_by(&trial);
         check_the_list(&mut trial, &done, &output_before);
     }
+}
+
+#[test]
+fn dropouts_replaced_by_0_change_no_word_of_a_job() {
+    let mut random = random::of_test("dropouts_replaced_by_0_change_no_word_of_a_job");
+    let mut maps = MapsSeen::default();
+    for _ in 0..500 * random::rounds() {
+        let plan = random.small_plan(400);
+        let [holes, zeros] = random.holes_and_zeros(Job::of(&plan).unwrap().pixels());
+        maps.note(&holes);
+        // The same buffers and the same calls, up to a task after which the job is broken off.
+        let (seed, limit) = (random.word(), random.between(1, plan::sizes(&plan).unwrap().tasks as usize));
+        let buffers_of = |map: &[i32]| {
+            let mut random = Random::new(seed);
+            let mut trial = Trial::new(&plan, &mut random).on(map);
+            perform_in_random_order(&mut trial, &mut random, limit, |_, _| ());
+            trial.library
+        };
+        assert!(buffers_of(&holes) == buffers_of(&zeros), "the buffers differ for {plan:?} on {holes:?}");
+    }
+    maps.expect_each(20);
 }
 
 #[test]
@@ -462,11 +490,12 @@ fn lists_of_calls_do_what_the_table_of_needs_says() {
 fn tasks_on_any_strips_and_marks() {
     // Strips of any words, also in the places that are read as 0, and any marks: finish uses strips true or not.
     let mut random = random::of_test("tasks_on_any_strips_and_marks");
-    let (mut accepted, mut reached) = ([0usize; 6], Reached::default());
+    let (mut accepted, mut reached, mut maps) = ([0usize; 6], Reached::default(), MapsSeen::default());
     for _ in 0..6_000 * random::rounds() {
         let plan = random.small_plan(300);
         reached.note(&plan);
         let mut trial = Trial::new(&plan, &mut random);
+        maps.note(trial.map.get());
         let all_done: Vec<u32> = trial.job.blocks().map(|block| tasks_of(&trial.job, block.number)).collect();
         for (block, may) in all_done.iter().enumerate() {
             let mark = NOTHING_DONE | may & if random.once_in(4) { random.word() as u32 } else { 0x3F };
@@ -485,6 +514,7 @@ fn tasks_on_any_strips_and_marks() {
     assert!(accepted.iter().all(|&times| times > 500), "accepted: {accepted:?}");
     reached.expect_all_orders();
     reached.expect_all_short_blocks();
+    maps.expect_each(300);
 }
 
 /// The bits of all tasks that a block has.
@@ -597,17 +627,20 @@ fn whole_job_in_random_order(plan: &Plan, random: &mut Random) {
 #[test]
 fn totals_on_the_tables_of_jobs_are_sums_of_heights() {
     let mut random = random::of_test("totals_on_the_tables_of_jobs_are_sums_of_heights");
+    let mut maps = MapsSeen::default();
     for _ in 0..100 * random::rounds() {
         let (rows, columns) = (random.between(1, 20), random.between(1, 20));
         let plan = Plan::summed(rows, columns, random.between(1, 32));
         let map = random.heights(rows * columns);
+        maps.note(&map);
         let (_, table) = perform_what_the_report_names(&plan, &map);
         for _ in 0..20 {
-            let [top, left, bottom, right] = random.rectangle(rows, columns);
-            let sum = serial::rectangle(&plan, Rectangle::new(top, left, bottom, right), &table).map(i128::from);
-            assert_eq!(sum, Ok(reference::total(&map, columns, [top, left, bottom, right])));
+            let corners = random.rectangle(rows, columns);
+            let sum = serial::rectangle(&plan, rectangles::of(corners), &table).map(i128::from);
+            assert_eq!(sum, Ok(reference::total(&map, columns, corners)));
         }
     }
+    maps.expect_each(8);
 }
 
 #[test]

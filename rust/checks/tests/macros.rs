@@ -1,12 +1,11 @@
 //! Macro variables: the library against the model, totals and pixel counts compared by the bits of their floats.
 
 use checks::lent::Lent;
-use checks::random::{self, Random};
+use checks::random::{self, MapsSeen};
 use checks::records::broken_record;
 use checks::short::ShortBuffers;
-use checks::{model, rectangles, reference, serial_output};
+use checks::{model, rectangles, reference, reference::DROPOUT, serial_output};
 use mulzhegat::macros::{self, Macro, MacroPair, MacroWords, Quantity};
-use mulzhegat::serial::Rectangle;
 use mulzhegat::{Plan, Refusal};
 
 const QUANTITIES: [Quantity; 2] = [Quantity::Total, Quantity::Pixels];
@@ -25,27 +24,23 @@ fn bits(variable: Macro) -> Bits {
     }
 }
 
-fn rectangle([top, left, bottom, right]: [usize; 4]) -> Rectangle {
-    Rectangle::new(top, left, bottom, right)
-}
-
 /// The library's quantity of a rectangle. Beside a refusal it is to be vacant, with no bit of its float set.
 fn library(plan: &Plan, quantity: Quantity, corners: [usize; 4], table: &[u64]) -> Result<Bits, Refusal> {
     let mut words = UNWRITTEN;
-    let answer = macros::value_into(plan, quantity, rectangle(corners), table, &mut words);
+    let answer = macros::value_into(plan, quantity, rectangles::of(corners), table, &mut words);
     let written = (words.state, words.value.to_bits());
     assert!(answer.is_ok() || written == (0, 0), "{words:?} beside {answer:?}");
-    assert_eq!(macros::value(plan, quantity, rectangle(corners), table).map(bits), answer.map(|()| written));
+    assert_eq!(macros::value(plan, quantity, rectangles::of(corners), table).map(bits), answer.map(|()| written));
     answer.map(|()| written)
 }
 
 /// The library's pair, total first, under the same conditions.
 fn library_pair(plan: &Plan, corners: [usize; 4], table: &[u64]) -> Result<[Bits; 2], Refusal> {
     let mut words = [UNWRITTEN; 2];
-    let answer = macros::pair_into(plan, rectangle(corners), table, &mut words);
+    let answer = macros::pair_into(plan, rectangles::of(corners), table, &mut words);
     let written = words.map(|words| (words.state, words.value.to_bits()));
     assert!(answer.is_ok() || written == [(0, 0); 2], "{words:?} beside {answer:?}");
-    let read = macros::pair(plan, rectangle(corners), table);
+    let read = macros::pair(plan, rectangles::of(corners), table);
     assert_eq!(read.map(|MacroPair { total, pixels }| [total, pixels].map(bits)), answer.map(|()| written));
     answer.map(|()| written)
 }
@@ -158,8 +153,10 @@ fn random_totals_are_exact_or_vacant() {
 #[test]
 fn quantities_of_all_rectangles_of_small_maps() {
     let mut random = random::of_test("quantities_of_all_rectangles_of_small_maps");
-    for (rows, columns) in rectangles::pairs(1..=4) {
+    let mut maps = MapsSeen::default();
+    for (rows, columns) in (0..8).flat_map(|_| rectangles::pairs(1..=4)) {
         let (plan, map) = (Plan::summed(rows, columns, 2), random.heights(rows * columns));
+        maps.note(&map);
         let table = serial_output(&plan, &map);
         for corners in rectangles::around(rows, columns) {
             let answer = read_and_compare(&plan, corners, &table);
@@ -175,6 +172,7 @@ fn quantities_of_all_rectangles_of_small_maps() {
             }
         }
     }
+    maps.expect_each(8);
 }
 
 /// On any words, not only summed-area tables, and beside any plan.
@@ -201,12 +199,12 @@ fn random_rectangles_of_any_tables() {
 }
 
 /// Rectangles of the largest map, up to 2^24 pixels, with all heights the least and all the greatest. Of both, totals
-/// of up to 2^22 pixels are given, and those of more pixels are vacant.
+/// of up to 2^22 pixels are given, and those of more pixels are vacant. With dropouts alone the total is 0.
 #[test]
 fn totals_and_pixel_counts_of_the_largest_map() {
     let plan = Plan::summed(4096, 4096, 32);
     let mut random = random::of_test("totals_and_pixel_counts_of_the_largest_map");
-    for (height, largest) in [(i32::MIN, -9007199254740992.0), (i32::MAX, 9007199250546688.0)] {
+    for (height, largest) in [(-2147483647, -9007199250546688.0), (2147483647, 9007199250546688.0)] {
         let table = serial_output(&plan, &vec![height; 1 << 24]);
         assert_eq!(read_and_compare(&plan, [0, 0, 4096, 1024], &table), Ok([total(largest), pixels(4194304.0)]));
         assert_eq!(read_and_compare(&plan, [0, 0, 4096, 1025], &table), Ok([VACANT, pixels(4198400.0)]));
@@ -222,6 +220,8 @@ fn totals_and_pixel_counts_of_the_largest_map() {
             assert_eq!(f64::from_bits(pixels.1) as i64, count);
         }
     }
+    let table = serial_output(&plan, &vec![DROPOUT; 1 << 24]);
+    assert_eq!(read_and_compare(&plan, [0, 0, 4096, 4096], &table), Ok([total(0.0), pixels(16777216.0)]));
 }
 
 #[test]
@@ -234,7 +234,7 @@ fn macro_variables_refuse_6_then_7_then_12_with_vacant_beside() {
         let (rows, columns) = (plan.rows as usize, plan.columns as usize);
         let table = Lent::new(rows * columns, || random.word());
         let lend = |[length]: [usize; 1]| table.shortened(length);
-        for corners in refusal_corners(&mut random, rows, columns) {
+        for corners in rectangles::some_refused(&mut random, rows, columns) {
             for quantity in QUANTITIES {
                 let calls = [library, modelled]
                     .map(|read| move |plan: &Plan, table: &mut Lent<u64>| read(plan, quantity, corners, table.get()));
@@ -247,10 +247,4 @@ fn macro_variables_refuse_6_then_7_then_12_with_vacant_beside() {
     }
     one.expect_all(1, &[0, 12]);
     pair.expect_all(1, &[0, 12]);
-}
-
-/// A rectangle of the map, an empty one, one with crossed edges, one past the map, and one of huge numbers.
-fn refusal_corners(random: &mut Random, rows: usize, columns: usize) -> [[usize; 4]; 5] {
-    let huge = random.pick(&[usize::MAX, 1 << 63, (1 << 32) + 1]);
-    [random.rectangle(rows, columns), [1, 0, 1, 1], [1, 0, 0, 1], [0, 0, rows + 1, columns], [0, 0, 1, huge]]
 }

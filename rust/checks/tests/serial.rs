@@ -1,7 +1,7 @@
 //! The serial passes and the rectangle sum: the examples of the paper, and the library against the second program.
 
 use checks::lent::Lent;
-use checks::random::{self, Random, Reached};
+use checks::random::{self, MapsSeen, Random, Reached};
 use checks::records::{all_orders, broken_record};
 use checks::short::ShortBuffers;
 use checks::{model, rectangles, reference, serial_output};
@@ -74,20 +74,19 @@ fn example_four_gains_of_65536() {
 }
 
 #[test]
-fn example_least_height_and_least_gain() {
+fn example_dropout_and_least_height_with_the_least_gain() {
     for pass in [DOWN, UP, RIGHT, LEFT] {
-        assert_eq!(
-            serial_output(&Plan::plain(1, 1, 1).with(pass, -134217728, &[]), &[-2147483648]),
-            [288230376151711744]
-        );
+        let plan = Plan::plain(1, 1, 1).with(pass, -134217728, &[]);
+        assert_eq!(serial_output(&plan, &[-2147483648]), [0]);
+        assert_eq!(serial_output(&plan, &[-2147483647]), [288230376017494016]);
     }
 }
 
-/// Runs a plan over random heights, with words around the buffers and past the needed lengths watched.
-fn run_and_compare(plan: &Plan, random: &mut Random) {
+/// Runs a plan over random heights, with words around the buffers and past the needed lengths watched; gives the map.
+fn run_and_compare(plan: &Plan, random: &mut Random) -> Lent<i32> {
     let pixels = (plan.rows * plan.columns) as usize;
     let spare = random.below(3);
-    let map = Lent::new(pixels + spare, || random.height());
+    let map = Lent::new(pixels + spare, random.heights_of_a_map());
     let spare = random.below(3);
     let mut library = Lent::new(pixels + spare, || random.word());
     let (mut modelled, map_before) = (library.clone(), map.clone());
@@ -95,18 +94,20 @@ fn run_and_compare(plan: &Plan, random: &mut Random) {
     modelled.get_mut()[..pixels].copy_from_slice(&reference::serial(plan, map.get()));
     assert!(library == modelled, "the output differs for {plan:?}");
     assert!(map == map_before, "the map changed for {plan:?}");
+    map
 }
 
 #[test]
 fn random_maps_against_the_second_program() {
     let mut random = random::of_test("random_maps_against_the_second_program");
-    let mut reached = Reached::default();
+    let (mut reached, mut maps) = (Reached::default(), MapsSeen::default());
     for _ in 0..4_000 * random::rounds() {
         let plan = random.small_plan(600);
         reached.note(&plan);
-        run_and_compare(&plan, &mut random);
+        maps.note(run_and_compare(&plan, &mut random).get());
     }
     reached.expect_all_orders();
+    maps.expect_each(300);
 }
 
 #[test]
@@ -150,7 +151,7 @@ fn every_set_of_short_buffers_refuses_the_serial_passes_by_15_then_16() {
         let plan = random.small_plan(100);
         let broken = broken_record(&mut random, &plan);
         let pixels = (plan.rows * plan.columns) as usize;
-        let map = Lent::new(pixels, || random.height());
+        let map = Lent::new(pixels, random.heights_of_a_map());
         let output = Lent::new(pixels, || random.word());
         let lend = |lengths: [usize; 2]| (map.shortened(lengths[0]), output.shortened(lengths[1]));
         let calls = [serial::run, model::serial].map(|run| {
@@ -162,9 +163,9 @@ fn every_set_of_short_buffers_refuses_the_serial_passes_by_15_then_16() {
 }
 
 /// The library's sum over a rectangle, which is 0 beside a refusal.
-fn sum(plan: &Plan, [top, left, bottom, right]: [usize; 4], table: &[u64]) -> Result<i64, Refusal> {
+fn sum(plan: &Plan, corners: [usize; 4], table: &[u64]) -> Result<i64, Refusal> {
     let mut sum = 0x7777;
-    let answer = serial::rectangle_into(plan, Rectangle::new(top, left, bottom, right), table, &mut sum);
+    let answer = serial::rectangle_into(plan, rectangles::of(corners), table, &mut sum);
     assert!(answer.is_ok() || sum == 0, "{sum} beside {answer:?}");
     answer.map(|()| sum)
 }
@@ -176,30 +177,10 @@ fn sum_and_compare(plan: &Plan, corners: [usize; 4], table: &[u64]) -> Result<i6
     expected
 }
 
-/// Every top, left, bottom and right from 0 to two past the size, on maps of 1 to 4 rows and columns: the rectangles of
-/// the map are to be accepted and no others, and of these the empty ones are to give 0. `prepare` makes what belongs to
-/// a map of so many rows and columns, and `answer` says what four numbers of it gave.
-fn all_rectangles_of_small_maps<T>(
-    mut prepare: impl FnMut(usize, usize) -> T,
-    answer: impl Fn(&T, [usize; 4]) -> Result<i64, Refusal>,
-) {
-    for (rows, columns) in rectangles::pairs(1..=4) {
-        let map = prepare(rows, columns);
-        for corners in rectangles::around(rows, columns) {
-            let inside = rectangles::is_inside(corners, rows, columns);
-            let fits = match answer(&map, corners) {
-                Ok(sum) => inside && (sum == 0 || !rectangles::is_empty(corners)),
-                Err(refusal) => !inside && refusal == Refusal::RectangleOutside,
-            };
-            assert!(fits, "{corners:?} of {rows} by {columns}");
-        }
-    }
-}
-
 #[test]
 fn all_rectangles_of_small_tables() {
     let mut random = random::of_test("all_rectangles_of_small_tables");
-    all_rectangles_of_small_maps(
+    rectangles::all_of_small_maps(
         |rows, columns| (random.plan(rows, columns, 4, [1, 0, 2, 4]), random.words(rows * columns + 1)),
         |(plan, table), corners| sum_and_compare(plan, corners, table),
     );
@@ -207,30 +188,35 @@ fn all_rectangles_of_small_tables() {
 
 #[test]
 fn all_rectangles_of_small_summed_maps() {
-    let mut random = random::of_test("all_rectangles_of_small_summed_maps");
-    all_rectangles_of_small_maps(
-        |rows, columns| {
-            let (plan, map) = (Plan::summed(rows, columns, 2), random.heights(rows * columns));
-            let table = serial_output(&plan, &map);
-            (plan, map, table)
-        },
-        |(plan, map, table), corners| {
-            let sum = sum_and_compare(plan, corners, table)?;
-            let added = reference::total(map, plan.columns as usize, corners);
-            assert_eq!(i128::from(sum), added, "{corners:?} of {map:?}");
-            Ok(sum)
-        },
-    );
+    let (mut random, mut maps) = (random::of_test("all_rectangles_of_small_summed_maps"), MapsSeen::default());
+    for _ in 0..8 {
+        rectangles::all_of_small_maps(
+            |rows, columns| {
+                let (plan, map) = (Plan::summed(rows, columns, 2), random.heights(rows * columns));
+                maps.note(&map);
+                let table = serial_output(&plan, &map);
+                (plan, map, table)
+            },
+            |(plan, map, table), corners| {
+                let sum = sum_and_compare(plan, corners, table)?;
+                let added = reference::total(map, plan.columns as usize, corners);
+                assert_eq!(i128::from(sum), added, "{corners:?} of {map:?}");
+                Ok(sum)
+            },
+        );
+    }
+    maps.expect_each(8);
 }
 
 #[test]
 fn rectangles_of_summed_tables_are_sums_of_heights() {
     let mut random = random::of_test("rectangles_of_summed_tables_are_sums_of_heights");
-    let (mut below, mut above, mut empty) = (0, 0, 0);
+    let (mut below, mut above, mut empty, mut maps) = (0, 0, 0, MapsSeen::default());
     for _ in 0..300 * random::rounds() {
         let (rows, columns) = (random.between(1, 40), random.between(1, 40));
         let plan = Plan::summed(rows, columns, random.between(1, 32));
         let map = random.heights(rows * columns);
+        maps.note(&map);
         let table = serial_output(&plan, &map);
         for _ in 0..20 {
             let corners = random.rectangle(rows, columns);
@@ -245,21 +231,23 @@ fn rectangles_of_summed_tables_are_sums_of_heights() {
         below > 1_000 && above > 1_000 && empty > 500,
         "{below} sums below 0, {above} above, {empty} of empty rectangles"
     );
+    maps.expect_each(20);
 }
 
-/// All heights the least, all the greatest: no allowed map has a lower or a higher total.
+/// All heights the least, all the greatest: no allowed map has a lower or a higher total. With dropouts alone it is 0.
 #[test]
 fn totals_of_the_largest_maps_are_exact() {
     let plan = Plan::summed(4096, 4096, 32);
     let mut table = vec![0; 1 << 24];
-    for (height, total) in [(i32::MIN, -(1 << 55)), (i32::MAX, (1 << 55) - (1 << 24))] {
+    let most = (1 << 55) - (1 << 24);
+    for (height, total) in [(-2147483647, -most), (2147483647, most), (-2147483648, 0)] {
         serial::run(&plan, &vec![height; 1 << 24], &mut table).unwrap();
         let corners = [[0, 0, 4096, 4096], [1, 2, 4096, 4095], [4095, 0, 4096, 4096], [17, 18, 2049, 1026]];
         assert_eq!(sum_and_compare(&plan, corners[0], &table), Ok(total));
         for [top, left, bottom, right] in corners {
             let pixels = ((bottom - top) * (right - left)) as i128;
             let sum = sum_and_compare(&plan, [top, left, bottom, right], &table).map(i128::from);
-            assert_eq!(sum, Ok(pixels * i128::from(height)));
+            assert_eq!(sum, Ok(pixels * i128::from(reference::reading(height))));
         }
     }
 }
@@ -278,23 +266,9 @@ fn totals_of_other_tables_at_zero_and_at_both_ends() {
 #[test]
 fn rectangles_with_huge_numbers_are_refused_12() {
     let mut random = random::of_test("rectangles_with_huge_numbers_are_refused_12");
-    let plan = Plan::summed(4, 5, 2);
-    let table = random.words(20);
-    let huge = [usize::MAX, usize::MAX - 3, 1 << 63, (1 << 63) + 2, 1 << 32, (1 << 32) + 3, 4096, 4097, 65536 + 3];
-    for number in huge {
-        for place in 0..4 {
-            let mut corners = [1, 2, 3, 4];
-            corners[place] = number;
-            assert_eq!(sum_and_compare(&plan, corners, &table), Err(Refusal::RectangleOutside));
-        }
-        // Empty, and past the map.
-        for corners in [[number, 2, number, 4], [1, number, 3, number], [number; 4]] {
-            assert_eq!(sum_and_compare(&plan, corners, &table), Err(Refusal::RectangleOutside));
-        }
-        for _ in 0..200 {
-            let corners = [0; 4].map(|_| if random.once_in(2) { random.pick(&huge) } else { random.below(5) });
-            let _ = sum_and_compare(&plan, corners, &table);
-        }
+    let (plan, table) = (Plan::summed(4, 5, 2), random.words(20));
+    for corners in rectangles::with_huge_numbers() {
+        assert_eq!(sum_and_compare(&plan, corners, &table), Err(Refusal::RectangleOutside));
     }
 }
 
@@ -308,7 +282,7 @@ fn rectangle_refuses_6_then_7_then_12() {
         let (rows, columns) = (plan.rows as usize, plan.columns as usize);
         let table = Lent::new(rows * columns, || random.word());
         let lend = |[length]: [usize; 1]| table.shortened(length);
-        for corners in [random.rectangle(rows, columns), [1, 0, 1, 1], [1, 0, 0, 1], [0, 0, rows + 1, columns]] {
+        for corners in rectangles::some_refused(&mut random, rows, columns) {
             let calls = [sum, model::rectangle]
                 .map(|sum| move |plan: &Plan, table: &mut Lent<u64>| sum(plan, corners, table.get()));
             short.try_all([&plan, &broken], [rows * columns], lend, calls);

@@ -186,7 +186,8 @@ fn main() {
     let (mut kinds, mut groups) = (Vec::new(), Vec::new());
     for (size, usual_repetitions) in sizes {
         let mut random = Random::new(size as u64);
-        let map: Vec<i32> = (0..size * size).map(|_| random.word() as i32).collect();
+        // No dropout: the two Rust programs take every height as it is.
+        let map: Vec<i32> = (0..size * size).map(|_| (random.word() as i32).max(-i32::MAX)).collect();
         let mut output = vec![0; size * size];
         for (name, plan) in plans(size, 32, &mut random) {
             let repetitions = options.repetitions.unwrap_or(usual_repetitions);
