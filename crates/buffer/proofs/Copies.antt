@@ -34,12 +34,26 @@ unfolding rowWritten
 row-at start words n a e room i p h f =
     ap₂ wordAt e f ∙ written-at (λ j. start + j) words n a (λ j k c d. omega arith) (λ j c. omega arith) i h
 
--- A row that goes through a buffer of its length.
-pub row-through : (start : ℕ) (words : ℕ → ℕ) (n : ℕ) (a b c : List ℕ) → c ≡ rowWritten 0 words n b → length b ≡ n
-    → rowWritten start (wordsFrom c 0) n a ≡ rowWritten start words n a
+pub row-length : (start : ℕ) (words : ℕ → ℕ) (n : ℕ) (a : List ℕ) → length (rowWritten start words n a) ≡ length a
 unfolding rowWritten
-row-through start words n a b c e room =
-    written-same _ _ _ _ n a (λ i h. refl) (λ i h. row-at 0 words n b e (omega arith) i (0 + i) h refl)
+row-length start words n a = written-length (λ i. start + i) words n a
+
+-- A row of two.
+pub row-two : (start : ℕ) (words : ℕ → ℕ) (a : List ℕ) (v w : ℕ) → v ≡ words 0 → w ≡ words 1
+    → set (set a start v) (start + 1) w ≡ rowWritten start words 2 a
+row-two start words a v w e f =
+    let first : start ≡ start + 0 = omega arith in
+    row-more start words 1 a _ w (ap (λ place. set a place v) first ∙ row-more start words 0 a a v (row-none start words a) e) f
+
+-- A row in two parts.
+pub row-parts : (start : ℕ) (words rest : ℕ → ℕ) (m n : ℕ) (a b d : List ℕ) → b ≡ rowWritten start words m a
+    → ((i : ℕ) → rest i ≡ words (m + i)) → d ≡ rowWritten (start + m) rest n b → d ≡ rowWritten start words (m + n) a
+unfolding rowWritten
+row-parts start words rest m n a b d e same f =
+    f
+    ∙ written-same _ (λ i. start + (m + i)) rest (λ i. words (m + i)) n b (λ i h. omega arith) (λ i h. same i)
+    ∙ ap (written (λ i. start + (m + i)) (λ i. words (m + i)) n) e
+    ∙ sym (written-parts (λ i. start + i) words m n a)
 
 -- Places that lie 1 apart are a row.
 pub row-apart : (start : ℕ) (words : ℕ → ℕ) (n : ℕ) (a : List ℕ)

@@ -25,8 +25,10 @@ const STRIDE: usize = plan::PADDED_LINE;
 
 const CORNER: usize = MARGIN * STRIDE + MARGIN;
 
-// As many heights as a cache line of 64 bytes holds.
+// As many heights as a cache line of 64 bytes holds, and the pairs that they make.
 const LINE_HEIGHTS: usize = 16;
+
+const LINE_PAIRS: usize = 8;
 
 // The rows of a rectangle in a buffer: where the first begins, and how far apart they begin.
 struct Rows {
@@ -196,15 +198,28 @@ fn copy_rectangle(
     copy_rows(from, source, to, target, height, width, gain);
 }
 
-// The words of as many heights as a cache line holds. All are read before the first is stored: the compiler, which does
-// not know that map and work array lie apart, then handles several at once, in registers.
+// The words of two heights. Both are read before one is stored: the compiler, which does not know that map and work
+// array lie apart, then handles the two at once.
+fn load_pair(map: &[i32], map_start: usize, work: &mut [u64], work_start: usize)
+    requires { ⌜ («map_start» + 2 ≤ length (now map)) × («work_start» + 2 ≤ length (now work)) ⌝ }
+    ensures { λ _. ⌜ now (work .exit) ≡ rowWritten «work_start» (heightsFrom (now (map .entry)) «map_start») 2 (now (work .entry)) ⌝ }
+{
+    let first = buffer::read_pixel(map[map_start]);
+    let second = buffer::read_pixel(map[map_start + 1]);
+    work[work_start] = first;
+    work[work_start + 1] = second;
+}
+
+// The words of as many heights as a cache line holds, in a loop of known length, which the compiler writes out.
 fn load_line(map: &[i32], map_start: usize, work: &mut [u64], work_start: usize)
     requires { ⌜ («map_start» + 16 ≤ length (now map)) × («work_start» + 16 ≤ length (now work)) ⌝ }
     ensures { λ _. ⌜ now (work .exit) ≡ rowWritten «work_start» (heightsFrom (now (map .entry)) «map_start») 16 (now (work .entry)) ⌝ }
 {
-    let mut words = [0; LINE_HEIGHTS];
-    buffer::read_heights(map, map_start, &mut words, 0, LINE_HEIGHTS);
-    buffer::copy_words(&words, 0, work, work_start, LINE_HEIGHTS);
+    let mut pair = 0;
+    while pair < LINE_PAIRS {
+        load_pair(map, map_start + 2 * pair, work, work_start + 2 * pair);
+        pair += 1;
+    }
 }
 
 // The words of a row's heights.

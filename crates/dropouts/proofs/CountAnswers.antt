@@ -18,8 +18,8 @@ use Rattle.rectangle.specs.FourNumbers.{Empty}
 use Rattle.rectangle.proofs.FourNumbers.{no-pixels}
 use Rattle.rectangle.proofs.RectangleAnswers.{inside-accepted, others-refused, accepted-inside}
 use Rattle.dropouts.specs.Dropouts.{dropoutsInside, lentToCount, dropoutsCall}
-use Rattle.dropouts.specs.CountedDropouts.{CountsAnswered}
-use Rattle.dropouts.proofs.CountedDropouts.{counts-told}
+use Rattle.dropouts.specs.CountedDropouts.{DropoutsAnswered}
+use Rattle.dropouts.proofs.CountedDropouts.{dropouts-told}
 
 module _ (plan : Plan) (heights : List ℤ) (top left bottom right : ℕ) where
   -- What the tests answer.
@@ -74,12 +74,12 @@ module _ (plan : Plan) (heights : List ℤ) (top left bottom right : ℕ) where
   empty-count empty =
       omega (
         arith,
-        counts-told plan heights top left bottom right .at-most-pixels,
+        dropouts-told plan heights top left bottom right .at-most-pixels,
         no-pixels top left bottom right empty,
       )
 
-pub counts-answered : CountsAnswered
-counts-answered plan heights t l b r =
+pub dropouts-answered : DropoutsAnswered
+dropouts-answered plan heights t l b r =
     record {
       record-broken = λ broken. sym (given-refused plan heights t l b r (record-first plan heights t l b r broken));
       map-short = λ kept short. sym (given-refused plan heights t l b r (map-next plan heights t l b r kept short));

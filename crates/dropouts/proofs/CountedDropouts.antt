@@ -14,7 +14,7 @@ use Rattle.passes.specs.Table.{signedSumOf, heightsInside}
 use Rattle.plan.specs.declared.Plan.{Plan}
 use Rattle.rectangle.specs.Heights.{heightSum}
 use Rattle.dropouts.specs.Dropouts.{dropoutsInside}
-use Rattle.dropouts.specs.CountedDropouts.{PixelOf, CountsTold}
+use Rattle.dropouts.specs.CountedDropouts.{PixelOf, DropoutsTold}
 
 -- ---- sums that differ by so much for each dropout
 
@@ -100,24 +100,38 @@ module _ (plan : Plan) (heights : List ℤ) (top left bottom right : ℕ) where
       one-zero (isDropout (heightIn k j)) not-one
       (is-dropout (heightIn k j) (ap₂ (heightAt (plan .grid .columns) heights) y x ∙ e))
 
-  none-seen : dropoutsInside plan heights top left bottom right ≡ (bottom - top) * (right - left)
-      → heightSum plan heights top left bottom right ≡ pos 0
-  unfolding heightsInside dropoutsInside
-  none-seen all =
-      sum-of-zeros _ (right - left) (λ k h.
-      let full : inColumn k ≡ (bottom - top) * 1 =
-      total-full inColumn (bottom - top) (right - left) (λ i g. column-most i) (all ∙ mul-comm (bottom - top) (right - left)) k h
-      ∙ omega arith in
-      sum-of-zeros _ (bottom - top) (λ j i.
-      reading-dropout (heightIn k j)
-      (one-one (isDropout (heightIn k j))
-      (total-full _ 1 (bottom - top) (λ i g. one-most (isDropout (heightIn k i))) full j i))))
+  module _ (all : dropoutsInside plan heights top left bottom right ≡ (bottom - top) * (right - left)) where
+    each-dropped : (k j : ℕ) → k < right - left → j < bottom - top → isDropout (heightIn k j) ≡ true
+    unfolding dropoutsInside
+    each-dropped k j h i =
+        let full : inColumn k ≡ (bottom - top) * 1 =
+        total-full inColumn (bottom - top) (right - left) (λ i g. column-most i) (all ∙ mul-comm (bottom - top) (right - left)) k h
+        ∙ omega arith in
+        one-one (isDropout (heightIn k j))
+        (total-full _ 1 (bottom - top) (λ i g. one-most (isDropout (heightIn k i))) full j i)
 
-pub counts-told : CountsTold
-counts-told plan heights top left bottom right =
+    none-seen : (row column : ℕ) → PixelOf top left bottom right row column
+        → heightAt (plan .grid .columns) heights row column ≡ negℤ (pos 2147483648)
+    none-seen row column p =
+        let y : top + (row - top) ≡ row = omega (arith, p .below-top) in
+        let x : left + (column - left) ≡ column = omega (arith, p .past-left) in
+        sym (ap₂ (heightAt (plan .grid .columns) heights) y x)
+        ∙ dropout-is _
+        (each-dropped (column - left) (row - top) (omega (arith, p .past-left, p .before-right))
+        (omega (arith, p .below-top, p .above-bottom)))
+
+    nothing-summed : heightSum plan heights top left bottom right ≡ pos 0
+    unfolding heightsInside
+    nothing-summed =
+        sum-of-zeros _ (right - left) (λ k h.
+        sum-of-zeros _ (bottom - top) (λ j i. reading-dropout (heightIn k j) (each-dropped k j h i)))
+
+pub dropouts-told : DropoutsTold
+dropouts-told plan heights top left bottom right =
     record {
       each-once = each-once plan heights top left bottom right;
       at-most-pixels = at-most-pixels plan heights top left bottom right;
       all-seen = all-seen plan heights top left bottom right;
       none-seen = none-seen plan heights top left bottom right;
+      nothing-summed = nothing-summed plan heights top left bottom right;
     }

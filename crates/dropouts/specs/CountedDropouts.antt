@@ -39,8 +39,9 @@ pub record CountAnswered (plan : Plan) (heights : List ℤ) (top left bottom rig
       → dropoutsCall plan heights top left bottom right ≡ record { answer = accepted; value = 0 }
 
 -- So it is for every record, every map and any four numbers.
-abbrev pub CountsAnswered : Type 0
-CountsAnswered = (plan : Plan) (heights : List ℤ) (top left bottom right : ℕ) → CountAnswered plan heights top left bottom right
+abbrev pub DropoutsAnswered : Type 0
+DropoutsAnswered =
+    (plan : Plan) (heights : List ℤ) (top left bottom right : ℕ) → CountAnswered plan heights top left bottom right
 
 -- ---- what a count says of its rectangle
 
@@ -62,10 +63,15 @@ pub record CountTold (plan : Plan) (heights : List ℤ) (top left bottom right :
   pub all-seen : dropoutsInside plan heights top left bottom right ≡ 0
       → (row column : ℕ) → PixelOf top left bottom right row column
       → heightAt (plan .grid .columns) heights row column ≡ negℤ (pos 2147483648) → ⊥
-  -- where as many are counted as there are pixels, none was, and the heights' sum is 0.
+  -- where as many are counted as there are pixels, none was,
   pub none-seen : dropoutsInside plan heights top left bottom right ≡ (bottom - top) * (right - left)
+      → (row column : ℕ) → PixelOf top left bottom right row column
+      → heightAt (plan .grid .columns) heights row column ≡ negℤ (pos 2147483648)
+  -- and the heights' sum is 0.
+  pub nothing-summed : dropoutsInside plan heights top left bottom right ≡ (bottom - top) * (right - left)
       → heightSum plan heights top left bottom right ≡ pos 0
 
 -- So it is for every map and any four numbers.
-abbrev pub CountsTold : Type 0
-CountsTold = (plan : Plan) (heights : List ℤ) (top left bottom right : ℕ) → CountTold plan heights top left bottom right
+abbrev pub DropoutsTold : Type 0
+DropoutsTold =
+    (plan : Plan) (heights : List ℤ) (top left bottom right : ℕ) → CountTold plan heights top left bottom right

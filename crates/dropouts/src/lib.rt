@@ -37,7 +37,7 @@ pub fn count_dropouts(
         map: Length::Of(map.len()),
         output: Length::NotLent,
     };
-    let outcome = rectangle::answer(plan, lent, top, left, bottom, right);
+    let outcome = rectangle::rectangle_answer(plan, lent, top, left, bottom, right);
     match outcome {
         Outcome::Refused(refusal) => DropoutCount::Refused(refusal),
         Outcome::Accepted => {

@@ -43,7 +43,7 @@ filterOf pass = filterOfNumbers (pass .gain) (pass .order) (pass .coefficients)
 abbrev pub filtersOf : Plan → ℕ → Filter
 filtersOf plan i = filterOf (passAt plan i)
 
--- The map that a row-major list of heights holds.
+-- The map that a row-major list of heights holds, as the passes read it: dropouts as 0, modulo 2^64.
 abbrev pub mapOf : Plan → List ℤ → ℕ → ℕ → ℕ
 mapOf plan heights = heightMap (plan .grid .columns) heights
 

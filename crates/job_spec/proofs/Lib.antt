@@ -6,3 +6,4 @@ pub mod Accepted
 pub mod Start
 pub mod AllRefused
 pub mod Demand3
+pub mod Replaced

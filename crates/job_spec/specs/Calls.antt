@@ -1,5 +1,5 @@
 -- Start, the task call and a list of task calls: the exact answer, and the marks, strips and output after it.
--- Document 01, 'Blocks, marks and strips' and 'Refused calls'; document 02, CR 4.
+-- Document 01, 'Blocks, marks and strips' and 'Refused calls'; document 02, CR 4, and CR 7 through `mapOf`.
 use mathlib.Core.Bool.{cond}
 use mathlib.Core.List.{List, [], _∷_, _++_}
 use Prim.Native.Nat.{ℕ, zero, suc, _+_, min}

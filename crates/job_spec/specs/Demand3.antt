@@ -1,5 +1,5 @@
 -- Demand 3: what is done after a list of task calls, by the list alone, and the one claim about the list.
--- Document 01, the paragraph on the words of demand 3; document 02, CR 4.
+-- Document 01, the paragraph on the words of demand 3; document 02, CR 4, and CR 7 through `mapOf`.
 use mathlib.Core.Path.{_≡_}
 use mathlib.Core.Bool.{Bool, true, false, cond}
 use mathlib.Core.Logic.{_≢_}

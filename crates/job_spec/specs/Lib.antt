@@ -1,2 +1,3 @@
 pub mod Calls
 pub mod Demand3
+pub mod Replaced

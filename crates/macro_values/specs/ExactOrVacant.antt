@@ -135,7 +135,8 @@ PairOfBoth =
 -- ---- heights
 
 -- On a table whose rectangle sums are the heights' sums (as `SumsHeights` and `JobSumsHeights` say of summed-area
--- tables), the total of a rectangle of the map that is not empty is the exact sum of its heights from -2^53 to 2^53,
+-- tables), the total of a rectangle of the map that is not empty is the exact sum of its heights (`heightSum`) from
+-- -2^53 to 2^53,
 pub record TotalHeights (plan : Plan) (heights : List ℤ) (table : List ℕ) (top left bottom right : ℕ) : Type 0 where
   pub exact-inside : InFloatRange (heightSum plan heights top left bottom right)
       → GivesExactly wanted.Total (heightSum plan heights top left bottom right) plan table top left bottom right

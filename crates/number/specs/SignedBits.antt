@@ -1,5 +1,6 @@
--- Signed numbers: a test that two are equal; and of one bit or more, two's complement: their range, the signed number
--- that a number of so many bits stands for, and the number that stands for a signed one. `negsuc n` is -(n + 1).
+-- Signed numbers: a test that two are equal; those of a width of one bit or more, two's complement: their range, the
+-- signed number that a number of so many bits stands for, and the number that stands for a signed one. `negsuc n` is
+-- -(n + 1).
 use mathlib.Core.Bool.{Bool, false, cond}
 use Prim.Native.Nat.{ℕ, suc, _-_, _^_}
 use lib.IntN.{ℤ, pos, negsuc}

@@ -20,11 +20,11 @@ use Rattle.filter.specs.PlanFilters.{summedAreaPasses}
 
 -- ---- a summed-area table
 
--- A height is a number of signed 32 bits, from -2^31 to 2^31 - 1.
+-- A number of a map has signed 32 bits: a height, or a dropout, -2^31.
 abbrev pub HeightFits : ℤ → Type 0
 HeightFits height = inSigned 32 height ≡ true
 
--- Every height of a plan's map is such a number; of a map that a call is lent, its type `&[i32]` says so.
+-- Every one of a plan's map is such a number; of a map that a call is lent, its type `&[i32]` says so.
 abbrev pub HeightsFit : Plan → List ℤ → Type 0
 HeightsFit plan heights = (place : ℕ) → place < neededPixels plan → HeightFits (numberAt heights place)
 
@@ -40,7 +40,8 @@ SumsBounded =
     → (top left bottom right : ℕ) → Inside plan top left bottom right
     → natAbs (heightSum plan heights top left bottom right) ≤ 2 ^ 55
 
--- Over every rectangle of the map, an empty one too, the call gives the sum of the heights in it from this table.
+-- Over every rectangle of the map, an empty one too, the call gives the sum of the heights in it (`heightSum`) from this
+-- table.
 abbrev pub SumsOver : Plan → List ℤ → (table : List ℕ) → Type 0
 SumsOver plan heights table =
     (top left bottom right : ℕ) → Inside plan top left bottom right

@@ -1,5 +1,5 @@
--- The rectangle sum as a call: document 01, the paragraph on the rectangle sum and refusals 6, 7 and 12; document 02,
--- CR 2, CR 4 and CR 5.
+-- The rectangle sum as a call, and what every call about a rectangle tests: document 01, the paragraph on the rectangle
+-- sum and refusals 6, 7 and 12; document 02, CR 2, CR 4, CR 5 and CR 7.
 use mathlib.Core.Bool.{Bool, _||_}
 use mathlib.Core.List.{List, [], _∷_, _++_}
 use Prim.Native.Nat.{ℕ, _≤_}
@@ -35,7 +35,7 @@ abbrev pub outside : Plan → (top left bottom right : ℕ) → Bool
 outside plan top left bottom right =
     ltb bottom top || (ltb right left || (ltb (plan .grid .rows) bottom || ltb (plan .grid .columns) right))
 
--- The tests of a call about a rectangle that is lent buffers of these lengths, in their order: 6 for the record, the
+-- What a call about a rectangle tests where it is lent buffers of these lengths, in this order: 6 for the record, the
 -- lengths, 12 for the rectangle.
 abbrev pub rectangleRows : Plan → Lengths → (top left bottom right : ℕ) → List Row
 rectangleRows plan lent top left bottom right = lentRows plan lent ++ (12 at 0 when outside plan top left bottom right ∷ [])

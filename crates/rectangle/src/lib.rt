@@ -34,7 +34,7 @@ pub fn rectangle_sum(
     ensures { λ r. ⌜ sumGiven r ≡ rectangleCall plan (now (table .entry)) top left bottom right ⌝ }
 {
     let lent = plan::only_of_7(BufferOf7::Table(table.len()));
-    let outcome = answer(plan, lent, top, left, bottom, right);
+    let outcome = rectangle_answer(plan, lent, top, left, bottom, right);
     match outcome {
         Outcome::Refused(refusal) => RectangleSum::Refused(refusal),
         Outcome::Accepted => {
@@ -46,7 +46,7 @@ pub fn rectangle_sum(
 
 // The answer of every call about a rectangle: to the record, the lengths of what the call is lent and the rectangle, in
 // this order.
-pub fn answer(
+pub fn rectangle_answer(
     plan: Plan,
     lent: Lengths,
     top: usize,

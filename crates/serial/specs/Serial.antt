@@ -1,4 +1,5 @@
--- The serial passes over a whole map as a call: document 01, 'The four passes' and 'Refused calls'; document 02, CR 4.
+-- The serial passes over a whole map as a call: document 01, 'The four passes' and 'Refused calls'; document 02, CR 4,
+-- and CR 7 through `mapOf`.
 use mathlib.Core.Path.{_≡_}
 use mathlib.Core.Bool.{true}
 use mathlib.Core.List.{List, _++_}

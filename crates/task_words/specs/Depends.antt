@@ -12,7 +12,7 @@ use Rattle.grid.specs.Grid.{rowsOf, columnsOf, partOf, neighbour, goesOn}
 use Rattle.task_words.specs.Strips.{stripPlace, insideBlock}
 use Rattle.task_words.specs.Writes.{aloneWord, linkWord, finishWord}
 
--- Two maps have the same heights in block k.
+-- Two maps have the same pixels in block k.
 abbrev pub SameBlock : Plan → ℕ → (X Y : ℕ → ℕ → ℕ) → Type 0
 SameBlock plan k X Y = (y x : ℕ) → y < rowsOf (plan .grid) k → x < columnsOf (plan .grid) k → partOf (plan .grid) k X y x ≡ partOf (plan .grid) k Y y x
 

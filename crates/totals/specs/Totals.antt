@@ -1,5 +1,5 @@
 -- The totals that an operator reads: the table of a job with all its tasks done gives the heights' sums, as whole
--- numbers. Document 01, the paragraph on the rectangle sum; document 02, CR 2 and CR 5.
+-- numbers. Document 01, the paragraph on the rectangle sum; document 02, CR 2, CR 5 and CR 7.
 use mathlib.Core.Path.{_≡_}
 use mathlib.Core.List.{List}
 use Prim.Native.Nat.{ℕ, _≤_}
@@ -27,7 +27,7 @@ abbrev pub jobOutput : Plan → List ℤ → Buffers → List BlockTask → List
 jobOutput plan heights lent calls = afterCalls plan heights calls (started plan lent) .output
 
 -- The table that a whole job with the passes of the summed-area table made of a map of 32-bit heights gives the sums of
--- the heights.
+-- the heights, dropouts replaced by 0 (`heightSum`).
 abbrev pub JobSumsHeights : Type 0
 JobSumsHeights =
     (plan : Plan) (heights : List ℤ) (lent : Buffers) (calls : List BlockTask) → WholeJob plan heights lent calls

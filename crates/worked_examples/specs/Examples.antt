@@ -102,7 +102,7 @@ rectangleExample heights top left bottom right number place sum =
 
 -- ---- dropouts
 
--- A map with two dropouts, and the height that is next to one: 1 - 3 / - 5 -2147483647
+-- A map with two dropouts, and the least height that is none: 1 * 3 / * 5 -2147483647, each * a dropout
 abbrev withDropouts : List ℤ
 withDropouts = pos 1 ∷ minus 2147483648 ∷ pos 3 ∷ minus 2147483648 ∷ pos 5 ∷ minus 2147483647 ∷ []
 
@@ -210,9 +210,9 @@ furtherRectangles =
     ∷ rectangleExample oneToSix 0 0 2 4 12 0 (pos 0)
     ∷ []
 
--- Dropouts, by request CR 7: the height next to one with document 01's gain; of the map with two, its table by the
--- serial passes and by a job of two blocks, its total; its dropouts, in one column, in none, in an empty rectangle; and
--- refused by 12, and by 15 before it.
+-- Dropouts, by request CR 7: the least height that is none with document 01's gain; of the map with two, its table by
+-- the serial passes and by a job of two blocks, and its total; the dropouts of all of it, of a column with one, of a
+-- column without, and of an empty rectangle; refused by 12, and by 15 before 12.
 unfoldable pub dropouts : List (Example (List ℤ))
 dropouts =
     serialExample (planOf 1 1 (gainAlone (minus 134217728)) unchangedPass unchangedPass unchangedPass) (minus 2147483647 ∷ [])

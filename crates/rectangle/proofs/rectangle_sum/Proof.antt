@@ -11,22 +11,22 @@ use Rattle.rectangle.proofs.rectangle_sum.Tie as tie
 
 -- ---- stations: each is reached from a later one
 
-abbrev at-start : tie.After-answer → tie.Start
+abbrev at-start : tie.After-rectangle-answer → tie.Start
 at-start c = c .before .before .before
 
 -- What the tests answered, whatever it is known to be.
-answered : (c : tie.After-answer)
-    → answerOf (c .answer .result) ≡ rectangleCall (at-start c .args .plan) (at-start c .args .table .now) (at-start c .args .top) (at-start c .args .left) (at-start c .args .bottom) (at-start c .args .right) .answer
+answered : (c : tie.After-rectangle-answer)
+    → answerOf (c .rectangle-answer .result) ≡ rectangleCall (at-start c .args .plan) (at-start c .args .table .now) (at-start c .args .top) (at-start c .args .left) (at-start c .args .bottom) (at-start c .args .right) .answer
 unfolding rectangleCall
-answered c = rw (c .before .only-of-7 .ensures) at (c .answer .ensures)
+answered c = rw (c .before .only-of-7 .ensures) at (c .rectangle-answer .ensures)
 
 -- ---- needs
 
 only-of-7-requires : tie.Need-only-of-7-requires
 only-of-7-requires c κs = search needs
 
-answer-requires : tie.Need-answer-requires
-answer-requires c κs = search needs
+rectangle-answer-requires : tie.Need-rectangle-answer-requires
+rectangle-answer-requires c κs = search needs
 
 enum-known-outcome : tie.Need-enum-known-outcome
 enum-known-outcome c = search needs
@@ -64,4 +64,4 @@ returns-2 c =
 pub rectangle-sum-spec : {M : Type 1} → statement M
 rectangle-sum-spec =
     tie.close
-    (tie.spec only-of-7-requires answer-requires enum-known-outcome enum-told corners-requires signed-requires returns returns-2)
+    (tie.spec only-of-7-requires rectangle-answer-requires enum-known-outcome enum-told corners-requires signed-requires returns returns-2)

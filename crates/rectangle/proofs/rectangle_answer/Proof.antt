@@ -1,8 +1,8 @@
--- `rectangle::answer` is that of the record and the lengths, then of the rectangle. Assumes nothing.
+-- `rectangle::rectangle_answer` is that of the record and the lengths, then of the rectangle. Assumes nothing.
 use borrow.Author.Needs.{needs}
 use Rattle.rectangle.proofs.RectangleAnswers.{answer-of-lent, answer-of-rectangle}
-use Rattle.rectangle.proofs.answer.Statement.{statement}
-use Rattle.rectangle.proofs.answer.Tie as tie
+use Rattle.rectangle.proofs.rectangle_answer.Statement.{statement}
+use Rattle.rectangle.proofs.rectangle_answer.Tie as tie
 
 abbrev at-start : tie.After-sizes-for → tie.Start
 at-start c = c .before
@@ -34,8 +34,8 @@ returns-2 c =
     answer-of-rectangle (a .plan) (a .lent) (a .top) (a .left) (a .bottom) (a .right) _ (tested .sizes-for .ensures) _
     (told .enum-told .given .1) (c .outside .ensures)
 
-pub answer-spec : {M : Type 1} → statement M
-answer-spec =
+pub rectangle-answer-spec : {M : Type 1} → statement M
+rectangle-answer-spec =
     tie.close
     (tie.spec
     sizes-for-requires

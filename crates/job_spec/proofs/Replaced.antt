@@ -1,0 +1,58 @@
+-- What the calls read of a map is its length and its pixels, and both stay where dropouts are replaced. Assumes nothing.
+use mathlib.Core.Path.{_≡_, refl, ap, ap₂, _∙_}
+use mathlib.Core.List.{List, [], _∷_, map}
+use Prim.Native.Nat.{ℕ, zero, suc}
+use lib.IntN.{ℤ}
+use lib.ListN.{length-map}
+use Rattle.buffer.specs.Pixel.{reading}
+use Rattle.buffer.proofs.Pixel.{dropouts-replaced}
+use Rattle.filter.specs.PlanFilters.{mapOf}
+use Rattle.plan.specs.declared.Plan.{Plan}
+use Rattle.serial.specs.Serial.{serialAnswer, serialWords, serialOutput}
+use Rattle.tasks.specs.Tasks.{BlockTask}
+use Rattle.job_spec.specs.Calls.{Buffers, taskAnswer, stripsAfter, outputAfter, performed, afterTask, afterCalls, answersOf}
+use Rattle.job_spec.specs.Replaced.{SameReplaced}
+
+module _ (plan : Plan) (heights : List ℤ) where
+  same-map : mapOf plan (map reading heights) ≡ mapOf plan heights
+  same-map = dropouts-replaced .same-replaced (plan .grid .columns) heights
+
+  serial-output : (output : List ℕ) → serialOutput plan (map reading heights) output ≡ serialOutput plan heights output
+  unfolding serialOutput serialWords
+  serial-output output = rw (length-map heights reading, same-map)
+
+  task-answer : (buffers : Buffers) (t k : ℕ)
+      → taskAnswer plan (map reading heights) buffers t k ≡ taskAnswer plan heights buffers t k
+  unfolding taskAnswer
+  task-answer buffers t k = rw (length-map heights reading)
+
+  strips-after : (t k : ℕ) (strips : List ℕ)
+      → stripsAfter plan (map reading heights) t k strips ≡ stripsAfter plan heights t k strips
+  unfolding stripsAfter
+  strips-after zero k strips = rw same-map
+  strips-after (suc pass) k strips = refl
+
+  after-task : (t k : ℕ) (buffers : Buffers)
+      → afterTask plan (map reading heights) t k buffers ≡ afterTask plan heights t k buffers
+  unfolding afterTask performed outputAfter
+  after-task t k buffers = rw (task-answer buffers t k, strips-after t k (buffers .strips), same-map)
+
+  task-buffers : (calls : List BlockTask) (buffers : Buffers)
+      → afterCalls plan (map reading heights) calls buffers ≡ afterCalls plan heights calls buffers
+  unfolding afterCalls
+  task-buffers [] buffers = refl
+  task-buffers (call ∷ calls) buffers =
+      ap (afterCalls plan (map reading heights) calls) (after-task (call .task) (call .block) buffers)
+      ∙ task-buffers calls (afterTask plan heights (call .task) (call .block) buffers)
+
+  task-answers : (calls : List BlockTask) (buffers : Buffers)
+      → answersOf plan (map reading heights) calls buffers ≡ answersOf plan heights calls buffers
+  unfolding answersOf
+  task-answers [] buffers = refl
+  task-answers (call ∷ calls) buffers =
+      ap₂ _∷_ (task-answer buffers (call .task) (call .block))
+      (ap (answersOf plan (map reading heights) calls) (after-task (call .task) (call .block) buffers)
+      ∙ task-answers calls (afterTask plan heights (call .task) (call .block) buffers))
+
+pub same-replaced : SameReplaced
+same-replaced = record { serial-output = serial-output; task-answers = task-answers; task-buffers = task-buffers }
