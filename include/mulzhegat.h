@@ -14,7 +14,9 @@
  * Dropouts. Where the laser's beam gets no return, the height is MZG_DROPOUT. The passes read it as 0, in mzg_serial as
  * in mzg_task: outputs, tables and totals are those of the map with every dropout replaced by 0, and none of them shows
  * that there was one. mzg_dropouts counts them in the map itself. A smoothing pass takes a hole for a height of 0 as
- * well, so that words near one are drawn towards 0.
+ * well, so that words near a hole are drawn towards 0: to fill holes first, filter a copy of the map, and keep the
+ * scanned one for mzg_dropouts. A job or a table that a version without dropouts made, from a map that has some, is not
+ * to be gone on with: it has pits in it.
  *
  * Answers. Every function answers 0 where the call is accepted, else number * 2^32 + place: the cause, by the numbers
  * in the enum below, and where it is. MZG_NUMBER and MZG_PLACE take an answer apart. Keep it in a uint64_t: its low 32
@@ -29,9 +31,10 @@
  * the words of mzg_plan_write, the marks or the table, whichever the call is lent. The first that is too short is
  * named; mzg_plan_sizes gives the lengths that all of them need.
  *
- * Buffers. A buffer is lent as a pointer and its length in words; words past the needed length are never altered. A
- * refused call leaves every lent buffer as it was. What a call answers beside its number (plan, sizes, progress, sum,
- * states, values, count) is written whole on every call: all zeros beside a refusal.
+ * Buffers. A buffer is lent as a pointer and its length, in elements of the pointer's type; those past the needed
+ * length do not matter and are never altered. A refused call leaves every lent buffer as it was. What a call answers
+ * beside its number (plan, sizes, progress, sum, states, values, count) is written whole on every call: all zeros
+ * beside a refusal.
  *
  * Pointers are not tested, nor that a buffer is as long as is said. None may be null, each must be aligned for its
  * type, and no two of a call may overlap, the plan record and what is answered (plan, sizes, progress, sum, states,
@@ -43,7 +46,7 @@
  * time; two mzg_task calls of one job must not. A job may be broken off between any two calls: keep plan, map, marks,
  * strips and output. Of a job that is taken up again only the kind and the spare bits of its marks are tested, not that
  * its buffers belong together: put a checksum over what you save. mzg_task takes less than 26 KiB of stack, every other
- * call less than 4 KiB.
+ * call less than 4 KiB (the C library may take some 3 KiB more where it binds memcpy or memset at their first call).
  */
 #ifndef MULZHEGAT_H
 #define MULZHEGAT_H
@@ -77,7 +80,7 @@ enum {
 };
 
 /* What the head writes for the height of a pixel where the laser's beam gets no return: -2147483648. No other height is
- * a dropout, nor is -2147483647. */
+ * one, not even -2147483647. */
 #define MZG_DROPOUT (-2147483647 - 1)
 
 /* The number and the place of an answer. */
@@ -157,13 +160,13 @@ uint64_t mzg_start(const mzg_plan *plan, uint32_t *marks, size_t marks_len, uint
  *     4 left link    n > 0        own 0; 1 of above, 2 of below, 3 of left, 4 of right
  *     5 finish       always       own 0; 1 of above, 2 of below, 3 of left, 4 of right
  *
- * A need on a neighbour beyond the map falls away. Collect and the links write in the block's slot of the strips (its
- * part of side * (sum of the four orders) words; no caller needs its layout), finish writes the block's output words,
- * which are those of mzg_serial from then on; an accepted task also sets bit `task` of the block's mark, and nothing
- * else changes. The output need not be set before. Lend the same map to every call of a job. Calls may come in any
- * order: one that comes too early is refused by 11 and may be repeated. An order without any 11: the tasks 0 to 5 one
- * after another, each over the blocks by their number, 2 and 4 from the last block to the first (links that a block
- * does not have are refused by 8).
+ * A need on a neighbour beyond the map falls away. Collect and finish read dropouts as 0. Collect and the links write
+ * in the block's slot of the strips (its part of side * (sum of the four orders) words; no caller needs its layout),
+ * finish writes the block's output words, which are those of mzg_serial from then on; an accepted task also sets bit
+ * `task` of the block's mark, and nothing else changes. The output need not be set before. Lend the same map to every
+ * call of a job. Calls may come in any order: one that comes too early is refused by 11 and may be repeated. An order
+ * without any 11: the tasks 0 to 5 one after another, each over the blocks by their number, 2 and 4 from the last block
+ * to the first (links that a block does not have are refused by 8).
  * Needs, for every task, also one that does not read or write them: sizes.marks marks, sizes.strips strip words,
  * sizes.pixels map and output words.
  * Refused: 6, 7 (marks), 14 (strips), 15 (map), 16 (output), 8, 9 (the marks of the block and of the neighbours in its
@@ -177,7 +180,7 @@ uint64_t mzg_task(const mzg_plan *plan, size_t task, size_t block, const int32_t
  * Refused: 6, 7 (marks), 9; the progress is then all zeros. */
 uint64_t mzg_report(const mzg_plan *plan, const uint32_t *marks, size_t marks_len, mzg_progress *progress);
 
-/* Runs the four passes over the whole map. Needs sizes.pixels map and output words.
+/* Runs the four passes over the whole map, dropouts read as 0. Needs sizes.pixels map and output words.
  * Refused: 6, 15 (map), 16 (output). */
 uint64_t mzg_serial(const mzg_plan *plan, const int32_t *map, size_t map_len, uint64_t *output, size_t output_len);
 
@@ -212,12 +215,13 @@ uint64_t mzg_rectangle(const mzg_plan *plan, size_t top, size_t left, size_t bot
  *         || mzg_dropouts(&plan, top, left, bottom, right, map, map_len, &dropouts) != MZG_ACCEPTED)
  *         stop_for_the_operator();
  *     else if (dropouts == pixels)
- *         nothing_was_seen(); // every pixel is a hole, or there is none: the total is 0 and says nothing
+ *         nothing_was_seen(); // every pixel is a hole, or the rectangle is empty: the total is 0 and says nothing
  *     else
- *         cut_by_mean((double)total / (double)(pixels - dropouts)); // the mean of the heights that were seen
+ *         cut_by_mean((double)total / (double)(pixels - dropouts)); // of those seen; rounded twice past 2^53
  *
  * No more are counted than the rectangle has pixels, and 0 of an empty one; the four numbers are tested as those of
- * mzg_rectangle. Of the plan only rows and columns count, though the whole record is tested.
+ * mzg_rectangle. Which pixels they are the map says: compare with MZG_DROPOUT. Any plan of the map's size will do, also
+ * that of a smoothing; the whole record is tested.
  * Needs sizes.pixels heights, also for an empty rectangle.
  * Refused: 6, 15 (map), 12; the count is then 0, as that of an accepted call can be: look at the answer first. */
 uint64_t mzg_dropouts(const mzg_plan *plan, size_t top, size_t left, size_t bottom, size_t right,
@@ -232,14 +236,15 @@ enum {
 
 /* Give quantities of a rectangle, rows top to bottom - 1 and columns left to right - 1, as macro variables. A control
  * keeps these as 64-bit floats, with a state called vacant for no value. The quantities: the total, which is the sum
- * that mzg_rectangle gives, in units of the heights; the number of pixels, (bottom - top) * (right - left); or both,
- * the total as states[0] and values[0], the number of pixels as states[1] and values[1].
+ * that mzg_rectangle gives, in units of the heights; the number of pixels, (bottom - top) * (right - left), dropouts
+ * among them; or both, the total as states[0] and values[0], the number of pixels as states[1] and values[1].
  * A value equals the whole number, without rounding; a total of 0 is +0.0. An accepted call gives vacant, with +0.0 for
  * a value, in two cases only: both quantities of an empty rectangle, and a total below -2^53 or above 2^53
  * (9007199254740992), also one that a float could hold. So the number of pixels is vacant just where the rectangle is
  * empty, and a vacant total beside a number of pixels lies outside that range: mzg_rectangle gives it still. On a
  * summed-area table that takes more than 2^22 pixels, since heights have 32 bits. That a table is finished is not
- * tested: vacant does not stand for one that is not. A macro loop, over a rectangle that shrinks until it closes:
+ * tested: vacant does not stand for one that is not. Nor does it stand for a rectangle of dropouts alone: that has the
+ * total 0, and its pixels are counted. A macro loop, over a rectangle that shrinks until it closes:
  *
  *     uint64_t answer, states[2];
  *     double values[2];
@@ -248,7 +253,7 @@ enum {
  *         if (answer != MZG_ACCEPTED || states[1] == MZG_VACANT)
  *             break; // refused, or closed: the answer says which
  *         if (states[0] == MZG_TOTAL)
- *             cut_by_mean(values[0] / values[1]); // exact both, rounded once; with dropouts, see mzg_dropouts
+ *             cut_by_mean(values[0] / values[1]); // of all pixels, rounded once; of those seen: see mzg_dropouts
  *         else
  *             stop_for_the_operator(); // the total lies outside -2^53 to 2^53
  *     }

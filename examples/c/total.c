@@ -123,7 +123,7 @@ int main(void)
     printf("%" PRIu64 " tasks done in %u rounds, %u calls came too early, tally %" PRIu64 "\n",
            progress.marked, rounds, early, progress.tally);
 
-    /* Two totals, the second below the datum, and the same heights added one by one. */
+    /* Two totals, the second below the datum, and the same heights added one by one; a dropout counts as 0. */
     int64_t total;
     static const size_t rectangles[2][4] = { { 1, 2, 4, 6 }, { 2, 6, 5, 7 } };
     for (size_t i = 0; i < 2; i++) {
@@ -132,7 +132,7 @@ int main(void)
         int64_t added = 0;
         for (size_t row = top; row < bottom; row++)
             for (size_t column = left; column < right; column++)
-                added += map[row * 7 + column];
+                added += map[row * 7 + column] == MZG_DROPOUT ? 0 : map[row * 7 + column];
         printf("total %" PRId64 ", added one by one %" PRId64 "\n", total, added);
     }
 
@@ -153,14 +153,19 @@ int main(void)
             printf("rows %zu, vacant\n", rows);
     }
 
-    /* A pixel that the laser did not see and one of height 0 have the same total: the dropouts tell them apart. */
-    uint64_t dropouts;
-    static const size_t pixels[2][2] = { { 0, 5 }, { 4, 4 } };
-    for (size_t i = 0; i < 2; i++) {
-        size_t top = pixels[i][0], left = pixels[i][1], bottom = top + 1, right = left + 1;
+    /* A pixel that the laser did not see and one of height 0 have the same total: the dropouts tell them apart, and
+     * over how many pixels of a rectangle a mean is to be taken. */
+    static const size_t scanned[3][4] = { { 0, 5, 1, 6 }, { 4, 4, 5, 5 }, { 0, 4, 1, 7 } };
+    for (size_t i = 0; i < 3; i++) {
+        size_t top = scanned[i][0], left = scanned[i][1], bottom = scanned[i][2], right = scanned[i][3];
+        uint64_t dropouts, pixels = (uint64_t)(bottom - top) * (right - left);
         accept("rectangle", mzg_rectangle(&plan, top, left, bottom, right, output, (size_t)sizes.pixels, &total));
         accept("dropouts", mzg_dropouts(&plan, top, left, bottom, right, map, map_length, &dropouts));
-        printf("row %zu, column %zu: total %" PRId64 ", dropouts %" PRIu64 "\n", top, left, total, dropouts);
+        printf("pixels %" PRIu64 ", dropouts %" PRIu64 ", total %" PRId64, pixels, dropouts, total);
+        if (dropouts < pixels)
+            printf(", mean of the seen %.3f\n", (double)total / (double)(pixels - dropouts));
+        else
+            printf(", nothing seen\n");
     }
 
     /* A refused call says why: the map has 5 rows. */

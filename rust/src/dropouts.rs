@@ -42,9 +42,11 @@ extern "C" {
 /// let [hole, zero] = [Rectangle::new(0, 1, 1, 2), Rectangle::new(1, 0, 2, 1)];
 /// assert_eq!([total(hole), total(zero)], [0, 0]);
 /// assert_eq!([dropouts(hole), dropouts(zero)], [1, 0]);
-/// // Of the 6 pixels 5 were seen, and these have the total.
-/// let whole = Rectangle::new(0, 0, 2, 3);
-/// assert_eq!((total(whole), 6 - dropouts(whole)), (15, 5));
+/// // Of the 6 pixels 5 were seen, and these have the total; a mean is over them, where there are any.
+/// let (whole, pixels) = (Rectangle::new(0, 0, 2, 3), 6);
+/// let seen = pixels - dropouts(whole);
+/// let mean = (seen > 0).then(|| total(whole) as f64 / seen as f64);
+/// assert_eq!((total(whole), seen, mean), (15, 5, Some(3.0)));
 /// ```
 pub fn count(plan: &Plan, rectangle: Rectangle, map: &[i32]) -> Result<u64, Refusal> {
     let mut count = 0;

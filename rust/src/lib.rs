@@ -15,7 +15,8 @@
 //! are never altered. `include/mulzhegat.h` has the same calls for C. What it asks of pointers (not null, aligned for
 //! their type, no two overlapping) holds here by borrowing: what a call writes is borrowed mutably. The archive must be
 //! of this crate's version: the length of a plan record follows [`MAX_ORDER`]. [`job::perform`] takes less than 26 KiB
-//! of stack, every other call less than 4 KiB.
+//! of stack, every other call less than 4 KiB (the C library may take some 3 KiB more where it binds `memcpy` or
+//! `memset` at their first call).
 
 pub mod dropouts;
 pub mod job;

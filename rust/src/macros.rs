@@ -153,7 +153,8 @@ pub fn value_into(
 }
 
 /// Gives total and number of pixels of a rectangle, each as [`value`] does. Where the map has dropouts, a mean of the
-/// heights seen divides by the pixels less [`dropouts::count`](crate::dropouts::count).
+/// heights seen divides by the pixels less [`dropouts::count`](crate::dropouts::count), which is 0 where nothing was
+/// seen: then the total is 0, not vacant.
 ///
 /// # Errors
 /// As [`value`].

@@ -1,5 +1,5 @@
-// Words of lent buffers: copied, scaled, cleared, and read from heights, of which some are dropouts. An inner crate: what
-// its functions require, their callers in this repository show.
+// Words of lent buffers: copied, scaled, cleared, and read from heights, of which some are dropouts. An inner crate:
+// what its functions require, their callers in this repository show.
 ghost use mathlib.Core.Path.{_≡_};
 ghost use Prim.Native.Nat.{_+_, _*_, _≤_};
 ghost use lib.ListN.{length};

@@ -1,4 +1,5 @@
-// Numbers: the lesser of two, yes and no as 1 and 0, a number or 0 by a bound, a range from 1 on, and words of a kind and a payload.
+// Numbers: the lesser of two, yes and no as 1 and 0, a number or 0 by a bound, a range from 1 on, and words of a kind
+// and a payload.
 ghost use mathlib.Core.Path.{_≡_};
 ghost use mathlib.Core.Bool.{cond};
 ghost use lib.Dec.{ltb};
