@@ -8,7 +8,7 @@ use Rattle.buffer.specs.Pixel.{reading}
 use Rattle.buffer.proofs.Pixel.{dropouts-replaced}
 use Rattle.filter.specs.PlanFilters.{mapOf}
 use Rattle.plan.specs.declared.Plan.{Plan}
-use Rattle.serial.specs.Serial.{serialAnswer, serialWords, serialOutput}
+use Rattle.serial.specs.Serial.{serialWords, serialOutput}
 use Rattle.tasks.specs.Tasks.{BlockTask}
 use Rattle.job_spec.specs.Calls.{Buffers, taskAnswer, stripsAfter, outputAfter, performed, afterTask, afterCalls, answersOf}
 use Rattle.job_spec.specs.Replaced.{SameReplaced}

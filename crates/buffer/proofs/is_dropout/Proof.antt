@@ -1,6 +1,5 @@
 -- `is_dropout` compares bits: those of a dropout are no other height's.
-use mathlib.Core.Path.{_≡_, refl, sym, ap, _∙_}
-use mathlib.Core.Bool.{true}
+use mathlib.Core.Path.{_≡_, sym, ap, _∙_}
 use borrow.Author.Tests.{eqb-true, eq-eqb}
 use lib.IntN.{ℤ, pos, negℤ}
 use lib.Dec.{eqb}
