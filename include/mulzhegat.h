@@ -15,8 +15,8 @@
  * in mzg_task: outputs, tables and totals are those of the map with every dropout replaced by 0, and none of them shows
  * that there was one. mzg_dropouts counts them in the map itself. A smoothing pass takes a hole for a height of 0 as
  * well, so that words near a hole are drawn towards 0: to fill holes first, filter a copy of the map, and keep the
- * scanned one for mzg_dropouts. A job or a table that a version without dropouts made, from a map that has some, is not
- * to be gone on with: it has pits in it.
+ * scanned one for mzg_dropouts. A job or a table that a version before dropouts made, over a map that has some, has
+ * pits in it: make it anew.
  *
  * Answers. Every function answers 0 where the call is accepted, else number * 2^32 + place: the cause, by the numbers
  * in the enum below, and where it is. MZG_NUMBER and MZG_PLACE take an answer apart. Keep it in a uint64_t: its low 32
@@ -217,11 +217,11 @@ uint64_t mzg_rectangle(const mzg_plan *plan, size_t top, size_t left, size_t bot
  *     else if (dropouts == pixels)
  *         nothing_was_seen(); // every pixel is a hole, or the rectangle is empty: the total is 0 and says nothing
  *     else
- *         cut_by_mean((double)total / (double)(pixels - dropouts)); // of those seen; rounded twice past 2^53
+ *         cut_by_mean((double)total / (double)(pixels - dropouts)); // of the heights that were seen
  *
- * No more are counted than the rectangle has pixels, and 0 of an empty one; the four numbers are tested as those of
- * mzg_rectangle. Which pixels they are the map says: compare with MZG_DROPOUT. Any plan of the map's size will do, also
- * that of a smoothing; the whole record is tested.
+ * The cast of a total past 2^53 rounds, and so does the quotient. No more are counted than the rectangle has pixels,
+ * and 0 of an empty one; the four numbers are tested as those of mzg_rectangle. Which pixels they are the map says:
+ * compare with MZG_DROPOUT. Any plan of the map's size will do, also that of a smoothing; the whole record is tested.
  * Needs sizes.pixels heights, also for an empty rectangle.
  * Refused: 6, 15 (map), 12; the count is then 0, as that of an accepted call can be: look at the answer first. */
 uint64_t mzg_dropouts(const mzg_plan *plan, size_t top, size_t left, size_t bottom, size_t right,
