@@ -7,7 +7,7 @@ use native.Mathlib.Nat.{mul-le-mul, mul-le-mul-right, le-mul-of-pos-right}
 use Rattle.plan.specs.declared.Plan.{Plan}
 use Rattle.plan.specs.Rules.{orderLimit, keepsRules}
 use Rattle.grid.specs.Grid.{blockRows, blockColumns}
-use Rattle.plan.specs.Sizes.{orderSum, neededMarks, slotWords}
+use Rattle.plan.specs.Sizes.{orderSum, neededMarks, halfWords, slotWords}
 use Rattle.plan.proofs.Record.{rules, order-sum-limited}
 use Rattle.grid.proofs.Blocks.{ranges}
 
@@ -19,8 +19,9 @@ pub record Bounds (plan : Plan) (m n orders : ℕ) : Type 0 where
   pub block-columns-high : n ≤ 4096
   pub orders-high : orders ≤ orderLimit * 4
   pub marks-high : m * n ≤ 16777216
-  pub slot-high : slotWords plan ≤ 32 * (orderLimit * 4)
-  pub strips-high : m * n * slotWords plan ≤ 16777216 * (32 * (orderLimit * 4))
+  pub half-high : halfWords plan ≤ 32 * (orderLimit * 4)
+  pub slot-high : slotWords plan ≤ 64 * (orderLimit * 4)
+  pub strips-high : m * n * slotWords plan ≤ 16777216 * (64 * (orderLimit * 4))
   pub pixels-high : plan .grid .rows * plan .grid .columns ≤ 16777216
   pub block-rows-in-marks : m ≤ m * n
   pub block-columns-in-marks : n ≤ m * n
@@ -30,7 +31,8 @@ pub bounds : (plan : Plan) → keepsRules plan ≡ true
 bounds plan kept =
     let known = ranges (plan .grid) (rules plan kept .grid-kept) in
     let orders = order-sum-limited plan kept 4 (omega arith) in
-    let slot : slotWords plan ≤ 32 * (orderLimit * 4) = mul-le-mul (known .side-high) orders in
+    let half : halfWords plan ≤ 32 * (orderLimit * 4) = mul-le-mul (known .side-high) orders in
+    let slot : slotWords plan ≤ 64 * (orderLimit * 4) = omega arith in
     let once : 1 * blockColumns (plan .grid) ≤ neededMarks plan = mul-le-mul-right (blockColumns (plan .grid)) (known .block-rows-low) in
     record {
       block-rows-low = known .block-rows-low;
@@ -39,6 +41,7 @@ bounds plan kept =
       block-columns-high = known .block-columns-high;
       orders-high = orders;
       marks-high = known .total-high;
+      half-high = half;
       slot-high = slot;
       strips-high = mul-le-mul (known .total-high) slot;
       pixels-high = known .pixels-high;

@@ -1,4 +1,4 @@
--- The needed lengths: what follows from a plan record. Document 01, 'Blocks, marks and strips'.
+-- The needed lengths: what follows from a plan record. Document 01, 'Blocks, marks and strips'; document 02, CR 8.
 use Prim.Native.Nat.{ℕ, _+_, _-_, _*_}
 use Rattle.number.specs.Numbers.{total}
 use Rattle.grid.specs.Grid.{blockRows, blockColumns, blockTotal}
@@ -34,11 +34,15 @@ wordLimit = fixedWords + orderSumLimit
 abbrev pub neededMarks : Plan → ℕ
 neededMarks plan = blockTotal (plan .grid)
 
--- The words of a slot: b×R, R the sum of the four orders.
-abbrev pub slotWords : Plan → ℕ
-slotWords plan = plan .grid .side * orderSum plan 4
+-- The words of half a slot, of the lone strips or of the linked ones: b×R, R the sum of the four orders.
+abbrev pub halfWords : Plan → ℕ
+halfWords plan = plan .grid .side * orderSum plan 4
 
--- M×N slots: M×N×b×R words of strips.
+-- The words of a slot, twice as many: document 02, CR 8.
+abbrev pub slotWords : Plan → ℕ
+slotWords plan = 2 * halfWords plan
+
+-- M×N slots: M×N×2×b×R words of strips.
 abbrev pub neededStrips : Plan → ℕ
 neededStrips plan = blockTotal (plan .grid) * slotWords plan
 

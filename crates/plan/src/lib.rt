@@ -10,7 +10,7 @@ ghost use Rattle.refusal.specs.declared.Refusal.the-variants.{BufferTooShort};
 ghost use Rattle.refusal.specs.Refusals.{accepted, refusedFor};
 ghost use Rattle.refusal.specs.Table.{firstDue, answerOf, given};
 ghost use Rattle.plan.specs.Rules.{inSigned28, isZero, coefficientKept, coefficientsKept, passKept, passesKept, keepsRules};
-ghost use Rattle.plan.specs.Sizes.{orderSum, slotWords, sizesOf};
+ghost use Rattle.plan.specs.Sizes.{orderSum, halfWords, sizesOf};
 ghost use Rattle.plan.specs.FirstTests.{tooShort, of7TooShort, lengthRows, onlyOf7, zeroSizes, planSizes, sizesFor, sizesGiven};
 
 // The largest order of a pass: `orderLimit` of specs/Rules.antt is the same number.
@@ -129,16 +129,16 @@ impl Plan {
             block_rows: block_rows,
             block_columns: block_columns,
             marks: marks,
-            strips: marks * self.slot_words(),
+            strips: marks * (2 * self.half_words()),
             pixels: grid.rows * grid.columns,
             tasks: 6 * marks - 2 * block_rows - 2 * block_columns,
         }
     }
 
-    // The words of the slot that each block has in the list of strips.
-    pub fn slot_words(self) -> usize
+    // The words of half the slot that each block has in the list of strips.
+    pub fn half_words(self) -> usize
         requires { ⌜ keepsRules self ≡ true ⌝ }
-        ensures { λ r. ⌜ r ≡ slotWords self ⌝ }
+        ensures { λ r. ⌜ r ≡ halfWords self ⌝ }
     {
         self.grid.side * self.order_sum(4)
     }

@@ -10,16 +10,18 @@ use Rattle.plan.specs.Sizes.{neededMarks, orderOf}
 use Rattle.passes.proofs.Passes.{passesOver-reads}
 use Rattle.filter.specs.PlanFilters.{filtersOf}
 use Rattle.grid.specs.Grid.{rowsOf, columnsOf, goesOn}
+use Rattle.task_words.specs.declared.Half.{Half}
+use Rattle.task_words.specs.declared.Half.the-variants.{Lone, Linked}
 use Rattle.task_words.specs.Strips.{insideBlock, stripWord, pastEdges}
 use Rattle.task_words.specs.Depends.{SameStrip, SameNeeds, SameNeeded, CollectDepends, LinkDepends, FinishDepends, LinkReadsNoBorder, FinishReadsNoBorder}
 use Rattle.task_words.specs.Writes.{blockPasses, aloneWord, linkWord, finishWord}
 use Rattle.grid.proofs.Neighbours.{neighbour-below, neighbour-goes-on}
 use Rattle.task_words.proofs.StripReads.{masked-same, edge-same, past-same}
 
-read-same : (plan : Plan) (k pass : ℕ) (s r : List ℕ) → SameStrip plan k pass s r → (line place : ℕ)
-    → place < orderOf plan pass → stripWord plan s k pass line place ≡ stripWord plan r k pass line place
+read-same : (plan : Plan) (half : Half) (k pass : ℕ) (s r : List ℕ) → SameStrip plan half k pass s r → (line place : ℕ)
+    → place < orderOf plan pass → stripWord plan s half k pass line place ≡ stripWord plan r half k pass line place
 unfolding stripWord
-read-same plan k pass s r same line place h = masked-same (insideBlock plan k pass line place) _ _ (same line place h)
+read-same plan half k pass s r same line place h = masked-same (insideBlock plan k pass line place) _ _ (same line place h)
 
 -- The passes read the block and the strips past its edges.
 passes-same : (plan : Plan) (k n : ℕ) (s r : List ℕ) (Y Z : ℕ → ℕ → ℕ) → SameNeeds plan k n s r
@@ -28,7 +30,7 @@ passes-same : (plan : Plan) (k n : ℕ) (s r : List ℕ) (Y Z : ℕ → ℕ → 
     → blockPasses plan k (pastEdges plan s k) Y n y x ≡ blockPasses plan k (pastEdges plan r k) Z n y x
 passes-same plan k n s r Y Z needs e =
     passesOver-reads (filtersOf plan) (rowsOf (plan .grid) k) (columnsOf (plan .grid) k) _ _ Y Z n
-    (λ u l i a b c. past-same plan s r k u (λ j f. read-same plan j u s r (needs u j a f)) l i)
+    (λ u l i a b c. past-same plan s r k u (λ j f. read-same plan Linked j u s r (needs u j a f)) l i)
     e
 
 pub collect-depends : CollectDepends
@@ -42,7 +44,7 @@ collect-depends plan X Y k pass same line place h =
 pub link-depends : LinkDepends
 unfolding linkWord
 link-depends plan s r k pass own needs line place h =
-    ap₂ _⊕_ (read-same plan k pass s r own line place h)
+    ap₂ _⊕_ (read-same plan Lone k pass s r own line place h)
     (edge-same plan k pass _ _ (passes-same plan k (suc pass) s r _ _ needs (λ y x a b. refl)) line place h)
 
 pub finish-depends : FinishDepends
@@ -53,12 +55,12 @@ finish-depends plan X Y s r k same needs = passes-same plan k 4 s r _ _ needs sa
 needs-needed : (plan : Plan) (k n : ℕ) (s r : List ℕ) → k < neededMarks plan → n ≤ 4 → SameNeeded plan s r
     → SameNeeds plan k n s r
 needs-needed plan k n s r here few same pass j b e =
-    same j pass (neighbour-below (plan .grid) k pass j here e) (omega arith)
+    same Linked j pass (neighbour-below (plan .grid) k pass j here e) (omega arith)
     (neighbour-goes-on (plan .grid) k pass j here e)
 
 pub link-reads-no-border : LinkReadsNoBorder
 link-reads-no-border plan s r k pass here b needed same =
-    link-depends plan s r k pass (same k pass here b needed) (needs-needed plan k (suc pass) s r here (omega arith) same)
+    link-depends plan s r k pass (same Lone k pass here b needed) (needs-needed plan k (suc pass) s r here (omega arith) same)
 
 pub finish-reads-no-border : FinishReadsNoBorder
 finish-reads-no-border plan X s r k here same =

@@ -11,14 +11,14 @@ use Rattle.passes.specs.Passes.{filterLine, filterLines, passesOver}
 use Rattle.buffer.specs.Written.{rectangleWritten, rowWritten, written}
 use Rattle.buffer.specs.Pixel.{isDropout, reading, pixel, heightMap}
 use Rattle.filter.specs.PlanFilters.{filterOf}
-use Rattle.task_words.specs.Strips.{stripPlace, insideBlock, edgeWord, stripWord, nearestFirst, pastEdges, stripWrittenTo, slotWritten}
+use Rattle.task_words.specs.Strips.{stripPlace, insideBlock, edgeWord, stripWord, nearestFirst, pastEdges, stripWrittenTo, halfWritten}
 use Rattle.task_words.specs.Writes.{aloneWord, collected, linkWord, linked, finishWord, blockWritten, finished}
 use Rattle.task_words.specs.Examples.{afterCollects, afterLinks, afterFinishes, collectedStrips, linkedStrips, finishedOutput, jobExamples, blocksExamples}
 
 pub examples-hold : map (λ e. e .computed) blocksExamples ≡ map (λ e. e .expected) blocksExamples
 unfolding modulus minusOne _⊕_ _⊖_ _⊗_ residue blockCount blockExtent total history output lessFeedback filterStep filterLine
     filterLines passesOver isDropout reading pixel heightMap filterOf written blockRow blockColumn blockArea blockPixelPlace neighbour goesOn stripPlace
-    insideBlock edgeWord stripWord nearestFirst pastEdges stripWrittenTo rowWritten slotWritten aloneWord collected linkWord linked
+    insideBlock edgeWord stripWord nearestFirst pastEdges stripWrittenTo rowWritten halfWritten aloneWord collected linkWord linked
     finishWord blockWritten rectangleWritten finished afterCollects afterLinks afterFinishes collectedStrips linkedStrips finishedOutput
     jobExamples blocksExamples
 examples-hold = refl

@@ -14,6 +14,8 @@ use Rattle.number.proofs.Tests.{and-left, and-right}
 use Rattle.axis.specs.Axis.{Axis, columns, rows, Direction, forward, backward, axisOf, directionOf, along, across, lineOf}
 use Rattle.passes.proofs.Blocks.{wordsBeside}
 use Rattle.grid.specs.Grid.{rowsOf, columnsOf, partOf, neighbour, extentAlong, linesAcross}
+use Rattle.task_words.specs.declared.Half.{Half}
+use Rattle.task_words.specs.declared.Half.the-variants.{Linked}
 use Rattle.task_words.specs.Strips.{placeInside, indexOfPlace, insideBlock, edgeWord, stripWord, fromEdge, nearestFirst, pastEdges}
 use Rattle.filter.specs.PlanFilters.{serialResult}
 use Rattle.task_words.specs.Matching.{matchingWord}
@@ -83,11 +85,11 @@ nearest-same plan pass words other e line i =
     (λ t. e line _ (from-edge-below (directionOf pass) (orderOf plan pass) i (ltb-true i (orderOf plan pass) t)))
 
 -- Where a list holds a block's strip, it is read so, masked to the block.
-pub read-held : (plan : Plan) (strips : List ℕ) (k pass : ℕ) (words : ℕ → ℕ → ℕ) → HoldsStrip plan strips k pass words
+pub read-held : (plan : Plan) (strips : List ℕ) (half : Half) (k pass : ℕ) (words : ℕ → ℕ → ℕ) → HoldsStrip plan strips half k pass words
     → (line place : ℕ) → place < orderOf plan pass
-    → stripWord plan strips k pass line place ≡ cond (insideBlock plan k pass line place) (words line place) 0
+    → stripWord plan strips half k pass line place ≡ cond (insideBlock plan k pass line place) (words line place) 0
 unfolding stripWord
-read-held plan strips k pass words holds line place h =
+read-held plan strips half k pass words holds line place h =
     masked-same (insideBlock plan k pass line place) _ _
     (λ t. holds line place (inside-side plan k pass line place t) h)
 
@@ -102,28 +104,28 @@ masked-edge plan k pass Z line place = twice (insideBlock plan k pass line place
     twice false v = refl
 
 -- Where a list holds the strip of a block's words, it is read so.
-pub read-edge : (plan : Plan) (strips : List ℕ) (k pass : ℕ) (Z : ℕ → ℕ → ℕ)
-    → HoldsStrip plan strips k pass (edgeWord plan k pass Z) → (line place : ℕ) → place < orderOf plan pass
-    → stripWord plan strips k pass line place ≡ edgeWord plan k pass Z line place
-read-edge plan strips k pass Z holds line place h =
-    read-held plan strips k pass (edgeWord plan k pass Z) holds line place h ∙ masked-edge plan k pass Z line place
+pub read-edge : (plan : Plan) (strips : List ℕ) (half : Half) (k pass : ℕ) (Z : ℕ → ℕ → ℕ)
+    → HoldsStrip plan strips half k pass (edgeWord plan k pass Z) → (line place : ℕ) → place < orderOf plan pass
+    → stripWord plan strips half k pass line place ≡ edgeWord plan k pass Z line place
+read-edge plan strips half k pass Z holds line place h =
+    read-held plan strips half k pass (edgeWord plan k pass Z) holds line place h ∙ masked-edge plan k pass Z line place
 
 -- ---- past a block's edges
 
 -- Two lists that have the same strip of a pass at the neighbour that it comes from.
 pub past-same : (plan : Plan) (s r : List ℕ) (k pass : ℕ)
     → ((j : ℕ) → neighbour (plan .grid) k pass ≡ some j → (line place : ℕ) → place < orderOf plan pass
-    → stripWord plan s j pass line place ≡ stripWord plan r j pass line place)
+    → stripWord plan s Linked j pass line place ≡ stripWord plan r Linked j pass line place)
     → (line distance : ℕ) → pastEdges plan s k pass line distance ≡ pastEdges plan r k pass line distance
 unfolding pastEdges
 past-same plan s r k pass e line i =
     orZero-same _ _ (neighbour (plan .grid) k pass) (λ j n. nearest-same plan pass _ _ (e j n) line i)
 
--- The strips past block k's edges, for the first n passes, are the whole map's.
+-- The linked strips past block k's edges, for the first n passes, are the whole map's.
 abbrev pub NeedsTrue : Plan → (ℕ → ℕ → ℕ) → List ℕ → ℕ → ℕ → Type 0
 NeedsTrue plan X strips k n =
     (pass j : ℕ) → pass < n → neighbour (plan .grid) k pass ≡ some j
-    → HoldsStrip plan strips j pass (matchingWord plan X j pass)
+    → HoldsStrip plan strips Linked j pass (matchingWord plan X j pass)
 
 -- Then what stands past its edges is what the whole map has there.
 pub past-true : (plan : Plan) → SideFits plan → (X : ℕ → ℕ → ℕ) (strips : List ℕ) (k : ℕ) (here : k < neededMarks plan)
@@ -136,5 +138,5 @@ past-true plan fits X strips k here n b needs pass line i h p q =
     orZero-same _ _ (neighbour (plan .grid) k pass)
     (λ j e.
     nearest-same plan pass _ _
-    (read-edge plan strips j pass (partOf (plan .grid) j (serialResult plan X (suc pass))) (needs pass j h e)) line i)
+    (read-edge plan strips Linked j pass (partOf (plan .grid) j (serialResult plan X (suc pass))) (needs pass j h e)) line i)
     ∙ sym (beside-strip plan fits k here pass (omega arith) (serialResult plan X (suc pass)) line i p q)

@@ -10,20 +10,27 @@ use native.Mathlib.Omega.{arith}
 use lib.ListN.{length}
 use Rattle.buffer.specs.Written.{rowWritten}
 use Rattle.plan.specs.declared.Plan.{Plan}
-use Rattle.plan.specs.Sizes.{orderSum, neededMarks, slotWords, neededStrips, orderOf}
+use Rattle.plan.specs.Sizes.{orderSum, neededMarks, halfWords, slotWords, neededStrips, orderOf}
 use Rattle.buffer.specs.Lists.{wordAt}
 use Rattle.number.proofs.Sums.{total-grows}
 use Rattle.number.proofs.Tests.{lt-or-ge}
 use Rattle.axis.specs.Axis.{Axis, columns, rows, axisOf}
-use Rattle.task_words.specs.Strips.{slotStart, stripWords, stripStart, placeInStrip, stripPlace, laidInRows, stripWrittenTo, stripWritten, slotWritten}
+use Rattle.task_words.specs.declared.Half.{Half}
+use Rattle.task_words.specs.declared.Half.the-variants.{Lone, Linked}
+use Rattle.task_words.specs.Strips.{slotStart, wordsBeforeHalf, halfStart, stripWords, stripStart, placeInStrip, stripPlace, laidInRows, stripWrittenTo, stripWritten, halfWritten}
 use Rattle.buffer.proofs.Written.{written-length, written-same, written-other, written-at}
 use Rattle.number.proofs.RowMajor.{row-of, column-of, place-below, row-below, column-below}
 
--- A list holds these words, by line and place, as block k's strip of a pass.
-abbrev pub HoldsStrip : Plan → List ℕ → ℕ → ℕ → (ℕ → ℕ → ℕ) → Type 0
-HoldsStrip plan strips k pass words =
+-- A list holds these words, by line and place, as block k's strip of a pass in a half.
+abbrev pub HoldsStrip : Plan → List ℕ → Half → ℕ → ℕ → (ℕ → ℕ → ℕ) → Type 0
+HoldsStrip plan strips half k pass words =
     (line place : ℕ) → line < plan .grid .side → place < orderOf plan pass
-    → wordAt strips (stripPlace plan k pass line place) ≡ words line place
+    → wordAt strips (stripPlace plan half k pass line place) ≡ words line place
+
+-- A place of the list of strips stands in none of block k's strip of a pass in a half.
+abbrev pub OutsideStrip : Plan → Half → (k pass q : ℕ) → Type 0
+OutsideStrip plan half k pass q =
+    (line place : ℕ) → line < plan .grid .side → place < orderOf plan pass → q ≢ stripPlace plan half k pass line place
 
 -- ---- inside a strip
 
@@ -64,102 +71,135 @@ module _ (b r : ℕ) where
   word-laid columns words line place p q = ap₂ words (column-of b place line p) (row-of b place line p)
   word-laid rows words line place p q = ap₂ words (row-of r line place q) (column-of r line place q)
 
--- ---- strips of a slot, slots of the list
+-- ---- strips of a half, halves of the list
+
+-- The halves of all slots, numbered in the order in which they lie.
+abbrev pub halfNumber : Half → ℕ → ℕ
+halfNumber Lone k = 2 * k
+halfNumber Linked k = 2 * k + 1
+
+-- The number tells the half and the block.
+same-half : (half other : Half) (k j : ℕ) → halfNumber half k ≡ halfNumber other j → (half ≡ other) × (k ≡ j)
+same-half Lone Lone k j e = (refl, omega arith)
+same-half Lone Linked k j e = absurd (omega arith)
+same-half Linked Lone k j e = absurd (omega arith)
+same-half Linked Linked k j e = (refl, omega arith)
 
 module _ (plan : Plan) where
-  pub strip-in-slot : (pass : ℕ) → pass < 4 → plan .grid .side * orderSum plan pass + stripWords plan pass ≤ slotWords plan
-  strip-in-slot pass h =
+  -- Halves of as many words lie one after another.
+  pub half-start : (half : Half) (k : ℕ) → halfStart plan half k ≡ halfNumber half k * halfWords plan
+  half-start Lone k = omega arith
+  half-start Linked k = omega arith
+
+  half-below : (half : Half) (k : ℕ) → k < neededMarks plan → halfNumber half k < 2 * neededMarks plan
+  half-below Lone k h = omega arith
+  half-below Linked k h = omega arith
+
+  pub strip-in-half : (pass : ℕ) → pass < 4 → plan .grid .side * orderSum plan pass + stripWords plan pass ≤ halfWords plan
+  strip-in-half pass h =
       let e : plan .grid .side * (orderSum plan pass + orderOf plan pass) ≤ plan .grid .side * orderSum plan 4 =
       mul-le-mul-left (plan .grid .side) (total-grows (orderOf plan) pass 4 h) in
       omega arith
 
-  pub slot-in-list : (k : ℕ) → k < neededMarks plan → slotStart plan k + slotWords plan ≤ neededStrips plan
-  slot-in-list k h =
-      let e : suc k * slotWords plan ≤ neededMarks plan * slotWords plan = mul-le-mul-right (slotWords plan) h in
-      omega arith
+  pub half-in-list : (half : Half) (k : ℕ) → k < neededMarks plan → halfStart plan half k + halfWords plan ≤ neededStrips plan
+  half-in-list half k h =
+      let e : suc (halfNumber half k) * halfWords plan ≤ (2 * neededMarks plan) * halfWords plan =
+      mul-le-mul-right (halfWords plan) (half-below half k h) in
+      omega (arith, half-start half k)
 
-  pub strip-in-list : (k pass : ℕ) → k < neededMarks plan → pass < 4
-      → stripStart plan k pass + stripWords plan pass ≤ neededStrips plan
-  strip-in-list k pass h p = omega (arith, strip-in-slot pass p, slot-in-list k h)
+  pub strip-in-list : (half : Half) (k pass : ℕ) → k < neededMarks plan → pass < 4
+      → stripStart plan half k pass + stripWords plan pass ≤ neededStrips plan
+  strip-in-list half k pass h p = omega (arith, strip-in-half pass p, half-in-list half k h)
 
-  pub strip-place-below : (k pass line place : ℕ) → k < neededMarks plan → pass < 4 → line < plan .grid .side
-      → place < orderOf plan pass → stripPlace plan k pass line place < neededStrips plan
+  pub strip-place-below : (half : Half) (k pass line place : ℕ) → k < neededMarks plan → pass < 4 → line < plan .grid .side
+      → place < orderOf plan pass → stripPlace plan half k pass line place < neededStrips plan
   unfolding stripPlace
-  strip-place-below k pass line place h p a b =
-      omega (arith, strip-in-list k pass h p, in-strip (plan .grid .side) (orderOf plan pass) (axisOf pass) line place a b)
+  strip-place-below half k pass line place h p a b =
+      omega (arith, strip-in-list half k pass h p, in-strip (plan .grid .side) (orderOf plan pass) (axisOf pass) line place a b)
 
-  -- The strips of a slot, and the slots, lie one after another.
-  slot-before : (k u j v : ℕ) → u < 4 → k < j → stripStart plan k u + stripWords plan u ≤ stripStart plan j v
-  slot-before k u j v a h =
-      let e : suc k * slotWords plan ≤ j * slotWords plan = mul-le-mul-right (slotWords plan) h in
-      omega (arith, strip-in-slot u a)
+  -- The strips of a half, and the halves, lie one after another.
+  half-before : (half other : Half) (k u j v : ℕ) → u < 4 → halfNumber half k < halfNumber other j
+      → stripStart plan half k u + stripWords plan u ≤ stripStart plan other j v
+  half-before half other k u j v a h =
+      let e : suc (halfNumber half k) * halfWords plan ≤ halfNumber other j * halfWords plan = mul-le-mul-right (halfWords plan) h in
+      omega (arith, strip-in-half u a, half-start half k, half-start other j)
 
-  strip-before : (k u v : ℕ) → u < v → stripStart plan k u + stripWords plan u ≤ stripStart plan k v
-  strip-before k u v h =
+  strip-before : (half : Half) (k u v : ℕ) → u < v → stripStart plan half k u + stripWords plan u ≤ stripStart plan half k v
+  strip-before half k u v h =
       let e : plan .grid .side * (orderSum plan u + orderOf plan u) ≤ plan .grid .side * orderSum plan v =
       mul-le-mul-left (plan .grid .side) (total-grows (orderOf plan) u v h) in
       omega arith
 
-  strips-apart : (k u j v q p : ℕ) → u < 4 → v < 4 → (k ≡ j → u ≡ v → ⊥) → q < stripWords plan u → p < stripWords plan v
-      → stripStart plan k u + q ≢ stripStart plan j v + p
-  strips-apart k u j v q p a b differ c d e =
-      by-order k j
-      (λ o. omega (arith, slot-before k u j v a o))
-      (λ o. omega (arith, slot-before j v k u b o))
+  strips-apart : (half other : Half) (k u j v q p : ℕ) → u < 4 → v < 4 → (half ≡ other → k ≡ j → u ≡ v → ⊥)
+      → q < stripWords plan u → p < stripWords plan v → stripStart plan half k u + q ≢ stripStart plan other j v + p
+  strips-apart half other k u j v q p a b differ c d e =
+      by-order (halfNumber half k) (halfNumber other j)
+      (λ o. omega (arith, half-before half other k u j v a o))
+      (λ o. omega (arith, half-before other half j v k u b o))
       (λ same.
-      let f : stripStart plan j u + q ≡ stripStart plan j v + p = rw same at e in
+      let (half-is, block-is) = same-half half other k j same in
+      let f : stripStart plan other j u + q ≡ stripStart plan other j v + p = rw (half-is, block-is) at e in
       by-order u v
-      (λ o. omega (arith, strip-before j u v o))
-      (λ o. omega (arith, strip-before j v u o))
-      (differ same))
+      (λ o. omega (arith, strip-before other j u v o))
+      (λ o. omega (arith, strip-before other j v u o))
+      (differ half-is block-is))
     where
       by-order : (m n : ℕ) → (m < n → ⊥) → (n < m → ⊥) → (m ≡ n → ⊥) → ⊥
       by-order m n f g h =
           ⊎-elim f (λ (ge : n ≤ m). ⊎-elim (λ (z : n ≡ m). h (sym z)) g (eq-or-lt-of-le ge)) (lt-or-ge m n)
 
+  -- The words of two strips stand apart.
+  pub places-apart : (half other : Half) (k u j v line place l p : ℕ) → u < 4 → v < 4 → (half ≡ other → k ≡ j → u ≡ v → ⊥)
+      → line < plan .grid .side → place < orderOf plan u → l < plan .grid .side → p < orderOf plan v
+      → stripPlace plan half k u line place ≢ stripPlace plan other j v l p
+  unfolding stripPlace
+  places-apart half other k u j v line place l p a b differ c d e f =
+      strips-apart half other k u j v _ _ a b differ
+      (in-strip (plan .grid .side) (orderOf plan u) (axisOf u) line place c d)
+      (in-strip (plan .grid .side) (orderOf plan v) (axisOf v) l p e f)
+
 -- ---- writing one strip
 
-module _ (plan : Plan) (k pass : ℕ) (words : ℕ → ℕ → ℕ) where
-  pub strip-length : (n : ℕ) (strips : List ℕ) → length (stripWrittenTo plan k pass words n strips) ≡ length strips
+module _ (plan : Plan) (half : Half) (k pass : ℕ) (words : ℕ → ℕ → ℕ) where
+  pub strip-length : (n : ℕ) (strips : List ℕ) → length (stripWrittenTo plan half k pass words n strips) ≡ length strips
   unfolding stripWrittenTo rowWritten
   strip-length n strips = written-length _ _ n strips
 
   -- The strip reads as it was written.
   pub strip-holds : (strips : List ℕ) → k < neededMarks plan → pass < 4 → neededStrips plan ≤ length strips
-      → HoldsStrip plan (stripWritten plan k pass words strips) k pass words
+      → HoldsStrip plan (stripWritten plan half k pass words strips) half k pass words
   unfolding stripWrittenTo rowWritten stripPlace
   strip-holds strips h p long line place a b =
-      written-at (λ q. stripStart plan k pass + q) _ (stripWords plan pass) strips
-      (λ i j c d e. omega arith) (λ i c. omega (arith, strip-in-list plan k pass h p)) _
+      written-at (λ q. stripStart plan half k pass + q) _ (stripWords plan pass) strips
+      (λ i j c d e. omega arith) (λ i c. omega (arith, strip-in-list plan half k pass h p)) _
       (in-strip (plan .grid .side) (orderOf plan pass) (axisOf pass) line place a b)
       ∙ word-laid (plan .grid .side) (orderOf plan pass) (axisOf pass) words line place a b
 
-  -- Another strip is as it was,
-  pub strip-other : (strips : List ℕ) (j v line place : ℕ) → pass < 4 → v < 4 → (k ≡ j → pass ≡ v → ⊥)
-      → line < plan .grid .side
-      → place < orderOf plan v
-      → wordAt (stripWritten plan k pass words strips) (stripPlace plan j v line place)
-      ≡ wordAt strips (stripPlace plan j v line place)
+  -- Every word outside the strip is as it was,
+  pub strip-outside : (strips : List ℕ) (q : ℕ) → OutsideStrip plan half k pass q
+      → wordAt (stripWritten plan half k pass words strips) q ≡ wordAt strips q
   unfolding stripWrittenTo rowWritten stripPlace
-  strip-other strips j v line place p q differ a b =
-      written-other _ _ (stripWords plan pass) strips _
-      (λ i c e.
-      strips-apart plan k pass j v i _ p q differ c
-      (in-strip (plan .grid .side) (orderOf plan v) (axisOf v) line place a b) (sym e))
-
-  -- and so is every word outside the slot.
-  pub strip-outside : (strips : List ℕ) (q : ℕ) → pass < 4 → ((i : ℕ) → i < slotWords plan → q ≢ slotStart plan k + i)
-      → wordAt (stripWritten plan k pass words strips) q ≡ wordAt strips q
-  unfolding stripWrittenTo rowWritten
-  strip-outside strips q p out =
+  strip-outside strips q out =
       written-other _ _ (stripWords plan pass) strips q
-      (λ i c e. out (plan .grid .side * orderSum plan pass + i) (omega (arith, strip-in-slot plan pass p)) (omega arith))
+      (λ i c e.
+      let cell = cell-of (plan .grid .side) (orderOf plan pass) (axisOf pass) i c in
+      out (cell .line) (cell .place) (cell .in-lines) (cell .in-places)
+      (e ∙ ap (stripStart plan half k pass +_) (sym (cell .stands))))
 
-pub strip-same-words : (plan : Plan) (k pass : ℕ) (words other : ℕ → ℕ → ℕ) (strips : List ℕ)
+  -- and so is another strip.
+  pub strip-other : (strips : List ℕ) (other : Half) (j v line place : ℕ) → pass < 4 → v < 4
+      → (half ≡ other → k ≡ j → pass ≡ v → ⊥) → line < plan .grid .side → place < orderOf plan v
+      → wordAt (stripWritten plan half k pass words strips) (stripPlace plan other j v line place)
+      ≡ wordAt strips (stripPlace plan other j v line place)
+  strip-other strips other j v line place p q differ a b =
+      strip-outside strips _
+      (λ l i c d e. places-apart plan half other k pass j v l i line place p q differ c d a b (sym e))
+
+pub strip-same-words : (plan : Plan) (half : Half) (k pass : ℕ) (words other : ℕ → ℕ → ℕ) (strips : List ℕ)
     → ((line place : ℕ) → line < plan .grid .side → place < orderOf plan pass → words line place ≡ other line place)
-    → stripWritten plan k pass words strips ≡ stripWritten plan k pass other strips
+    → stripWritten plan half k pass words strips ≡ stripWritten plan half k pass other strips
 unfolding stripWrittenTo rowWritten
-strip-same-words plan k pass words other strips e =
+strip-same-words plan half k pass words other strips e =
     written-same _ _ _ _ (stripWords plan pass) strips (λ q h. refl)
     (λ q h.
     let a = axisOf pass in
@@ -172,56 +212,45 @@ strip-same-words plan k pass words other strips e =
     ∙ sym (word-laid b r a other (c .line) (c .place) (c .in-lines) (c .in-places))
     ∙ ap (laidInRows a b r other) (c .stands))
 
--- ---- writing the strips of a slot
+-- ---- writing the strips of a half
 
-module _ (plan : Plan) (k : ℕ) (words : ℕ → ℕ → ℕ → ℕ) where
-  pub slot-none : (strips : List ℕ) → slotWritten plan k words 0 strips ≡ strips
-  unfolding slotWritten
-  slot-none strips = refl
+module _ (plan : Plan) (half : Half) (k : ℕ) (words : ℕ → ℕ → ℕ → ℕ) where
+  pub half-none : (strips : List ℕ) → halfWritten plan half k words 0 strips ≡ strips
+  unfolding halfWritten
+  half-none strips = refl
 
-  pub slot-next : (pass : ℕ) (strips : List ℕ)
-      → stripWritten plan k pass (words pass) (slotWritten plan k words pass strips)
-      ≡ slotWritten plan k words (pass + 1) strips
-  unfolding slotWritten
-  slot-next pass strips = rw (add-one pass)
+  pub half-next : (pass : ℕ) (strips : List ℕ)
+      → stripWritten plan half k pass (words pass) (halfWritten plan half k words pass strips)
+      ≡ halfWritten plan half k words (pass + 1) strips
+  unfolding halfWritten
+  half-next pass strips = rw (add-one pass)
 
-  pub slot-length : (n : ℕ) (strips : List ℕ) → length (slotWritten plan k words n strips) ≡ length strips
-  unfolding slotWritten
-  slot-length zero strips = refl
-  slot-length (suc n) strips = strip-length plan k n (words n) (stripWords plan n) _ ∙ slot-length n strips
+  pub half-length : (n : ℕ) (strips : List ℕ) → length (halfWritten plan half k words n strips) ≡ length strips
+  unfolding halfWritten
+  half-length zero strips = refl
+  half-length (suc n) strips = strip-length plan half k n (words n) (stripWords plan n) _ ∙ half-length n strips
 
   -- Each of the strips reads as it was written,
-  pub slot-holds : (n : ℕ) (strips : List ℕ) (pass : ℕ) → n ≤ 4 → pass < n → k < neededMarks plan
-      → neededStrips plan ≤ length strips → HoldsStrip plan (slotWritten plan k words n strips) k pass (words pass)
-  unfolding slotWritten
-  slot-holds zero strips pass h p here long line place a b = absurd (omega arith)
-  slot-holds (suc n) strips pass h p here long line place a b =
+  pub half-holds : (n : ℕ) (strips : List ℕ) (pass : ℕ) → n ≤ 4 → pass < n → k < neededMarks plan
+      → neededStrips plan ≤ length strips → HoldsStrip plan (halfWritten plan half k words n strips) half k pass (words pass)
+  unfolding halfWritten
+  half-holds zero strips pass h p here long line place a b = absurd (omega arith)
+  half-holds (suc n) strips pass h p here long line place a b =
       ⊎-elim
       (λ (q : suc pass ≡ suc n).
       let same : pass ≡ n = omega arith in
       rw (← same)
-      (strip-holds plan k pass (words pass) _ here (omega arith) (rw (slot-length pass strips) long) line place a b))
+      (strip-holds plan half k pass (words pass) _ here (omega arith) (rw (half-length pass strips) long) line place a b))
       (λ (q : suc pass < suc n).
-      strip-other plan k n (words n) _ k pass line place h (omega arith) (λ _ z. omega arith) a b
-      ∙ slot-holds n strips pass (omega arith) (omega arith) here long line place a b)
+      strip-other plan half k n (words n) _ half k pass line place h (omega arith) (λ _ _ z. omega arith) a b
+      ∙ half-holds n strips pass (omega arith) (omega arith) here long line place a b)
       (eq-or-lt-of-le p)
 
-  -- the strips of another block are as they were,
-  pub slot-other : (n : ℕ) (strips : List ℕ) (j v line place : ℕ) → n ≤ 4 → v < 4 → (k ≡ j → ⊥) → line < plan .grid .side
-      → place < orderOf plan v
-      → wordAt (slotWritten plan k words n strips) (stripPlace plan j v line place)
-      ≡ wordAt strips (stripPlace plan j v line place)
-  unfolding slotWritten
-  slot-other zero strips j v line place h p differ a b = refl
-  slot-other (suc n) strips j v line place h p differ a b =
-      strip-other plan k n (words n) _ j v line place h p (λ z _. differ z) a b
-      ∙ slot-other n strips j v line place (omega arith) p differ a b
-
-  -- and so is every word outside the slot.
-  pub slot-outside : (n : ℕ) (strips : List ℕ) (q : ℕ) → n ≤ 4 → ((i : ℕ) → i < slotWords plan
-      → q ≢ slotStart plan k + i)
-      → wordAt (slotWritten plan k words n strips) q ≡ wordAt strips q
-  unfolding slotWritten
-  slot-outside zero strips q h out = refl
-  slot-outside (suc n) strips q h out =
-      strip-outside plan k n (words n) _ q h out ∙ slot-outside n strips q (omega arith) out
+  -- and every word outside them is as it was.
+  pub half-outside : (n : ℕ) (strips : List ℕ) (q : ℕ) → ((pass : ℕ) → pass < n → OutsideStrip plan half k pass q)
+      → wordAt (halfWritten plan half k words n strips) q ≡ wordAt strips q
+  unfolding halfWritten
+  half-outside zero strips q out = refl
+  half-outside (suc n) strips q out =
+      strip-outside plan half k n (words n) _ q (out n (omega arith))
+      ∙ half-outside n strips q (λ pass h. out pass (omega arith))

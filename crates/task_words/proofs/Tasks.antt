@@ -11,18 +11,19 @@ use lib.ListN.{length}
 use Rattle.word.specs.Word.{_⊕_}
 use Rattle.word.proofs.Ring.{zero-add}
 use Rattle.plan.specs.declared.Plan.{Plan}
-use Rattle.plan.specs.Sizes.{neededMarks, slotWords, neededStrips, neededPixels, orderOf}
+use Rattle.plan.specs.Sizes.{neededMarks, neededStrips, neededPixels, orderOf}
 use Rattle.buffer.specs.Lists.{wordAt}
 use Rattle.axis.specs.Axis.{Axis, columns, rows, axisOf, along, across, lineOf}
 use Rattle.passes.proofs.Blocks.{passesOver-part}
 use Rattle.passes.proofs.Link.{link-true}
 use Rattle.filter.specs.PlanFilters.{filterOf, filtersOf, serialResult}
 use Rattle.grid.specs.Grid.{rowsOf, columnsOf, blockPixelPlace, partOf, goesOn}
-use Rattle.task_words.specs.Strips.{slotStart, stripPlace, insideBlock, edgeWord, pastEdges}
+use Rattle.task_words.specs.declared.Half.the-variants.{Lone, Linked}
+use Rattle.task_words.specs.Strips.{insideBlock, edgeWord, pastEdges}
 use Rattle.task_words.specs.Writes.{blockPasses, aloneWord, collected, linkWord, linked, finishWord, finished}
 use Rattle.task_words.specs.Matching.{matchingWord}
 use Rattle.task_words.proofs.Places.{SideFits, placeOf}
-use Rattle.task_words.proofs.Strips.{HoldsStrip, strip-length, strip-holds, strip-other, strip-outside, slot-length, slot-holds, slot-other, slot-outside}
+use Rattle.task_words.proofs.Strips.{HoldsStrip, OutsideStrip, strip-length, strip-holds, strip-outside, half-length, half-holds, half-outside}
 use Rattle.task_words.proofs.Output.{block-length, block-holds, block-outside}
 use Rattle.task_words.proofs.StripReads.{inside-line, inside-index, read-edge, NeedsTrue, past-true}
 
@@ -59,13 +60,13 @@ edge-sum plan k pass A B C e line place h =
 
 -- A link whose needs are true, on the strip that collect wrote, gives the matching strip.
 pub link-is : (plan : Plan) → SideFits plan → (X : ℕ → ℕ → ℕ) (strips : List ℕ) (k pass : ℕ) → k < neededMarks plan
-    → pass < 4 → goesOn (plan .grid) k pass ≡ true → HoldsStrip plan strips k pass (aloneWord plan X k pass)
+    → pass < 4 → goesOn (plan .grid) k pass ≡ true → HoldsStrip plan strips Lone k pass (aloneWord plan X k pass)
     → NeedsTrue plan X strips k (suc pass) → (line place : ℕ) → place < orderOf plan pass
     → linkWord plan strips k pass line place ≡ matchingWord plan X k pass line place
 unfolding linkWord matchingWord aloneWord
 link-is plan fits X strips k pass here h needed own needs line place p =
     ap (λ z. z ⊕ edgeWord plan k pass (blockPasses plan k (pastEdges plan strips k) (λ y x. 0) (suc pass)) line place)
-    (read-edge plan strips k pass (blockPasses plan k (λ u l i. 0) (partOf (plan .grid) k X) (suc pass))
+    (read-edge plan strips Lone k pass (blockPasses plan k (λ u l i. 0) (partOf (plan .grid) k X) (suc pass))
     (λ l t a b. own l t a b ∙ rw needed) line place p)
     ∙ edge-sum plan k pass _ _ _ (strips-add-up plan fits X strips k pass here h needs) line place p
 
@@ -83,58 +84,43 @@ finish-is plan fits X strips k here needs =
 module _ (plan : Plan) (X : ℕ → ℕ → ℕ) (k : ℕ) (strips : List ℕ) where
   pub collected-length : length (collected plan X k strips) ≡ length strips
   unfolding collected
-  collected-length = slot-length plan k _ 4 strips
+  collected-length = half-length plan Lone k _ 4 strips
 
-  -- Collect writes the four strips of its slot,
+  -- Collect writes the four lone strips of its slot,
   pub collected-holds : (pass : ℕ) → pass < 4 → k < neededMarks plan → neededStrips plan ≤ length strips
-      → HoldsStrip plan (collected plan X k strips) k pass (aloneWord plan X k pass)
+      → HoldsStrip plan (collected plan X k strips) Lone k pass (aloneWord plan X k pass)
   unfolding collected
-  collected-holds pass h here long = slot-holds plan k _ 4 strips pass (omega arith) h here long
+  collected-holds pass h here long = half-holds plan Lone k _ 4 strips pass (omega arith) h here long
 
-  -- no strip of another block,
-  pub collected-other : (j v line place : ℕ) → v < 4 → (k ≡ j → ⊥) → line < plan .grid .side → place < orderOf plan v
-      → wordAt (collected plan X k strips) (stripPlace plan j v line place)
-      ≡ wordAt strips (stripPlace plan j v line place)
-  unfolding collected
-  collected-other j v line place h differ a b = slot-other plan k _ 4 strips j v line place (omega arith) h differ a b
-
-  -- and no word outside its slot.
-  pub collected-outside : (q : ℕ) → ((i : ℕ) → i < slotWords plan → q ≢ slotStart plan k + i)
+  -- and no word outside them.
+  pub collected-outside : (q : ℕ) → ((pass : ℕ) → pass < 4 → OutsideStrip plan Lone k pass q)
       → wordAt (collected plan X k strips) q ≡ wordAt strips q
   unfolding collected
-  collected-outside q out = slot-outside plan k _ 4 strips q (omega arith) out
+  collected-outside q out = half-outside plan Lone k _ 4 strips q out
 
 module _ (plan : Plan) (k pass : ℕ) (h : pass < 4) (strips : List ℕ) where
   pub linked-length : length (linked plan k pass strips) ≡ length strips
   unfolding linked
-  linked-length = strip-length plan k pass _ _ strips
+  linked-length = strip-length plan Linked k pass _ _ strips
 
-  -- A link writes its strip,
+  -- A link writes its strip in the linked half,
   pub linked-holds : k < neededMarks plan → neededStrips plan ≤ length strips
-      → HoldsStrip plan (linked plan k pass strips) k pass (linkWord plan strips k pass)
+      → HoldsStrip plan (linked plan k pass strips) Linked k pass (linkWord plan strips k pass)
   unfolding linked
-  linked-holds here long = strip-holds plan k pass _ strips here h long
+  linked-holds here long = strip-holds plan Linked k pass _ strips here h long
 
   -- the matching strip where its needs are true,
   pub linked-true : (X : ℕ → ℕ → ℕ) → SideFits plan → k < neededMarks plan → neededStrips plan ≤ length strips
-      → goesOn (plan .grid) k pass ≡ true → HoldsStrip plan strips k pass (aloneWord plan X k pass)
+      → goesOn (plan .grid) k pass ≡ true → HoldsStrip plan strips Lone k pass (aloneWord plan X k pass)
       → NeedsTrue plan X strips k (suc pass)
-      → HoldsStrip plan (linked plan k pass strips) k pass (matchingWord plan X k pass)
+      → HoldsStrip plan (linked plan k pass strips) Linked k pass (matchingWord plan X k pass)
   linked-true X fits here long needed own needs line place a b =
       linked-holds here long line place a b ∙ link-is plan fits X strips k pass here h needed own needs line place b
 
-  -- no other strip,
-  pub linked-other : (j v line place : ℕ) → v < 4 → (k ≡ j → pass ≡ v → ⊥) → line < plan .grid .side → place < orderOf plan v
-      → wordAt (linked plan k pass strips) (stripPlace plan j v line place)
-      ≡ wordAt strips (stripPlace plan j v line place)
+  -- and no word outside it.
+  pub linked-outside : (q : ℕ) → OutsideStrip plan Linked k pass q → wordAt (linked plan k pass strips) q ≡ wordAt strips q
   unfolding linked
-  linked-other j v line place p differ a b = strip-other plan k pass _ strips j v line place h p differ a b
-
-  -- and no word outside its slot.
-  pub linked-outside : (q : ℕ) → ((i : ℕ) → i < slotWords plan → q ≢ slotStart plan k + i)
-      → wordAt (linked plan k pass strips) q ≡ wordAt strips q
-  unfolding linked
-  linked-outside q out = strip-outside plan k pass _ strips q h out
+  linked-outside q out = strip-outside plan Linked k pass _ strips q out
 
 module _ (plan : Plan) (X : ℕ → ℕ → ℕ) (strips : List ℕ) (k : ℕ) (output : List ℕ) where
   pub finished-length : length (finished plan X strips k output) ≡ length output

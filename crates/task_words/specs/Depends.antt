@@ -1,5 +1,5 @@
--- What a task writes depends only on the plan, the block's own heights (collect and finish), its own strip (a link) and the
--- strips in its needs: document 01, below the table of tasks.
+-- What a task writes depends only on the plan, the block's own heights (collect and finish), its own lone strip (a link) and
+-- the linked strips in its needs: document 01, below the table of tasks; document 02, CR 8.
 use mathlib.Core.Path.{_≡_}
 use mathlib.Core.Bool.{true}
 use mathlib.Core.List.{List}
@@ -9,6 +9,8 @@ use Rattle.plan.specs.declared.Plan.{Plan}
 use Rattle.plan.specs.Sizes.{neededMarks, orderOf}
 use Rattle.buffer.specs.Lists.{wordAt}
 use Rattle.grid.specs.Grid.{rowsOf, columnsOf, partOf, neighbour, goesOn}
+use Rattle.task_words.specs.declared.Half.{Half}
+use Rattle.task_words.specs.declared.Half.the-variants.{Lone, Linked}
 use Rattle.task_words.specs.Strips.{stripPlace, insideBlock}
 use Rattle.task_words.specs.Writes.{aloneWord, linkWord, finishWord}
 
@@ -16,17 +18,17 @@ use Rattle.task_words.specs.Writes.{aloneWord, linkWord, finishWord}
 abbrev pub SameBlock : Plan → ℕ → (X Y : ℕ → ℕ → ℕ) → Type 0
 SameBlock plan k X Y = (y x : ℕ) → y < rowsOf (plan .grid) k → x < columnsOf (plan .grid) k → partOf (plan .grid) k X y x ≡ partOf (plan .grid) k Y y x
 
--- Two lists have the same words in block k's strip of a pass, at the places that lie in the block: those outside are read as
--- 0, whatever a lent buffer holds there.
-abbrev pub SameStrip : Plan → ℕ → ℕ → (s r : List ℕ) → Type 0
-SameStrip plan k pass s r =
+-- Two lists have the same words in block k's strip of a pass, in a half, at the places that lie in the block: those outside
+-- are read as 0, whatever a lent buffer holds there.
+abbrev pub SameStrip : Plan → Half → ℕ → ℕ → (s r : List ℕ) → Type 0
+SameStrip plan half k pass s r =
     (line place : ℕ) → place < orderOf plan pass → insideBlock plan k pass line place ≡ true
-    → wordAt s (stripPlace plan k pass line place) ≡ wordAt r (stripPlace plan k pass line place)
+    → wordAt s (stripPlace plan half k pass line place) ≡ wordAt r (stripPlace plan half k pass line place)
 
--- Two lists have the same strips past block k's edges for the first n passes: the needs of a link of pass n-1, and of finish
+-- Two lists have the same linked strips past block k's edges for the first n passes: the needs of a link of pass n-1, and of finish
 -- where n is 4.
 abbrev pub SameNeeds : Plan → ℕ → ℕ → (s r : List ℕ) → Type 0
-SameNeeds plan k n s r = (pass j : ℕ) → pass < n → neighbour (plan .grid) k pass ≡ some j → SameStrip plan j pass s r
+SameNeeds plan k n s r = (pass j : ℕ) → pass < n → neighbour (plan .grid) k pass ≡ some j → SameStrip plan Linked j pass s r
 
 -- The words that collect writes,
 abbrev pub CollectDepends : Type 0
@@ -37,7 +39,7 @@ CollectDepends =
 -- the words that the link of a pass writes,
 abbrev pub LinkDepends : Type 0
 LinkDepends =
-    (plan : Plan) (s r : List ℕ) (k pass : ℕ) → SameStrip plan k pass s r → SameNeeds plan k (suc pass) s r
+    (plan : Plan) (s r : List ℕ) (k pass : ℕ) → SameStrip plan Lone k pass s r → SameNeeds plan k (suc pass) s r
     → (line place : ℕ) → place < orderOf plan pass
     → linkWord plan s k pass line place ≡ linkWord plan r k pass line place
 
@@ -47,10 +49,12 @@ FinishDepends =
     (plan : Plan) (X Y : ℕ → ℕ → ℕ) (s r : List ℕ) (k : ℕ) → SameBlock plan k X Y → SameNeeds plan k 4 s r
     → (y x : ℕ) → y < rowsOf (plan .grid) k → x < columnsOf (plan .grid) k → finishWord plan X s k y x ≡ finishWord plan Y r k y x
 
--- Two lists have the same strips wherever a neighbour needs one: they may differ in the strips on the map's border.
+-- Two lists have the same strips, lone and linked, wherever a neighbour needs one: they may differ in the strips on the map's
+-- border.
 abbrev pub SameNeeded : Plan → (s r : List ℕ) → Type 0
 SameNeeded plan s r =
-    (k pass : ℕ) → k < neededMarks plan → pass < 4 → goesOn (plan .grid) k pass ≡ true → SameStrip plan k pass s r
+    (half : Half) (k pass : ℕ) → k < neededMarks plan → pass < 4 → goesOn (plan .grid) k pass ≡ true
+    → SameStrip plan half k pass s r
 
 -- Strips on the map's border are read by no task, whatever a lent buffer holds there: they change no word of a link
 abbrev pub LinkReadsNoBorder : Type 0

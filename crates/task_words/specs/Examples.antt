@@ -1,4 +1,4 @@
--- Three jobs of our own, worked by hand by document 01's rules, word by word: the strips once all blocks are collected, the strips
+-- Three jobs of our own, worked by hand by the rules of document 01 and of CR 8 in document 02, word by word: the strips once all blocks are collected, the strips
 -- once all links are done, and the output. A last block is short in the first two, and down and right meet in the third.
 use mathlib.Core.List.{List, [], _∷_, _++_, map}
 use Prim.Native.Nat.{ℕ, zero, suc}
@@ -45,7 +45,7 @@ afterFinishes plan heights strips zero output = output
 afterFinishes plan heights strips (suc k) output =
     finished plan (mapOf plan heights) strips k (afterFinishes plan heights strips k output)
 
--- The strips after the collects, where each word was 7 before: a task writes its strip whole.
+-- The strips after the collects, where each word was 7 before: a task writes its strips whole, and no other word.
 unfoldable pub collectedStrips : WorkedJob → List ℕ
 collectedStrips job =
     afterCollects (job .plan) (job .heights) (neededMarks (job .plan)) (replicate (neededStrips (job .plan)) 7)
@@ -82,7 +82,11 @@ back = passOf (pos 2) (minus 1 ∷ pos 3 ∷ [])
 abbrev pub zeros : ℕ → List ℤ
 zeros n = replicate n (pos 0)
 
--- ---- the jobs; in the first two a strip has six words
+-- So many words that no task has written.
+abbrev unwritten : ℕ → List ℤ
+unwritten n = replicate n (pos 7)
+
+-- ---- the jobs: of each block the lone half of its slot, then the linked half; in the first two a strip has six words
 
 -- One column of four rows in two blocks, b = 3: the lower block has one row. Down gives 1, -1, 1, 2 and then up -24, -8, 6, 4.
 abbrev pub columnJob : WorkedJob
@@ -93,9 +97,22 @@ columnJob =
       heights = pos 1 ∷ pos 0 ∷ pos 2 ∷ pos 1 ∷ [];
       links = record { block = 0; pass = 0 } ∷ record { block = 1; pass = 1 } ∷ [];
       stripsCollected =
-          minus 1 ∷ pos 0 ∷ pos 0 ∷ pos 1 ∷ (zeros 14 ++ (pos 2 ∷ zeros 5));
+          minus 1
+          ∷ pos 0
+          ∷ pos 0
+          ∷ pos 1
+          ∷ (zeros 8 ++ (unwritten 12 ++ (zeros 6 ++ (pos 2 ∷ (zeros 5 ++ unwritten 12)))));
       stripsLinked =
-          minus 1 ∷ pos 0 ∷ pos 0 ∷ pos 1 ∷ (zeros 14 ++ (pos 4 ∷ zeros 5));
+          minus 1
+          ∷ pos 0
+          ∷ pos 0
+          ∷ pos 1
+          ∷ (zeros 8
+          ++ (minus 1
+          ∷ pos 0
+          ∷ pos 0
+          ∷ pos 1
+          ∷ (zeros 2 ++ (unwritten 6 ++ (zeros 6 ++ (pos 2 ∷ (zeros 5 ++ (unwritten 6 ++ (pos 4 ∷ zeros 5)))))))));
       outputFinished = minus 24 ∷ minus 8 ∷ pos 6 ∷ pos 4 ∷ [];
     }
 
@@ -109,9 +126,21 @@ rowJob =
       heights = pos 1 ∷ pos 0 ∷ pos 2 ∷ pos 1 ∷ pos 0 ∷ pos 1 ∷ pos 1 ∷ pos 3 ∷ [];
       links = record { block = 0; pass = 2 } ∷ record { block = 1; pass = 3 } ∷ [];
       stripsCollected =
-          minus 1 ∷ pos 1 ∷ pos 1 ∷ (zeros 15 ++ (pos 2 ∷ pos 0 ∷ pos 6 ∷ zeros 3));
+          minus 1
+          ∷ pos 1
+          ∷ pos 1
+          ∷ (zeros 9 ++ (unwritten 12 ++ (zeros 6 ++ (pos 2 ∷ pos 0 ∷ pos 6 ∷ (zeros 3 ++ unwritten 12)))));
       stripsLinked =
-          minus 1 ∷ pos 1 ∷ pos 1 ∷ (zeros 15 ++ (pos 4 ∷ pos 0 ∷ pos 2 ∷ zeros 3));
+          minus 1
+          ∷ pos 1
+          ∷ pos 1
+          ∷ (zeros 9
+          ++ (minus 1
+          ∷ pos 1
+          ∷ pos 1
+          ∷ (zeros 3
+          ++ (unwritten 6
+          ++ (zeros 6 ++ (pos 2 ∷ pos 0 ∷ pos 6 ∷ (zeros 3 ++ (unwritten 6 ++ (pos 4 ∷ pos 0 ∷ pos 2 ∷ zeros 3)))))))));
       outputFinished = minus 24 ∷ minus 8 ∷ pos 6 ∷ pos 4 ∷ minus 8 ∷ minus 2 ∷ pos 2 ∷ pos 2 ∷ [];
     }
 
@@ -135,8 +164,21 @@ tableJob =
           ∷ record { block = 1; pass = 3 }
           ∷ record { block = 3; pass = 3 }
           ∷ [];
-      stripsCollected = pos 1 ∷ pos 1 ∷ pos 2 ∷ pos 0 ∷ pos 0 ∷ pos 3 ∷ pos 0 ∷ pos 0 ∷ [];
-      stripsLinked = pos 1 ∷ pos 1 ∷ pos 2 ∷ pos 0 ∷ pos 0 ∷ pos 4 ∷ pos 0 ∷ pos 0 ∷ [];
+      stripsCollected =
+          pos 1
+          ∷ pos 1
+          ∷ (unwritten 2
+          ++ (pos 2 ∷ pos 0 ∷ (unwritten 2 ++ (pos 0 ∷ pos 3 ∷ (unwritten 2 ++ (pos 0 ∷ pos 0 ∷ unwritten 2))))));
+      stripsLinked =
+          pos 1
+          ∷ pos 1
+          ∷ pos 1
+          ∷ pos 1
+          ∷ pos 2
+          ∷ pos 0
+          ∷ pos 2
+          ∷ (unwritten 1
+          ++ (pos 0 ∷ pos 3 ∷ (unwritten 1 ++ (pos 4 ∷ pos 0 ∷ pos 0 ∷ unwritten 2))));
       outputFinished = pos 1 ∷ pos 3 ∷ pos 4 ∷ pos 10 ∷ [];
     }
 

@@ -1,30 +1,41 @@
--- Strips: document 01, 'Blocks, marks and strips'. The strip of a pass has a line for each of the b columns (down, up)
--- or rows (right, left), and in each line as many places as the order. Places stand in map order.
+-- Strips: document 01, 'Blocks, marks and strips'; document 02, CR 8. The strip of a pass has a line for each of the b columns
+-- (down, up) or rows (right, left), and in each line as many places as the order. Places stand in map order.
 use mathlib.Core.Bool.{Bool, _&&_, cond}
 use mathlib.Core.List.{List}
 use Prim.Native.Nat.{ℕ, zero, suc, _+_, _-_, _*_}
 use lib.Dec.{ltb, leb}
 use Rattle.number.specs.Numbers.{rowMajor}
 use Rattle.plan.specs.declared.Plan.{Plan}
-use Rattle.plan.specs.Sizes.{orderOf, orderSum, slotWords}
+use Rattle.plan.specs.Sizes.{orderOf, orderSum, halfWords, slotWords}
 use Rattle.buffer.specs.Lists.{wordAt, byPlace}
 use Rattle.axis.specs.Axis.{Axis, Direction, forward, backward, axisOf, directionOf, along, across, lineOf}
 use Rattle.buffer.specs.Written.{rowWritten}
 use Rattle.grid.specs.Grid.{neighbour, orZero, extentAlong, linesAcross}
+use Rattle.task_words.specs.declared.Half.{Half}
+use Rattle.task_words.specs.declared.Half.the-variants.{Lone, Linked}
 
 -- ---- where a strip lies
 
--- The first word of the slot of block k: k×b×R.
+-- The first word of the slot of block k: k×2×b×R.
 abbrev pub slotStart : Plan → ℕ → ℕ
 slotStart plan k = k * slotWords plan
+
+-- The words of a slot before a half of it: the lone strips come first, then the linked ones.
+abbrev pub wordsBeforeHalf : Plan → Half → ℕ
+wordsBeforeHalf plan Lone = 0
+wordsBeforeHalf plan Linked = halfWords plan
 
 -- The words of the strip of a pass: b×order.
 abbrev pub stripWords : Plan → ℕ → ℕ
 stripWords plan pass = plan .grid .side * orderOf plan pass
 
--- The first word of block k's strip of a pass: the strips of the passes before it come first in the slot.
-abbrev pub stripStart : Plan → ℕ → ℕ → ℕ
-stripStart plan k pass = slotStart plan k + plan .grid .side * orderSum plan pass
+-- The first word of a half of block k's slot.
+abbrev pub halfStart : Plan → Half → ℕ → ℕ
+halfStart plan half k = slotStart plan k + wordsBeforeHalf plan half
+
+-- The first word of block k's strip of a pass in a half: the strips of the passes before it come first in the half.
+abbrev pub stripStart : Plan → Half → ℕ → ℕ → ℕ
+stripStart plan half k pass = halfStart plan half k + plan .grid .side * orderSum plan pass
 
 -- The words of a row of a strip: b (down, up), or as many as the order (right, left).
 abbrev pub stripWidth : Axis → (side order : ℕ) → ℕ
@@ -35,10 +46,10 @@ stripWidth a side order = across a order side
 abbrev pub placeInStrip : Axis → (side order line place : ℕ) → ℕ
 placeInStrip a side order line place = lineOf a (rowMajor (stripWidth a side order)) line place
 
--- Where a line and a place of block k's strip of a pass stand in the list of strips.
-unfoldable pub stripPlace : Plan → ℕ → ℕ → ℕ → ℕ → ℕ
-stripPlace plan k pass line place =
-    stripStart plan k pass + placeInStrip (axisOf pass) (plan .grid .side) (orderOf plan pass) line place
+-- Where a line and a place of block k's strip of a pass, in a half, stand in the list of strips.
+unfoldable pub stripPlace : Plan → Half → ℕ → ℕ → ℕ → ℕ → ℕ
+stripPlace plan half k pass line place =
+    stripStart plan half k pass + placeInStrip (axisOf pass) (plan .grid .side) (orderOf plan pass) line place
 
 -- ---- which pixels a strip stands for
 
@@ -70,11 +81,11 @@ edgeWord plan k pass Z line place =
 
 -- ---- reading a strip
 
--- The word that is read at a line and a place of block k's strip of a pass: 0 outside the block, whatever stands there.
--- A strip that no neighbour needs is read by no task.
-unfoldable pub stripWord : Plan → List ℕ → ℕ → ℕ → ℕ → ℕ → ℕ
-stripWord plan strips k pass line place =
-    cond (insideBlock plan k pass line place) (wordAt strips (stripPlace plan k pass line place)) 0
+-- The word that is read at a line and a place of block k's strip of a pass, in a half: 0 outside the block, whatever stands
+-- there. A strip that no neighbour needs is read by no task.
+unfoldable pub stripWord : Plan → List ℕ → Half → ℕ → ℕ → ℕ → ℕ → ℕ
+stripWord plan strips half k pass line place =
+    cond (insideBlock plan k pass line place) (wordAt strips (stripPlace plan half k pass line place)) 0
 
 -- The place at a distance from the edge that a pass leaves by, of n places: the last is the nearest where the pass runs
 -- forward, the first where it runs backward.
@@ -89,11 +100,11 @@ nearestFirst plan pass words line distance =
     (words line (fromEdge (directionOf pass) (orderOf plan pass) distance))
     0
 
--- What stands past block k's edges for each pass: the strip of the neighbour that the pass comes from, nearest first; 0
+-- What stands past block k's edges for each pass: the linked strip of the neighbour that the pass comes from, nearest first; 0
 -- where the map ends.
 unfoldable pub pastEdges : Plan → List ℕ → ℕ → ℕ → ℕ → ℕ → ℕ
 pastEdges plan strips k pass line distance =
-    orZero (λ j. nearestFirst plan pass (stripWord plan strips j pass) line distance) (neighbour (plan .grid) k pass)
+    orZero (λ j. nearestFirst plan pass (stripWord plan strips Linked j pass) line distance) (neighbour (plan .grid) k pass)
 
 -- ---- writing a strip
 
@@ -102,17 +113,18 @@ abbrev pub laidInRows : Axis → (side order : ℕ) → (words : ℕ → ℕ →
 laidInRows a side order words =
     byPlace (stripWidth a side order) (λ row column. words (across a row column) (along a row column))
 
--- The strips after the first n words of block k's strip of a pass have been replaced, in the order of their addresses.
-unfoldable pub stripWrittenTo : Plan → ℕ → ℕ → (ℕ → ℕ → ℕ) → ℕ → List ℕ → List ℕ
-stripWrittenTo plan k pass words n strips =
-    rowWritten (stripStart plan k pass) (laidInRows (axisOf pass) (plan .grid .side) (orderOf plan pass) words) n strips
+-- The strips after the first n words of block k's strip of a pass, in a half, have been replaced, in the order of their
+-- addresses.
+unfoldable pub stripWrittenTo : Plan → Half → ℕ → ℕ → (ℕ → ℕ → ℕ) → ℕ → List ℕ → List ℕ
+stripWrittenTo plan half k pass words n strips =
+    rowWritten (stripStart plan half k pass) (laidInRows (axisOf pass) (plan .grid .side) (orderOf plan pass) words) n strips
 
--- The strips with block k's strip of a pass replaced whole.
-abbrev pub stripWritten : Plan → ℕ → ℕ → (ℕ → ℕ → ℕ) → List ℕ → List ℕ
-stripWritten plan k pass words strips = stripWrittenTo plan k pass words (stripWords plan pass) strips
+-- The strips with block k's strip of a pass, in a half, replaced whole.
+abbrev pub stripWritten : Plan → Half → ℕ → ℕ → (ℕ → ℕ → ℕ) → List ℕ → List ℕ
+stripWritten plan half k pass words strips = stripWrittenTo plan half k pass words (stripWords plan pass) strips
 
--- The strips with the first n strips of block k's slot replaced; `words` gives the words of each pass's strip.
-unfoldable pub slotWritten : Plan → ℕ → (ℕ → ℕ → ℕ → ℕ) → ℕ → List ℕ → List ℕ
-slotWritten plan k words zero strips = strips
-slotWritten plan k words (suc pass) strips =
-    stripWritten plan k pass (words pass) (slotWritten plan k words pass strips)
+-- The strips with the first n strips of a half of block k's slot replaced; `words` gives the words of each pass's strip.
+unfoldable pub halfWritten : Plan → Half → ℕ → (ℕ → ℕ → ℕ → ℕ) → ℕ → List ℕ → List ℕ
+halfWritten plan half k words zero strips = strips
+halfWritten plan half k words (suc pass) strips =
+    stripWritten plan half k pass (words pass) (halfWritten plan half k words pass strips)

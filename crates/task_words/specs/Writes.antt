@@ -1,5 +1,5 @@
--- What each task writes: document 01, the table of tasks and the text below it. A map X is a function of row and
--- column.
+-- What each task writes: document 01, the table of tasks and the text below it; document 02, CR 8. A map X is a function of
+-- row and column.
 use mathlib.Core.Bool.{cond}
 use mathlib.Core.List.{List}
 use Prim.Native.Nat.{ℕ, suc}
@@ -9,7 +9,8 @@ use Rattle.passes.specs.Passes.{passesOver}
 use Rattle.filter.specs.PlanFilters.{filtersOf}
 use Rattle.buffer.specs.Written.{rectangleWritten}
 use Rattle.grid.specs.Grid.{rowsOf, columnsOf, blockPixelPlace, partOf, goesOn}
-use Rattle.task_words.specs.Strips.{edgeWord, stripWord, pastEdges, stripWritten, slotWritten}
+use Rattle.task_words.specs.declared.Half.the-variants.{Lone, Linked}
+use Rattle.task_words.specs.Strips.{edgeWord, stripWord, pastEdges, stripWritten, halfWritten}
 
 -- Block k after the first t passes, with H past its edges, on the words Z.
 abbrev pub blockPasses : Plan → ℕ → (H : ℕ → ℕ → ℕ → ℕ) → (Z : ℕ → ℕ → ℕ) → ℕ → ℕ → ℕ → ℕ
@@ -24,27 +25,27 @@ aloneWord plan X k pass line place =
     (edgeWord plan k pass (blockPasses plan k (λ u l i. 0) (partOf (plan .grid) k X) (suc pass)) line place)
     0
 
--- The strips after collect of block k.
+-- The strips after collect of block k, which writes the lone half of its slot only.
 unfoldable pub collected : Plan → (ℕ → ℕ → ℕ) → ℕ → List ℕ → List ℕ
-collected plan X k strips = slotWritten plan k (aloneWord plan X k) 4 strips
+collected plan X k strips = halfWritten plan Lone k (aloneWord plan X k) 4 strips
 
 -- ---- links
 
--- What the link of a pass writes: the strip in its own slot, plus what the passes give at that place for zero heights
+-- What the link of a pass writes: the lone strip in its own slot, plus what the passes give at that place for zero heights
 -- with the strips of its needs past the block's edges. The passes up to this one enter, and the strips that they come
 -- from are its needs.
 unfoldable pub linkWord : Plan → List ℕ → ℕ → ℕ → ℕ → ℕ → ℕ
 linkWord plan strips k pass line place =
-    stripWord plan strips k pass line place
+    stripWord plan strips Lone k pass line place
     ⊕ edgeWord plan k pass (blockPasses plan k (pastEdges plan strips k) (λ y x. 0) (suc pass)) line place
 
--- The strips after the link of a pass of block k.
+-- The strips after the link of a pass of block k, which writes that strip of the linked half.
 unfoldable pub linked : Plan → ℕ → ℕ → List ℕ → List ℕ
-linked plan k pass strips = stripWritten plan k pass (linkWord plan strips k pass) strips
+linked plan k pass strips = stripWritten plan Linked k pass (linkWord plan strips k pass) strips
 
 -- ---- finish
 
--- Pixel (y, x) of block k after the four passes over its own heights, the neighbours' strips past its edges.
+-- Pixel (y, x) of block k after the four passes over its own heights, the neighbours' linked strips past its edges.
 unfoldable pub finishWord : Plan → (ℕ → ℕ → ℕ) → List ℕ → ℕ → ℕ → ℕ → ℕ
 finishWord plan X strips k y x = blockPasses plan k (pastEdges plan strips k) (partOf (plan .grid) k X) 4 y x
 

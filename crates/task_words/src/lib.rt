@@ -1,1 +1,7 @@
-// Strips, and what each task writes, as definitions (specs/) and their laws (proofs/). It has no code.
+// What each task writes, as definitions and laws; in code, the two halves of a slot.
+
+// The half of a slot that has the strips of collect, and the half that has the linked ones.
+pub enum Half {
+    Lone,
+    Linked,
+}

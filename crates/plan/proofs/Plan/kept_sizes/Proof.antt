@@ -27,14 +27,14 @@ mul-marks c = omega (arith, small c)
 add-t7 : tie.Need-add-t7
 add-t7 c = omega (arith, small c)
 
-slot-words-requires : tie.Need-slot-words-requires
-slot-words-requires c κs = search needs
+half-words-requires : tie.Need-half-words-requires
+half-words-requires c κs = search needs
 
 mul-t9 : tie.Need-mul-t9
-mul-t9 c = rw (c .slot-words .ensures) (omega (arith, small (c .before)))
+mul-t9 c = rw (c .half-words .ensures) (omega (arith, small (c .before)))
 
 mul-t10 : tie.Need-mul-t10
-mul-t10 c = omega (arith, small (c .before .before))
+mul-t10 c = rw (c .half-words .ensures) (omega (arith, small (c .before)))
 
 mul-t11 : tie.Need-mul-t11
 mul-t11 c = omega (arith, small (c .before .before))
@@ -42,14 +42,17 @@ mul-t11 c = omega (arith, small (c .before .before))
 mul-t12 : tie.Need-mul-t12
 mul-t12 c = omega (arith, small (c .before .before))
 
-sub-t13 : tie.Need-sub-t13
-sub-t13 c = omega (arith, small (c .before .before))
+mul-t13 : tie.Need-mul-t13
+mul-t13 c = omega (arith, small (c .before .before))
 
-mul-t14 : tie.Need-mul-t14
-mul-t14 c = omega (arith, small (c .before .before))
+sub-t14 : tie.Need-sub-t14
+sub-t14 c = omega (arith, small (c .before .before))
 
-sub-t15 : tie.Need-sub-t15
-sub-t15 c = omega (arith, small (c .before .before))
+mul-t15 : tie.Need-mul-t15
+mul-t15 c = omega (arith, small (c .before .before))
+
+sub-t16 : tie.Need-sub-t16
+sub-t16 c = omega (arith, small (c .before .before))
 
 returns : tie.Need-returns
 unfolding sizesOf
@@ -64,12 +67,13 @@ kept-sizes-spec =
     order-sum-requires
     mul-marks
     add-t7
-    slot-words-requires
+    half-words-requires
     mul-t9
     mul-t10
     mul-t11
     mul-t12
-    sub-t13
-    mul-t14
-    sub-t15
+    mul-t13
+    sub-t14
+    mul-t15
+    sub-t16
     returns)

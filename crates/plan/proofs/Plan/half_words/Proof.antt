@@ -1,11 +1,11 @@
--- `slot_words` is the side times the sum of the four orders, and small.
+-- `half_words` is the side times the sum of the four orders, and small.
 use mathlib.Core.Path.{ap}
 use Prim.Native.Nat.{_*_}
 use native.Mathlib.Omega.{arith}
 use borrow.Author.Needs.{needs}
 use Rattle.plan.proofs.Needed.{bounds}
-use Rattle.plan.proofs.Plan.slot_words.Statement.{statement}
-use Rattle.plan.proofs.Plan.slot_words.Tie as tie
+use Rattle.plan.proofs.Plan.half_words.Statement.{statement}
+use Rattle.plan.proofs.Plan.half_words.Tie as tie
 
 order-sum-requires : tie.Need-order-sum-requires
 order-sum-requires c κs = search needs
@@ -16,5 +16,5 @@ mul-result c = rw (c .before .order-sum .ensures) (omega (arith, bounds _ (c .be
 returns : tie.Need-returns
 returns c = ap (c .before .before .args .self .grid .side *_) (c .before .order-sum .ensures)
 
-pub slot-words-spec : {M : Type 1} → statement M
-slot-words-spec = tie.close (tie.spec order-sum-requires mul-result returns)
+pub half-words-spec : {M : Type 1} → statement M
+half-words-spec = tie.close (tie.spec order-sum-requires mul-result returns)
