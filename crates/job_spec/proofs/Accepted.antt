@@ -17,7 +17,7 @@ use Rattle.tasks.proofs.Progress.{count-ready, also-new, also-kept}
 use Rattle.job_spec.specs.Calls.{acceptedCount}
 use Rattle.job_spec.specs.Demand3.{doneBy, doneFrom, doneAfter, dueAnswer, dueFrom, countAfter, AcceptedAt, callAt}
 use Rattle.job_spec.proofs.CallAnswers.{by-ready, accepted-if-ready}
-use Rattle.job_spec.proofs.Step.{clash}
+use Rattle.job_spec.proofs.Done.{clash}
 
 module _ (plan : Plan) where
   -- An accepted call makes one task more done, a refused one none.

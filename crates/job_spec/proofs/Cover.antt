@@ -1,48 +1,14 @@
--- Every pixel of the map is in a block, and every word of a slot is in one of its four strips.
+-- Every pixel of the map is in a block.
 -- Assumes nothing.
-use mathlib.Core.Path.{_≡_, ap, ap₂, sym, _∙_}
-use mathlib.Core.Logic.{_≢_, ⊎-elim}
-use Prim.Native.Nat.{ℕ, zero, suc, _+_, _-_, _*_, _/_, _%_, _≤_, _<_}
+use mathlib.Core.Path.{_≡_, ap₂, _∙_}
+use Prim.Native.Nat.{ℕ, _+_, _*_, _/_, _%_, _≤_, _<_}
 use native.Mathlib.Nat.{div-add-mod'}
-use native.Mathlib.Omega.{arith}
 use Rattle.plan.specs.declared.Plan.{Plan}
-use Rattle.plan.specs.Sizes.{orderSum, neededMarks, slotWords, neededPixels, orderOf}
-use Rattle.number.specs.Numbers.{total}
-use Rattle.number.proofs.Tests.{lt-or-ge}
+use Rattle.plan.specs.Sizes.{neededMarks, neededPixels}
 use Rattle.grid.proofs.Extents.{place-counted, place-in-extent}
-use Rattle.axis.specs.Axis.{axisOf}
 use Rattle.grid.specs.Grid.{blockNumber, firstRow, firstColumn, rowsOf, columnsOf, blockPixelPlace}
-use Rattle.task_words.specs.Strips.{slotStart, stripStart, stripPlace}
 use Rattle.number.proofs.RowMajor.{row-below, column-below}
 use Rattle.grid.proofs.Blocks.{number-below, row-of-number, column-of-number}
-use Rattle.task_words.proofs.Strips.{cell-of}
-
--- ---- words of a slot
-
--- A word that stands in no strip of block k stands outside its slot.
-module _ (plan : Plan) (k q : ℕ)
-    (out : (pass line place : ℕ) → pass < 4 → line < plan .grid .side → place < orderOf plan pass
-    → q ≢ stripPlace plan k pass line place) where
-  no-strip : (pass p : ℕ) → pass < 4 → p < plan .grid .side * orderOf plan pass → q ≢ stripStart plan k pass + p
-  unfolding stripPlace
-  no-strip pass p h l e =
-      let c = cell-of (plan .grid .side) (orderOf plan pass) (axisOf pass) p l in
-      out pass (c .line) (c .place) h (c .in-lines) (c .in-places) (e ∙ ap (stripStart plan k pass +_) (sym (c .stands)))
-
-  first-strips : (n i : ℕ) → n ≤ 4 → i < plan .grid .side * orderSum plan n → q ≢ slotStart plan k + i
-  unfolding total
-  first-strips zero i h l e = omega arith
-  first-strips (suc n) i h l e =
-      ⊎-elim
-      (λ (below : i < plan .grid .side * orderSum plan n). first-strips n i (omega arith) below e)
-      (λ (from : plan .grid .side * orderSum plan n ≤ i).
-      no-strip n (i - plan .grid .side * orderSum plan n) h (omega arith) (omega arith))
-      (lt-or-ge i (plan .grid .side * orderSum plan n))
-
-  pub outside-slot : (i : ℕ) → i < slotWords plan → q ≢ slotStart plan k + i
-  outside-slot i l e = first-strips 4 i (omega arith) l e
-
--- ---- pixels of the map
 
 -- The block and the pixel there that a place of the map is.
 pub record PixelOf (plan : Plan) (q : ℕ) : Type 0 where

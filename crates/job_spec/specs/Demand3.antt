@@ -1,5 +1,6 @@
--- Demand 3: what is done after a list of task calls, by the list alone, and the one claim about the list.
--- Document 01, the paragraph on the words of demand 3; document 02, CR 4, and CR 7 through `mapOf`.
+-- Demand 3 of task calls on one map: what is done after a list of them, by the list alone, and the one claim about the list.
+-- Document 01, the paragraph on the words of demand 3; document 02, CR 4, CR 7 through `mapOf`, and CR 8 for the two halves of
+-- a slot. With recalls, and maps that change, demand 3 is `Rescan`; this follows from it.
 use mathlib.Core.Path.{_≡_}
 use mathlib.Core.Bool.{Bool, true, false, cond}
 use mathlib.Core.Logic.{_≢_}
@@ -23,6 +24,7 @@ use Rattle.serial.specs.Serial.{serialOutput}
 use Rattle.report.specs.declared.Progress.{Progress}
 use Rattle.report.specs.Report.{progressOf, report}
 use Rattle.report.specs.Values.{valuesOf, allDoneValues}
+use Rattle.task_words.specs.declared.Half.the-variants.{Lone, Linked}
 use Rattle.task_words.specs.Strips.{stripPlace}
 use Rattle.filter.specs.PlanFilters.{mapOf, serialResult}
 use Rattle.task_words.specs.Writes.{aloneWord}
@@ -80,11 +82,12 @@ abbrev pub OutsideFinished : Plan → (ℕ → ℕ → Bool) → ℕ → Type 0
 OutsideFinished plan done q =
     (k y x : ℕ) → Finished done k → y < rowsOf (plan .grid) k → x < columnsOf (plan .grid) k → q ≢ blockPixelPlace (plan .grid) k y x
 
--- A word of the strips outside collected blocks: it stands in no strip of any.
-abbrev pub OutsideCollected : Plan → (ℕ → ℕ → Bool) → ℕ → Type 0
-OutsideCollected plan done q =
-    (k pass line place : ℕ) → Collected done k → pass < 4 → line < plan .grid .side → place < orderOf plan pass
-    → q ≢ stripPlace plan k pass line place
+-- A word of the strips outside what is done: it stands in no lone strip of a collected block and in no strip of a done link.
+abbrev pub OutsideStrips : Plan → (ℕ → ℕ → Bool) → ℕ → Type 0
+OutsideStrips plan done q =
+    (k pass line place : ℕ) → pass < 4 → line < plan .grid .side → place < orderOf plan pass
+    → (Collected done k → q ≢ stripPlace plan Lone k pass line place)
+    × (done (suc pass) k ≡ true → q ≢ stripPlace plan Linked k pass line place)
 
 -- ---- the answers of a list of calls
 
@@ -109,18 +112,18 @@ pub record Claim (plan : Plan) (heights : List ℤ) (lent : Buffers) (calls : Li
   -- All output words outside finished blocks, those past h×w included, are as they were.
   pub other-output : (q : ℕ) → OutsideFinished plan (doneAfter plan calls) q
       → wordAt (after .output) q ≡ wordAt (lent .output) q
-  -- A linked strip, the one that a done link writes, is its matching strip.
+  -- A linked strip, the one that a done link writes, in the linked half, is its matching strip.
   pub linked-strips : (k pass line place : ℕ) → pass < 4 → doneAfter plan calls (suc pass) k ≡ true
       → line < plan .grid .side → place < orderOf plan pass
-      → wordAt (after .strips) (stripPlace plan k pass line place)
+      → wordAt (after .strips) (stripPlace plan Linked k pass line place)
       ≡ matchingWord plan (mapOf plan heights) k pass line place
-  -- Each other strip of a collected block is what collect writes: that of the block filtered alone, or 0 where no neighbour
-  -- needs it.
+  -- Each lone strip of a collected block is what collect writes, whatever is linked: that of the block filtered alone, or 0
+  -- where no neighbour needs it.
   pub collected-strips : (k pass line place : ℕ) → pass < 4 → Collected (doneAfter plan calls) k
-      → doneAfter plan calls (suc pass) k ≡ false → line < plan .grid .side → place < orderOf plan pass
-      → wordAt (after .strips) (stripPlace plan k pass line place) ≡ aloneWord plan (mapOf plan heights) k pass line place
+      → line < plan .grid .side → place < orderOf plan pass
+      → wordAt (after .strips) (stripPlace plan Lone k pass line place) ≡ aloneWord plan (mapOf plan heights) k pass line place
   -- All other needed strip words are 0, as start left them.
-  pub other-strips : (q : ℕ) → q < neededStrips plan → OutsideCollected plan (doneAfter plan calls) q
+  pub other-strips : (q : ℕ) → q < neededStrips plan → OutsideStrips plan (doneAfter plan calls) q
       → wordAt (after .strips) q ≡ 0
   -- Each needed mark has kind 7 and the bits of the tasks that are done.
   pub marks-are : Shows (plan .grid) (doneAfter plan calls) (after .marks)
