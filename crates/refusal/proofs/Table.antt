@@ -7,7 +7,7 @@ use Prim.Native.Nat.{ℕ}
 use native.Mathlib.Omega.{arith}
 use lib.Dec.{eqb}
 use Rattle.refusal.specs.declared.Refusal.{Refusal}
-use Rattle.refusal.specs.declared.Refusal.the-variants.{WordsEndEarly, AnotherKindDue, OutOfRange, SideBelowOrder, WordsAfterEnd, RecordBreaksRule, BufferTooShort, NoSuchTask, MarkBroken, AlreadyMarked, NeedUnmarked, RectangleOutside, InputUnfit, StripsTooShort, MapTooShort, OutputTooShort}
+use Rattle.refusal.specs.declared.Refusal.the-variants.{WordsEndEarly, AnotherKindDue, OutOfRange, SideBelowOrder, WordsAfterEnd, RecordBreaksRule, BufferTooShort, NoSuchTask, MarkBroken, AlreadyMarked, NeedUnmarked, RectangleOutside, InputUnfit, StripsTooShort, MapTooShort, OutputTooShort, BlockNotCollected}
 use Rattle.refusal.specs.declared.Outcome.{Outcome}
 use Rattle.refusal.specs.declared.Outcome.the-variants.{Accepted, Refused}
 use Rattle.refusal.specs.Refusals.{numberOf, placeOf, Answer, accepted, refused}
@@ -121,7 +121,8 @@ named number place =
     (cond (eqb number 13) InputUnfit
     (cond (eqb number 14) StripsTooShort
     (cond (eqb number 15) MapTooShort
-    OutputTooShort))))))))))))))
+    (cond (eqb number 16) OutputTooShort
+    BlockNotCollected)))))))))))))))
 
 named-back : (refusal : Refusal) → named (numberOf refusal) (placeOf refusal) ≡ refusal
 unfolding named
@@ -141,6 +142,7 @@ named-back InputUnfit = refl
 named-back StripsTooShort = refl
 named-back MapTooShort = refl
 named-back OutputTooShort = refl
+named-back BlockNotCollected = refl
 
 outcomeOf : Answer → Outcome
 outcomeOf accepted = Accepted

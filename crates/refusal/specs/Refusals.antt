@@ -2,7 +2,7 @@
 use Prim.Native.Nat.{ℕ}
 use Rattle.refusal.specs.declared.Reason.{Reason}
 use Rattle.refusal.specs.declared.Refusal.{Refusal}
-use Rattle.refusal.specs.declared.Refusal.the-variants.{WordsEndEarly, AnotherKindDue, OutOfRange, SideBelowOrder, WordsAfterEnd, RecordBreaksRule, BufferTooShort, NoSuchTask, MarkBroken, AlreadyMarked, NeedUnmarked, RectangleOutside, InputUnfit, StripsTooShort, MapTooShort, OutputTooShort}
+use Rattle.refusal.specs.declared.Refusal.the-variants.{WordsEndEarly, AnotherKindDue, OutOfRange, SideBelowOrder, WordsAfterEnd, RecordBreaksRule, BufferTooShort, NoSuchTask, MarkBroken, AlreadyMarked, NeedUnmarked, RectangleOutside, InputUnfit, StripsTooShort, MapTooShort, OutputTooShort, BlockNotCollected}
 
 -- An answer in the documents' numbers: accepted, or refused by a number with a place.
 pub data Answer : Type 0 where
@@ -19,8 +19,8 @@ abbrev pub placeIn : Answer → ℕ
 placeIn accepted = 0
 placeIn (refused number place) = place
 
--- The table of refused calls, 14 to 16 from CR 4: the number of each cause, and what is returned beside it; of 9 it is
--- the block's number.
+-- The table of refused calls, 14 to 16 from CR 4, 17 from CR 8: the number of each cause, and what is returned beside it;
+-- of 9 it is the block's number.
 abbrev pub reasonOf : Refusal → Reason
 reasonOf (WordsEndEarly place) = record { number = 1; place = place }
 reasonOf (AnotherKindDue place) = record { number = 2; place = place }
@@ -38,6 +38,7 @@ reasonOf InputUnfit = record { number = 13; place = 0 }
 reasonOf StripsTooShort = record { number = 14; place = 0 }
 reasonOf MapTooShort = record { number = 15; place = 0 }
 reasonOf OutputTooShort = record { number = 16; place = 0 }
+reasonOf BlockNotCollected = record { number = 17; place = 0 }
 
 -- The number of a refusal,
 abbrev pub numberOf : Refusal → ℕ

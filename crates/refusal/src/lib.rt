@@ -24,6 +24,7 @@ pub enum Refusal {
     StripsTooShort,
     MapTooShort,
     OutputTooShort,
+    BlockNotCollected,
 }
 
 // Whether a call was accepted.
@@ -61,6 +62,7 @@ impl Refusal {
             Refusal::StripsTooShort => row(14, 0),
             Refusal::MapTooShort => row(15, 0),
             Refusal::OutputTooShort => row(16, 0),
+            Refusal::BlockNotCollected => row(17, 0),
         }
     }
 
