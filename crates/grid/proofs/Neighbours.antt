@@ -134,6 +134,13 @@ mapped-some : (g : ℕ → ℕ) (o : Option ℕ) (j : ℕ) (P : ℕ → Type 0) 
 mapped-some g none j P f e = absurd (Option·some-ne-none j (sym e))
 mapped-some g (some m) j P f e = rw (← Option·some-injective (g m) j e) (f m refl)
 
+-- Block j is the one before block k in its line along a pass: next to it along the pass, and at the same place across it.
+pub record StandsBefore (grid : Grid) (k pass j : ℕ) : Type 0 where
+  pub has-before : hasBefore (directionOf pass) (lineCount grid pass) (lineIndex grid k pass) ≡ true
+  pub along-pass : lineIndex grid j pass ≡ indexBefore (directionOf pass) (lineIndex grid k pass)
+  pub across-pass : across (axisOf pass) (blockRow grid j) (blockColumn grid j)
+      ≡ across (axisOf pass) (blockRow grid k) (blockColumn grid k)
+
 module _ (grid : Grid) (k pass j : ℕ) (here : k < blockTotal grid) (e : neighbour grid k pass ≡ some j) where
   -- What holds of every block before block k in its line holds of the neighbour.
   neighbour-has : (P : ℕ → Type 0)
@@ -148,6 +155,18 @@ module _ (grid : Grid) (k pass j : ℕ) (here : k < blockTotal grid) (e : neighb
   -- A neighbour is a block of the map,
   pub neighbour-below : j < blockTotal grid
   neighbour-below = neighbour-has (λ j. j < blockTotal grid) (λ m h b. beside-below grid k here (axisOf pass) m h)
+
+  -- it stands before block k,
+  pub neighbour-stands : StandsBefore grid k pass j
+  neighbour-stands =
+      neighbour-has (StandsBefore grid k pass)
+      (λ m h b.
+      let (before, index) = chosen (hasBefore (directionOf pass) (lineCount grid pass) (lineIndex grid k pass)) _ m b in
+      record {
+        has-before = before;
+        along-pass = beside-along grid k here (axisOf pass) m h ∙ sym index;
+        across-pass = beside-across grid k here (axisOf pass) m h;
+      })
 
   -- and the pass goes on from it.
   pub neighbour-goes-on : goesOn grid j pass ≡ true

@@ -1,4 +1,5 @@
 pub mod Existence
+pub mod NeedLists
 pub mod Needs
 pub mod Counting
 pub mod Marking

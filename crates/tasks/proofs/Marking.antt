@@ -1,14 +1,17 @@
--- Marks: a mark that shows what is done passes the test of a mark and says of each task whether it is done. Assumes nothing.
+-- Marks: a mark that shows what is done passes the test of a mark and says of each task whether it is done, and one that
+-- passes the test shows what it says. Assumes nothing.
 use mathlib.Core.Path.{_≡_, refl, ap, _∙_}
 use mathlib.Core.Bool.{Bool, true, false, not, cond}
 use mathlib.Core.List.{List}
 use Prim.Native.Nat.{ℕ, zero, suc, _+_, _*_, _/_, _%_, _^_, _<_, _≤_}
+use native.Mathlib.Nat.{div-add-mod', div-div-eq-div-mul}
 use native.Mathlib.Omega.{arith}
-use lib.Dec.{eqb}
-use borrow.Author.Tests.{eq-eqb, lt-ltb, eqb-true}
+use lib.Dec.{ltb, eqb}
+use borrow.Author.Tests.{eq-eqb, lt-ltb, ltb-true, eqb-true}
 use Rattle.number.specs.Numbers.{total, one}
-use Rattle.number.proofs.Tests.{and-left, and-both}
-use Rattle.number.proofs.Sums.{all-below, one-most}
+use Rattle.number.proofs.Tests.{and-left, and-right, and-both}
+use Rattle.number.proofs.Sums.{all-below, one-most, total-same}
+use Rattle.buffer.specs.Lists.{wordAt}
 use Rattle.grid.specs.declared.Grid.{Grid}
 use Rattle.grid.specs.Grid.{blockTotal, blockRow, blockColumn}
 use Rattle.tasks.specs.Tasks.{exists, nothingDone}
@@ -50,6 +53,11 @@ mark-bit : (done : ℕ → ℕ → Bool) (k t : ℕ) → t < 6 → hasBit (markO
 unfolding hasBit markOf total
 mark-bit done k t h = ap (λ x. eqb x 1) (word-bit (oneAt done k) (λ t. one-most (done t k)) t h) ∙ one-is (done t k)
 
+-- The mark of what is done depends only on tasks 0 to 5 of its block.
+pub mark-same : (p q : ℕ → ℕ → Bool) (k : ℕ) → ((t : ℕ) → t < 6 → p t k ≡ q t k) → markOf p k ≡ markOf q k
+unfolding markOf
+mark-same p q k same = ap (wordOf markKind) (total-same _ _ 6 (λ t h. ap (λ x. one x * 2 ^ t) (same t h)))
+
 power-small : (t : ℕ) → t < 6 → 2 ^ t ≤ 32
 power-small zero l = omega arith
 power-small (suc zero) l = omega arith
@@ -73,6 +81,37 @@ valid-room grid k w valid t l =
 -- All needed marks pass the test.
 abbrev pub Valid : Grid → List ℕ → Type 0
 Valid grid marks = (k : ℕ) → k < blockTotal grid → markValidAt grid marks k ≡ true
+
+bit-one : (w t : ℕ) → one (hasBit w t) ≡ w / 2 ^ t % 2
+unfolding hasBit
+bit-one w t = by (w / 2 ^ t % 2) (omega arith)
+  where
+    by : (x : ℕ) → x < 2 → one (eqb x 1) ≡ x
+    by zero h = refl
+    by (suc zero) h = refl
+    by (suc (suc x)) h = absurd (omega arith)
+
+-- A word is its low n bits and what stands above them.
+low-bits : (w n : ℕ) → w ≡ total (λ t. one (hasBit w t) * 2 ^ t) n + w / 2 ^ n * 2 ^ n
+unfolding total
+low-bits w zero = omega arith
+low-bits w (suc n) =
+    let double : 2 ^ suc n ≡ 2 ^ n * 2 = omega arith in
+    let halved : w / (2 ^ n * 2) * 2 + w / 2 ^ n % 2 ≡ w / 2 ^ n =
+    rw (← div-div-eq-div-mul w (2 ^ n) 2) (div-add-mod' (w / 2 ^ n) 2) in
+    rw (double, bit-one w n) (low-bits w n ∙ one-more _ (w / 2 ^ n) _ _ (2 ^ n) halved)
+  where
+    one-more : (s q half bit p : ℕ) → half * 2 + bit ≡ q → s + q * p ≡ s + bit * p + half * (p * 2)
+    one-more s q half bit p e = rw (← e) (omega arith)
+
+-- A mark that passes the test is the mark of the tasks that it shows.
+pub valid-shows : (grid : Grid) (marks : List ℕ) → Valid grid marks → Shows grid (isMarked marks) marks
+unfolding markValid markOf isMarked
+valid-shows grid marks valid k h =
+    let w = wordAt marks k in
+    let kind : kindOf w ≡ markKind = eqb-true (kindOf w) markKind (and-left (eqb (kindOf w) markKind) _ (valid k h)) in
+    let low : payloadOf w < 64 = ltb-true (payloadOf w) 64 (and-left (ltb (payloadOf w) 64) _ (and-right (eqb (kindOf w) markKind) _ (valid k h))) in
+    low-bits w 6 ∙ omega arith
 
 spare-of : (grid : Grid) (done : ℕ → ℕ → Bool) (k : ℕ) → ((t : ℕ) → t < 6 → done t k ≡ true → exists grid t k ≡ true)
     → (t : ℕ) → t < 6 → spareClear grid (blockRow grid k) (blockColumn grid k) (markOf done k) t ≡ true

@@ -124,7 +124,7 @@ module _ (done : ℕ → ℕ → Bool) where
     needs-linked pass j l e = rw e at (all-at (linkDone grid done k) (min (suc t) 4) pass (and-right (done 0 k) _ both) l)
 
   -- And what makes the needs of a task done.
-  needs-all : (grid : Grid) (t k : ℕ) → t < 6 → done 0 k ≡ true
+  pub needs-all : (grid : Grid) (t k : ℕ) → t < 6 → done 0 k ≡ true
       → ((pass j : ℕ) → pass < min t 4 → neighbour grid k pass ≡ some j → done (suc pass) j ≡ true)
       → allDone done (needsOf grid t k) ≡ true
   needs-all grid zero k l own link = needs-none grid k
@@ -203,7 +203,7 @@ abbrev pub All : Grid → (ℕ → ℕ → Bool) → Type 0
 All grid done = (t k : ℕ) → exists grid t k ≡ true → done t k ≡ true
 
 -- Of a number of blocks, how far block k is from where a pass in this direction begins,
-abbrev distance : Direction → (blocks k : ℕ) → ℕ
+abbrev pub distance : Direction → (blocks k : ℕ) → ℕ
 distance forward blocks k = k
 distance backward blocks k = blocks - k
 
@@ -218,7 +218,7 @@ module _ (grid : Grid) (k pass j : ℕ) (here : k < blockTotal grid) (e : neighb
   step-positive columns = width-positive (blockRows grid) (blockColumns grid) k here
   step-positive rows = omega arith
 
-  nearer : distance (directionOf pass) (blockTotal grid) j < distance (directionOf pass) (blockTotal grid) k
+  pub nearer : distance (directionOf pass) (blockTotal grid) j < distance (directionOf pass) (blockTotal grid) k
   unfolding neighbour
   nearer =
       let (before, step) = chosen (hasBefore (directionOf pass) (lineCount grid pass) (lineIndex grid k pass)) _ j e in

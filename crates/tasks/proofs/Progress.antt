@@ -2,7 +2,7 @@
 use mathlib.Core.Path.{_≡_, refl, sym, ap, _∙_}
 use mathlib.Core.Logic.{_⊎_, inl, inr, ⊎-elim, _≢_}
 use mathlib.Core.Bool.{Bool, true, false, _&&_, _||_, or-false, or-true, true≢false}
-use mathlib.Core.List.{List, [], _∷_}
+use mathlib.Core.List.{List}
 use Prim.Native.Nat.{ℕ, _+_, _*_, _^_, _<_, _≤_}
 use native.Mathlib.Omega.{arith}
 use native.Mathlib.Decide.{ℕ-discrete}
@@ -11,16 +11,16 @@ use lib.ListN.{length, getD, set, length-set}
 use lib.Seq.{getD-set-same, getD-set-other}
 use borrow.Author.Tests.{eq-eqb, ne-eqb, eqb-true}
 use Rattle.number.specs.Numbers.{total, one}
-use Rattle.number.proofs.Tests.{and-left, and-right, and-both}
 use Rattle.number.proofs.Sums.{total-same, total-bump}
 use Rattle.grid.specs.declared.Grid.{Grid}
 use Rattle.grid.specs.Grid.{blockTotal}
-use Rattle.tasks.specs.Tasks.{exists, BlockTask, needsOf, allDone, ready, nothingDone, alsoDone}
+use Rattle.tasks.specs.Tasks.{exists, needsOf, allDone, ready, nothingDone, alsoDone}
 use Rattle.tasks.specs.Counts.{oneAt, doneAt, doneCount}
-use Rattle.tasks.specs.Marks.{bitAt, markOf, Shows, withBit, markKind}
+use Rattle.tasks.specs.Marks.{bitAt, markOf, Shows, withBit}
 use Rattle.tasks.proofs.Existence.{exists-block, exists-task}
+use Rattle.tasks.proofs.NeedLists.{all-kept}
 use Rattle.tasks.proofs.Needs.{ready-exists, ready-undone, ready-needs}
-use Rattle.number.specs.KindWords.{wordOf}
+use Rattle.tasks.proofs.Marking.{mark-same}
 
 module _ (done : ℕ → ℕ → Bool) (t k : ℕ) where
   pub also-new : alsoDone done t k t k ≡ true
@@ -78,9 +78,7 @@ mark-also done t k l e =
     omega arith
 
 mark-other : (done : ℕ → ℕ → Bool) (t k j : ℕ) → j ≢ k → markOf (alsoDone done t k) j ≡ markOf done j
-unfolding markOf
-mark-other done t k j n =
-    ap (wordOf markKind) (total-same _ _ 6 (λ u h. ap (λ x. one x * 2 ^ u) (also-block done t k u j n)))
+mark-other done t k j n = mark-same _ done j (λ u h. also-block done t k u j n)
 
 module _ (marks : List ℕ) (t k : ℕ) where
   pub bit-length : length (withBit marks t k) ≡ length marks
@@ -110,14 +108,6 @@ module _ (marks : List ℕ) (t k : ℕ) where
 pub record Sound (grid : Grid) (done : ℕ → ℕ → Bool) : Type 0 where
   pub exist : (t k : ℕ) → done t k ≡ true → exists grid t k ≡ true
   pub closed : (t k : ℕ) → done t k ≡ true → allDone done (needsOf grid t k) ≡ true
-
-all-kept : (p q : ℕ → ℕ → Bool) → ((t k : ℕ) → p t k ≡ true → q t k ≡ true) → (needs : List BlockTask) → allDone p needs ≡ true
-    → allDone q needs ≡ true
-unfolding allDone
-all-kept p q f [] e = refl
-all-kept p q f (x ∷ xs) e =
-    and-both (f (x .task) (x .block) (and-left (p (x .task) (x .block)) (allDone p xs) e))
-    (all-kept p q f xs (and-right (p (x .task) (x .block)) (allDone p xs) e))
 
 pub sound-nothing : (grid : Grid) → Sound grid nothingDone
 sound-nothing grid = record { exist = λ t k e. absurd (true≢false (sym e)); closed = λ t k e. absurd (true≢false (sym e)) }
