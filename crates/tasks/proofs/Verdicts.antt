@@ -73,15 +73,17 @@ module _ (grid : Grid) (marks : List ℕ) where
       → leastBelow (k + 1) ≡ blockTotal grid
   below-valid k h whole valid = rw (add-one k, below-more k h, whole, valid) (omega arith)
 
-  -- Where all marks pass the test, none of all blocks is broken.
+  -- Where the first n pass the test, none of them is broken;
+  pub below-whole : (n : ℕ) → n ≤ blockTotal grid → ((k : ℕ) → k < n → markValidAt grid marks k ≡ true)
+      → leastBelow n ≡ blockTotal grid
+  below-whole zero l valid = below-none
+  below-whole (suc n) l valid =
+      sym (ap leastBelow (add-one n))
+      ∙ below-valid n (omega arith) (below-whole n (omega arith) (λ k h. valid k (omega arith))) (valid n (omega arith))
+
+  -- and where all marks do, none of all blocks is.
   pub all-valid : Valid grid marks → leastBrokenOf grid marks (allBlocks grid) ≡ blockTotal grid
-  all-valid valid = sym below-all ∙ upto (blockTotal grid) (omega arith)
-    where
-      upto : (n : ℕ) → n ≤ blockTotal grid → leastBelow n ≡ blockTotal grid
-      upto zero l = below-none
-      upto (suc n) l =
-          sym (ap leastBelow (add-one n))
-          ∙ below-valid n (omega arith) (upto n (omega arith)) (valid n (omega arith))
+  all-valid valid = sym below-all ∙ below-whole (blockTotal grid) (omega arith) valid
 
   -- The first broken of all blocks is the least.
   pub first-least : (k : ℕ) → k < blockTotal grid → leastBelow k ≡ blockTotal grid → markValidAt grid marks k ≡ false
