@@ -1,0 +1,125 @@
+-- A recall on marks that show what is done: its answer, and the marks after it. Assumes nothing.
+use mathlib.Core.Path.{_≡_, refl, sym, ap, _∙_}
+use mathlib.Core.Bool.{Bool, true, false, not, _&&_, true≢false}
+use mathlib.Core.List.{List, [], _∷_}
+use Prim.Native.Nat.{ℕ, _≤_, _<_}
+use native.Mathlib.Omega.{arith}
+use lib.Dec.{ltb}
+use lib.ListN.{length}
+use borrow.Author.Tests.{ltb-true, lt-ltb, le-ltb}
+use Rattle.refusal.specs.Refusals.{accepted}
+use Rattle.refusal.specs.Table.{_at_when_, firstDue}
+use Rattle.refusal.proofs.Table.{accepted-before}
+use Rattle.buffer.specs.Lists.{wordAt}
+use Rattle.buffer.proofs.Written.{written-length, written-other, written-at}
+use Rattle.grid.specs.declared.Grid.{Grid}
+use Rattle.grid.specs.Grid.{blockTotal}
+use Rattle.plan.specs.declared.BufferOf7.the-variants.{Marks}
+use Rattle.plan.specs.declared.Plan.{Plan}
+use Rattle.plan.specs.Rules.{keepsRules}
+use Rattle.plan.specs.Sizes.{neededMarks}
+use Rattle.plan.specs.FirstTests.{lentRows}
+use Rattle.plan.proofs.FirstTests.{only-accepted}
+use Rattle.tasks.specs.Marks.{isMarked, markOf, Shows}
+use Rattle.tasks.proofs.Counting.{Only}
+use Rattle.tasks.proofs.Marking.{Valid, mark-same, shows-marked, shows-valid, valid-shows}
+use Rattle.tasks.proofs.Verdicts.{below-whole, all-valid, first-least}
+use Rattle.report.specs.Report.{firstBroken, marksRows, lentToReport}
+use Rattle.recall.specs.Recall.{clears, doneWithout}
+use Rattle.recall.specs.RecallCall.{recallRows, recallAnswer, marksRecalled, RefusedInOrder, OtherMarksStay}
+
+-- ---- the answer
+
+-- Beside a record that keeps the rules and enough marks, what a recall tests of its own decides.
+own-tests : (plan : Plan) (marks : List ℕ) (k : ℕ) → keepsRules plan ≡ true → neededMarks plan ≤ length marks
+    → recallAnswer plan marks k ≡ firstDue (recallRows (plan .grid) (isMarked marks) (marksRows (plan .grid) marks) k)
+unfolding recallAnswer
+own-tests plan marks k kept enough =
+    accepted-before (lentRows plan (lentToReport marks)) _ (sym (only-accepted plan (Marks (length marks)) kept enough))
+
+-- Where no mark is broken that is whether the block is in the map and collected.
+whole-marks : (grid : Grid) (marks : List ℕ) (k : ℕ) → Valid grid marks
+    → firstDue (recallRows grid (isMarked marks) (marksRows grid marks) k) ≡ firstDue (recallRows grid (isMarked marks) [] k)
+unfolding firstBroken
+whole-marks grid marks k valid =
+    let whole = all-valid grid marks valid in
+    rw (le-ltb (firstBroken grid marks) (blockTotal grid) (omega arith))
+
+pub refused-in-order : RefusedInOrder
+unfolding firstBroken
+refused-in-order plan marks k kept enough =
+    let grid = plan .grid in
+    let tested = own-tests plan marks k kept enough in
+    record {
+      no-block = λ h. tested ∙ rw (le-ltb k (blockTotal grid) h);
+      mark-broken = λ h j l broken before.
+          let least = first-least grid marks j l (below-whole grid marks j (omega arith) before) broken in
+          tested ∙ rw (lt-ltb k (blockTotal grid) h, ← least, lt-ltb j (blockTotal grid) l);
+      not-collected = λ h valid e. tested ∙ whole-marks grid marks k valid ∙ rw (lt-ltb k (blockTotal grid) h, e);
+      collected = λ h valid e. tested ∙ whole-marks grid marks k valid ∙ rw (lt-ltb k (blockTotal grid) h, e);
+    }
+
+-- Enough marks that show what is done are answered by what is done.
+pub recall-answered : (plan : Plan) → keepsRules plan ≡ true → (done : ℕ → ℕ → Bool) → Only (plan .grid) done → (marks : List ℕ)
+    → neededMarks plan ≤ length marks → Shows (plan .grid) done marks → (k : ℕ)
+    → recallAnswer plan marks k ≡ firstDue (recallRows (plan .grid) done [] k)
+recall-answered plan kept done only marks enough shows k =
+    own-tests plan marks k kept enough ∙ whole-marks (plan .grid) marks k (shows-valid (plan .grid) done marks shows only)
+    ∙ by (ltb k (blockTotal (plan .grid))) refl
+  where
+    by : (inside : Bool) → ltb k (blockTotal (plan .grid)) ≡ inside
+        → firstDue (8 at 0 when not inside ∷ 17 at 0 when not (isMarked marks 0 k) ∷ [])
+        ≡ firstDue (8 at 0 when not inside ∷ 17 at 0 when not (done 0 k) ∷ [])
+    by true e = rw (shows-marked (plan .grid) done marks shows 0 k (omega arith) (ltb-true k (blockTotal (plan .grid)) e))
+    by false e = refl
+
+-- It is accepted exactly where the block is in the map and collected.
+pub accepted-if-collected : (grid : Grid) (done : ℕ → ℕ → Bool) (k : ℕ)
+    → (firstDue (recallRows grid done [] k) ≡ accepted → (ltb k (blockTotal grid) && done 0 k) ≡ true)
+    × ((ltb k (blockTotal grid) && done 0 k) ≡ true → firstDue (recallRows grid done [] k) ≡ accepted)
+accepted-if-collected grid done k = by (ltb k (blockTotal grid)) (done 0 k)
+  where
+    by : (inside collected : Bool)
+        → (firstDue (8 at 0 when not inside ∷ 17 at 0 when not collected ∷ []) ≡ accepted → (inside && collected) ≡ true)
+        × ((inside && collected) ≡ true → firstDue (8 at 0 when not inside ∷ 17 at 0 when not collected ∷ []) ≡ accepted)
+    by true true = (λ e. refl, λ e. refl)
+    by true false = (λ e. cc, λ e. absurd (true≢false (sym e)))
+    by false collected = (λ e. cc, λ e. absurd (true≢false (sym e)))
+
+-- ---- the marks
+
+module _ (grid : Grid) (k : ℕ) (marks : List ℕ) where
+  pub recalled-length : length (marksRecalled grid k marks) ≡ length marks
+  unfolding marksRecalled
+  recalled-length = written-length _ _ (blockTotal grid) marks
+
+  -- Words past the needed marks stay.
+  pub recalled-past : (j : ℕ) → blockTotal grid ≤ j → wordAt (marksRecalled grid k marks) j ≡ wordAt marks j
+  unfolding marksRecalled
+  recalled-past j h = written-other _ _ (blockTotal grid) marks j (λ i l. omega arith)
+
+  -- A needed mark has the bits of the tasks that were marked and are not cleared.
+  recalled-at : blockTotal grid ≤ length marks → (j : ℕ) → j < blockTotal grid
+      → wordAt (marksRecalled grid k marks) j ≡ markOf (doneWithout grid (isMarked marks) k) j
+  unfolding marksRecalled
+  recalled-at enough j h =
+      written-at (λ j. j) _ (blockTotal grid) marks (λ i j a b. omega arith) (λ i a. omega arith) j h
+
+-- The marks after a recall show what is done without what it clears.
+pub recalled-shows : (grid : Grid) (done : ℕ → ℕ → Bool) (marks : List ℕ) → blockTotal grid ≤ length marks → Shows grid done marks
+    → (k : ℕ) → Shows grid (doneWithout grid done k) (marksRecalled grid k marks)
+unfolding doneWithout
+recalled-shows grid done marks enough shows k j h =
+    recalled-at grid k marks enough j h
+    ∙ mark-same _ _ j (λ t l. ap (λ x. x && not (clears grid k t j)) (shows-marked grid done marks shows t j l h))
+
+pub other-marks-stay : OtherMarksStay
+unfolding doneWithout
+other-marks-stay grid marks enough valid k j h free =
+    recalled-at grid k marks enough j h
+    ∙ mark-same _ (isMarked marks) j (λ t l. by (isMarked marks t j) (clears grid k t j) (free t l))
+    ∙ sym (valid-shows grid marks valid j h)
+  where
+    by : (marked cleared : Bool) → (marked ≡ true → cleared ≡ false) → (marked && not cleared) ≡ marked
+    by true cleared f = ap not (f refl)
+    by false cleared f = refl

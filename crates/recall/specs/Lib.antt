@@ -1,0 +1,2 @@
+pub mod Recall
+pub mod RecallCall
