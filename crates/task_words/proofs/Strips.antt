@@ -1,6 +1,7 @@
 -- Strips in the list of strips: they lie apart, a strip reads as it was written, and no other word changes.
 -- Assumes nothing.
 use mathlib.Core.Path.{_≡_, refl, ap, ap₂, sym, _∙_}
+use mathlib.Core.Bool.{Bool, true, false, true≢false}
 use mathlib.Core.List.{List}
 use mathlib.Core.Logic.{_≢_, ⊎-elim}
 use Prim.Native.Nat.{ℕ, zero, suc, _+_, _*_, _/_, _%_, _≤_, _<_}
@@ -77,6 +78,14 @@ module _ (b r : ℕ) where
 abbrev pub halfNumber : Half → ℕ → ℕ
 halfNumber Lone k = 2 * k
 halfNumber Linked k = 2 * k + 1
+
+-- A half is not the other.
+pub lone-not-linked : Lone ≢ Linked
+lone-not-linked e = true≢false (ap is-lone e)
+  where
+    is-lone : Half → Bool
+    is-lone Lone = true
+    is-lone Linked = false
 
 -- The number tells the half and the block.
 same-half : (half other : Half) (k j : ℕ) → halfNumber half k ≡ halfNumber other j → (half ≡ other) × (k ≡ j)
