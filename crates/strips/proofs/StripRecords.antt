@@ -13,6 +13,8 @@ use Rattle.buffer.specs.Lists.{wordAt}
 use Rattle.number.proofs.Tests.{and-left, and-right, and-both, same-test}
 use Rattle.axis.specs.Axis.{Axis, columns, rows, Direction, forward, backward, axisOf, directionOf, along, isBackward, ifForward}
 use Rattle.grid.specs.Grid.{neighbour, orZero, extentAlong, linesAcross}
+use Rattle.task_words.specs.declared.Half.{Half}
+use Rattle.task_words.specs.declared.Half.the-variants.{Linked}
 use Rattle.task_words.specs.Strips.{stripStart, placeInStrip, stripPlace, placeInside, insideBlock, stripWord, fromEdge, nearestFirst, pastEdges}
 use Rattle.grid.proofs.Neighbours.{neighbour-below}
 use Rattle.grid.proofs.Blocks.{lines-in-side}
@@ -45,20 +47,20 @@ strip-with-is forward order n start lineStep placeStep lines e t f =
 strip-with-is backward order n start lineStep placeStep lines e t f =
     let whole : 0 + min order n ≡ min order n = omega arith in rw (f, t, e, whole)
 
-pub strip-of-is : (plan : Plan) (k pass : ℕ) {shape : BlockShape} {start n lineStep placeStep lines : ℕ} {strip : Strip}
-    → shape ≡ shapeOf (plan .grid) k → start ≡ stripStart plan k pass → n ≡ shapeExtent shape pass
+pub strip-of-is : (plan : Plan) (half : Half) (k pass : ℕ) {shape : BlockShape} {start n lineStep placeStep lines : ℕ} {strip : Strip}
+    → shape ≡ shapeOf (plan .grid) k → start ≡ stripStart plan half k pass → n ≡ shapeExtent shape pass
     → lineStep ≡ along (axisOf pass) 1 (orderOf plan pass) → placeStep ≡ along (axisOf pass) (plan .grid .side) 1
     → lines ≡ shapeLines shape pass
     → strip ≡ stripWith (directionOf pass) (orderOf plan pass) n start lineStep placeStep lines
-    → strip ≡ stripOf plan k pass
+    → strip ≡ stripOf plan half k pass
 unfolding stripOf shapeOf
-strip-of-is plan k pass shaped starts a b c d e = e ∙ rw (a, b, c, d, shaped, starts)
+strip-of-is plan half k pass shaped starts a b c d e = e ∙ rw (a, b, c, d, shaped, starts)
 
 module _ (plan : Plan) (k pass : ℕ) (found : Neighbour) (is : found ≡ foundNeighbour (neighbour (plan .grid) k pass)) where
   pub before-below : (j : ℕ) → found ≡ Block j → k < neededMarks plan → j < neededMarks plan
   before-below j e here = neighbour-below (plan .grid) k pass j here (found-block (neighbour (plan .grid) k pass) found j is e)
 
-  pub before-block : (j : ℕ) (strip : Strip) → found ≡ Block j → strip ≡ stripOf plan j pass
+  pub before-block : (j : ℕ) (strip : Strip) → found ≡ Block j → strip ≡ stripOf plan Linked j pass
       → strip ≡ stripBefore plan k pass
   unfolding stripBefore
   before-block j strip e f = rw (found-block (neighbour (plan .grid) k pass) found j is e) f
@@ -91,13 +93,13 @@ address-in-strip columns start side order line place = omega arith
 address-in-strip rows start side order line place = omega arith
 
 -- A word stands where the definitions have it.
-module _ (plan : Plan) (k pass line place : ℕ) where
-  pub address-is : addressIn (stripOf plan k pass) line place ≡ stripPlace plan k pass line place
+module _ (plan : Plan) (half : Half) (k pass line place : ℕ) where
+  pub address-is : addressIn (stripOf plan half k pass) line place ≡ stripPlace plan half k pass line place
   unfolding stripOf stripWith stripPlace
-  address-is = address-in-strip (axisOf pass) (stripStart plan k pass) (plan .grid .side) (orderOf plan pass) line place
+  address-is = address-in-strip (axisOf pass) (stripStart plan half k pass) (plan .grid .side) (orderOf plan pass) line place
 
   pub strip-read : (strips : List ℕ) → place < orderOf plan pass
-      → stripRead (stripOf plan k pass) strips line place ≡ stripWord plan strips k pass line place
+      → stripRead (stripOf plan half k pass) strips line place ≡ stripWord plan strips half k pass line place
   unfolding stripRead stripWord insideBlock stripOf stripWith
   strip-read strips h =
       ap₂ (λ (test : Bool) word. cond test word 0)
@@ -109,22 +111,22 @@ pub past-in-order : (d : Direction) (order n : ℕ) → pastInside d order n ≤
 past-in-order forward order n = omega arith
 past-in-order backward order n = omega arith
 
-pub strip-fits : (plan : Plan) (k pass n : ℕ) → k < neededMarks plan → pass < 4 → neededStrips plan ≤ n
-    → StripFits n (stripOf plan k pass)
+pub strip-fits : (plan : Plan) (half : Half) (k pass n : ℕ) → k < neededMarks plan → pass < 4 → neededStrips plan ≤ n
+    → StripFits n (stripOf plan half k pass)
 unfolding stripOf stripWith
-strip-fits plan k pass n here h long =
+strip-fits plan half k pass n here h long =
     record {
       inside =
           λ line place l p.
-          rw (address-is plan k pass line place)
+          rw (address-is plan half k pass line place)
           (omega (
             arith,
-            strip-place-below plan k pass line place here h (omega (arith, lines-in-side (plan .grid) k (axisOf pass)))
+            strip-place-below plan half k pass line place here h (omega (arith, lines-in-side (plan .grid) k (axisOf pass)))
                 (omega (arith, past-in-order (directionOf pass) (orderOf plan pass) (extentAlong (plan .grid) k pass))),
           ));
     }
 
--- ---- the strip of the block that a pass comes from
+-- ---- the linked strip of the block that a pass comes from
 
 empty-read : (strips : List ℕ) (line place : ℕ) → stripRead emptyStrip strips line place ≡ 0
 unfolding stripRead
@@ -137,7 +139,7 @@ before-fits plan k pass n here h long = by (neighbour (plan .grid) k pass) (λ j
   where
     by : (o : Option ℕ) → ((j : ℕ) → o ≡ some j → j < neededMarks plan) → StripFits n (stripIn plan pass o)
     by none f = record { inside = λ line place l p. absurd (omega arith) }
-    by (some j) f = strip-fits plan j pass n (f j refl) h long
+    by (some j) f = strip-fits plan Linked j pass n (f j refl) h long
 
 -- The word at a distance past block k's edge.
 pub past-edges-read : (plan : Plan) (strips : List ℕ) (k pass line distance : ℕ) → distance < orderOf plan pass
@@ -150,6 +152,6 @@ past-edges-read plan strips k pass line distance h = rw (lt-ltb distance (orderO
     place = fromEdge (directionOf pass) (orderOf plan pass) distance
 
     by : (o : Option ℕ)
-        → stripRead (stripIn plan pass o) strips line place ≡ orZero (λ j. stripWord plan strips j pass line place) o
+        → stripRead (stripIn plan pass o) strips line place ≡ orZero (λ j. stripWord plan strips Linked j pass line place) o
     by none = empty-read strips line place
-    by (some j) = strip-read plan j pass line place strips (from-edge-below (directionOf pass) (orderOf plan pass) distance h)
+    by (some j) = strip-read plan Linked j pass line place strips (from-edge-below (directionOf pass) (orderOf plan pass) distance h)

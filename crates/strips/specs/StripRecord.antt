@@ -11,6 +11,8 @@ use Rattle.axis.specs.Axis.{Direction, forward, backward, axisOf, directionOf, 
 use Rattle.grid.specs.Grid.{sideLimit, neighbour, extentAlong, linesAcross}
 use Rattle.plan.specs.Rules.{orderLimit, keepsRules}
 use Rattle.plan.specs.Sizes.{orderOf, neededMarks}
+use Rattle.task_words.specs.declared.Half.{Half}
+use Rattle.task_words.specs.declared.Half.the-variants.{Linked}
 use Rattle.task_words.specs.Strips.{stripStart}
 use Rattle.strips.specs.declared.Strip.{Strip}
 
@@ -53,23 +55,23 @@ stripWith d order n start lineStep placeStep lines =
       past = pastInside d order n;
     }
 
--- Block k's strip of a pass: rows of b words (down, up), or b rows of `order` words (right, left).
-unfoldable pub stripOf : Plan → ℕ → ℕ → Strip
-stripOf plan k pass =
+-- Block k's strip of a pass in a half: rows of b words (down, up), or b rows of `order` words (right, left).
+unfoldable pub stripOf : Plan → Half → ℕ → ℕ → Strip
+stripOf plan half k pass =
     stripWith (directionOf pass) (orderOf plan pass) (extentAlong (plan .grid) k pass)
-    (stripStart plan k pass) (along (axisOf pass) 1 (orderOf plan pass)) (along (axisOf pass) (plan .grid .side) 1)
+    (stripStart plan half k pass) (along (axisOf pass) 1 (orderOf plan pass)) (along (axisOf pass) (plan .grid .side) 1)
     (linesAcross (plan .grid) k pass)
 
 -- The strip without lines, which is 0 everywhere.
 abbrev pub emptyStrip : Strip
 emptyStrip = record { start = 0; «line_step» = 0; «place_step» = 0; lines = 0; first = 0; past = 0 }
 
--- The strip of a pass of a block that may be beyond the map.
+-- The linked strip of a pass of a block that may be beyond the map.
 abbrev pub stripIn : Plan → ℕ → Option ℕ → Strip
 stripIn plan pass none = emptyStrip
-stripIn plan pass (some j) = stripOf plan j pass
+stripIn plan pass (some j) = stripOf plan Linked j pass
 
--- The strip of the block that a pass comes from.
+-- The linked strip of the block that a pass comes from.
 unfoldable pub stripBefore : Plan → ℕ → ℕ → Strip
 stripBefore plan k pass = stripIn plan pass (neighbour (plan .grid) k pass)
 

@@ -2,10 +2,13 @@
 // An inner crate: what its functions require, their callers in this repository show.
 use grid::Neighbour;
 use plan::Plan;
+use task_words::Half;
 ghost use mathlib.Core.Path.{_≡_};
+ghost use mathlib.Core.Bool.{true};
 ghost use Prim.Native.Nat.{_<_, _^_};
 ghost use Rattle.axis.specs.Axis.{directionOf};
-ghost use Rattle.task_words.specs.Strips.{stripStart};
+ghost use Rattle.plan.specs.Rules.{keepsRules};
+ghost use Rattle.task_words.specs.Strips.{wordsBeforeHalf, stripStart};
 ghost use Rattle.strips.specs.StripRecord.{StripAt, EdgeFits, edgeStart, addressIn, stripWith, stripOf, stripBefore};
 
 // A strip of lines: the word at a line and a place stands at `start + line * line_step + place * place_step`. The lines
@@ -29,12 +32,24 @@ impl Strip {
     }
 }
 
-// The first word of block k's strip of a pass.
-pub fn strip_start(plan: Plan, k: usize, pass: usize) -> usize
-    requires { ⌜ StripAt plan k pass ⌝ }
-    ensures { λ r. ⌜ r ≡ stripStart plan k pass ⌝ }
+// The words of a slot before a half of it. Callers name the half, so that the compiler takes one of the two.
+fn words_before_half(plan: Plan, half: Half) -> usize
+    requires { ⌜ keepsRules plan ≡ true ⌝ }
+    ensures { λ r. ⌜ r ≡ wordsBeforeHalf plan half ⌝ }
 {
-    k * plan.slot_words() + plan.grid.side * plan.order_sum(pass)
+    match half {
+        Half::Lone => 0,
+        Half::Linked => plan.half_words(),
+    }
+}
+
+// The first word of block k's strip of a pass in a half.
+pub fn strip_start(plan: Plan, half: Half, k: usize, pass: usize) -> usize
+    requires { ⌜ StripAt plan k pass ⌝ }
+    ensures { λ r. ⌜ r ≡ stripStart plan half k pass ⌝ }
+{
+    let slot = k * (2 * plan.half_words());
+    slot + words_before_half(plan, half) + plan.grid.side * plan.order_sum(pass)
 }
 
 // A strip of `lines` lines, in a block of `extent` places along the pass: its last places where the pass runs forward, its
@@ -75,13 +90,13 @@ pub fn edge_start(pass: usize, order: usize, extent: usize) -> usize
     }
 }
 
-// Block k's strip of a pass.
-pub fn strip_of(plan: Plan, k: usize, pass: usize) -> Strip
+// Block k's strip of a pass in a half.
+pub fn strip_of(plan: Plan, half: Half, k: usize, pass: usize) -> Strip
     requires { ⌜ StripAt plan k pass ⌝ }
-    ensures { λ r. ⌜ r ≡ stripOf plan k pass ⌝ }
+    ensures { λ r. ⌜ r ≡ stripOf plan half k pass ⌝ }
 {
     let shape = plan.grid.block_shape(k);
-    let start = strip_start(plan, k, pass);
+    let start = strip_start(plan, half, k, pass);
     let filter = plan.passes[pass];
     let order = filter.order;
     strip_with(
@@ -95,14 +110,14 @@ pub fn strip_of(plan: Plan, k: usize, pass: usize) -> Strip
     )
 }
 
-// The strip of the block that a pass comes from: one without lines where the map ends.
+// The linked strip of the block that a pass comes from: one without lines where the map ends.
 pub fn strip_before(plan: Plan, k: usize, pass: usize) -> Strip
     requires { ⌜ StripAt plan k pass ⌝ }
     ensures { λ r. ⌜ r ≡ stripBefore plan k pass ⌝ }
 {
     let found = plan.grid.neighbour(k, pass);
     match found {
-        Neighbour::Block(j) => strip_of(plan, j, pass),
+        Neighbour::Block(j) => strip_of(plan, Half::Linked, j, pass),
         Neighbour::Beyond => Strip {
             start: 0,
             line_step: 0,

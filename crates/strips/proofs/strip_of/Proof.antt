@@ -37,7 +37,7 @@ returns c =
     let l = c .before in
     let e = l .before .before .before in
     let s = e .before .before in
-    strip-of-is _ _ _ (s .before .block-shape .ensures) (s .strip-start .ensures) (e .extent .ensures)
+    strip-of-is _ _ _ _ (s .before .block-shape .ensures) (s .strip-start .ensures) (e .extent .ensures)
     (l .before .before .along .ensures) (l .before .along2 .ensures) (l .lines .ensures) (c .strip-with .ensures)
 
 pub strip-of-spec : {M : Type 1} → statement M
