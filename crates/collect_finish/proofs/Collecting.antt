@@ -15,9 +15,10 @@ use Rattle.filter.specs.PlanFilters.{filtersOf, mapOf}
 use Rattle.filter.specs.FilterWords.{filterWith, filterWords, withGain}
 use Rattle.grid.specs.Grid.{partOf}
 use Rattle.grid.specs.declared.BlockShape.{BlockShape}
-use Rattle.task_words.specs.Strips.{stripWritten, slotWritten}
+use Rattle.task_words.specs.declared.Half.the-variants.{Lone}
+use Rattle.task_words.specs.Strips.{stripWritten, halfWritten}
 use Rattle.task_words.specs.Writes.{aloneWord, collected}
-use Rattle.task_words.proofs.Strips.{strip-same-words, slot-none, slot-next, slot-length}
+use Rattle.task_words.proofs.Strips.{strip-same-words, half-none, half-next, half-length}
 use Rattle.collect_finish.specs.Work.{blockPass, workEdge}
 use Rattle.collect_finish.specs.WorkFits.{ShapedBlock, PassFits, StripMoves}
 use Rattle.collect_finish.proofs.WorkPlaces.{shape-in-work}
@@ -25,12 +26,12 @@ use Rattle.collect_finish.proofs.BlockPasses.{PixelsLoaded, holds-start
 use Rattle.collect_finish.proofs.AloneBlock.{collectFilters, Alone, alone-turn}
 use Rattle.collect_finish.proofs.AloneEdges.{alone-edge}
 
--- After t passes over X: the strips of these passes are written, and the work array holds the block filtered alone.
+-- After t passes over X: the lone strips of these passes are written, and the work array holds the block filtered alone.
 pub record Collecting (plan : Plan) (k : ℕ) (X : ℕ → ℕ → ℕ) (first strips : List ℕ) (t : ℕ) (work : List ℕ) : Type 0 where
   pub counted : t ≤ 4
   pub length-kept : length strips ≡ length first
   pub alone : Alone plan k (partOf (plan .grid) k X) t work
-  pub written : strips ≡ slotWritten plan k (aloneWord plan X k) t first
+  pub written : strips ≡ halfWritten plan Lone k (aloneWord plan X k) t first
 
 module _ {plan : Plan} {k : ℕ} {shape : BlockShape} (placed : ShapedBlock plan k shape) where
   pub collect-start : (heights : List ℤ) {strips work : List ℕ}
@@ -45,7 +46,7 @@ module _ {plan : Plan} {k : ℕ} {shape : BlockShape} (placed : ShapedBlock plan
               block = holds-start placed heights loads (collectFilters plan) (λ u l i. 0);
               clear = clear-start placed heights loads;
             };
-        written = sym (slot-none plan k _ _);
+        written = sym (half-none plan Lone k _ _);
       }
 
   -- What a turn's calls ask.
@@ -72,16 +73,16 @@ module _ {plan : Plan} {k : ℕ} {shape : BlockShape} (placed : ShapedBlock plan
           }
 
       pub collect-turn : {gain : ℕ} {left : List ℕ} → gain ≡ gainsFrom (filtersOf plan) 0 (t + 1)
-          → left ≡ stripWritten plan k t (workEdge plan k t gain after) strips → Collecting plan k X first left (t + 1) after
+          → left ≡ stripWritten plan Lone k t (workEdge plan k t gain after) strips → Collecting plan k X first left (t + 1) after
       collect-turn {gain} {left} gains stripped =
-          let all : left ≡ slotWritten plan k (aloneWord plan X k) (t + 1) first =
+          let all : left ≡ halfWritten plan Lone k (aloneWord plan X k) (t + 1) first =
           stripped
-          ∙ strip-same-words plan k t _ _ strips (alone-edge (placed .block) t below X after filtered-alone gain gains)
-          ∙ ap (stripWritten plan k t (aloneWord plan X k t)) (inv .written)
-          ∙ slot-next plan k (aloneWord plan X k) t first in
+          ∙ strip-same-words plan Lone k t _ _ strips (alone-edge (placed .block) t below X after filtered-alone gain gains)
+          ∙ ap (stripWritten plan Lone k t (aloneWord plan X k t)) (inv .written)
+          ∙ half-next plan Lone k (aloneWord plan X k) t first in
           record {
             counted = omega arith;
-            length-kept = ap length all ∙ slot-length plan k (aloneWord plan X k) (t + 1) first;
+            length-kept = ap length all ∙ half-length plan Lone k (aloneWord plan X k) (t + 1) first;
             alone = filtered-alone;
             written = all;
           }

@@ -1,4 +1,4 @@
--- The strip of the neighbour that a pass comes from, as a rectangle: it lies in the list of strips, and its lines and
+-- The linked strip of the neighbour that a pass comes from, as a rectangle: it lies in the list of strips, and its lines and
 -- places are no more than the margin's. Assumes nothing.
 use mathlib.Core.Path.{_≡_, refl}
 use mathlib.Core.Option.{Option, none, some}
@@ -10,6 +10,7 @@ use Rattle.plan.specs.Sizes.{neededMarks, neededStrips, orderOf}
 use Rattle.plan.proofs.Record.{rules}
 use Rattle.axis.specs.Axis.{Axis, columns, rows, Direction, forward, backward, axisOf, directionOf, along, across}
 use Rattle.grid.specs.Grid.{neighbour, extentAlong, linesAcross}
+use Rattle.task_words.specs.declared.Half.the-variants.{Linked}
 use Rattle.task_words.specs.Strips.{stripStart}
 use Rattle.grid.proofs.Neighbours.{neighbour-below, neighbour-lines}
 use Rattle.grid.proofs.Blocks.{lines-in-side}
@@ -117,7 +118,7 @@ before-lies {plan} {k} block pass {n} below long =
         let d = directionOf pass in
         let order = orderOf plan pass in
         rw (← f j refl .1)
-        (lies n order (plan .grid .side) (stripStart plan j pass) _ _ _
-        (omega (arith, strip-in-list plan j pass (f j refl .0) below)) (rules plan (block .kept) .side-low)
+        (lies n order (plan .grid .side) (stripStart plan Linked j pass) _ _ _
+        (omega (arith, strip-in-list plan Linked j pass (f j refl .0) below)) (rules plan (block .kept) .side-low)
         (lines-in-side (plan .grid) j (axisOf pass)) (first-before-past d order extent) (past-in-order d order extent)
         (axisOf pass))

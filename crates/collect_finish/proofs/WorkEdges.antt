@@ -14,6 +14,7 @@ use Rattle.plan.proofs.Record.{rules}
 use Rattle.axis.specs.Axis.{Axis, columns, rows, Direction, forward, backward, axisOf, directionOf, along, across}
 use Rattle.grid.specs.Grid.{goesOn}
 use Rattle.grid.specs.declared.BlockShape.{BlockShape}
+use Rattle.task_words.specs.declared.Half.the-variants.{Lone}
 use Rattle.task_words.specs.Strips.{stripWords, stripStart, stripWrittenTo, stripWritten}
 use Rattle.task_words.proofs.Strips.{strip-in-list}
 use Rattle.strips.specs.StripRecord.{edgeStart}
@@ -63,15 +64,15 @@ module _ {plan : Plan} {k pass : ℕ} {shape : BlockShape} {n m : ℕ} (moves : 
   edge-cell gain work needed y x =
       rw (needed, ← moves .placed .shaped) (ap (λ z. gain ⊗ wordAt work z) (line-place a edge y x))
 
-  module _ {start : ℕ} (starts : start ≡ stripStart plan k pass) where
+  module _ {start : ℕ} (starts : start ≡ stripStart plan Lone k pass) where
     pub words-in-strips : start + stripWords plan pass ≤ n
     words-in-strips =
-        omega (arith, strip-in-list plan k pass (moves .placed .block .counted) (moves .pass-below), moves .strips-long)
+        omega (arith, strip-in-list plan Lone k pass (moves .placed .block .counted) (moves .pass-below), moves .strips-long)
 
     -- A strip that no neighbour needs,
     pub cleared-strip : (gain : ℕ) (work strips : List ℕ) {after : List ℕ} → goesOn (plan .grid) k pass ≡ false
         → after ≡ cleared start 1 (stripWords plan pass) strips
-        → after ≡ stripWritten plan k pass (workEdge plan k pass gain work) strips
+        → after ≡ stripWritten plan Lone k pass (workEdge plan k pass gain work) strips
     unfolding cleared stripWrittenTo rowWritten workEdge
     cleared-strip gain work strips unneeded e =
         e ∙ written-same _ _ _ _ (stripWords plan pass) strips (λ q h. omega (arith, starts)) (λ q h. rw unneeded)
@@ -97,12 +98,12 @@ module _ {plan : Plan} {k pass : ℕ} {shape : BlockShape} {n m : ℕ} (moves : 
 
       pub copied-strip : (gain : ℕ) (work strips : List ℕ) {after : List ℕ} → goesOn (plan .grid) k pass ≡ true
           → after ≡ strideWritten start width width (strideScaled gain work place workStride) height strips
-          → after ≡ stripWritten plan k pass (workEdge plan k pass gain work) strips
+          → after ≡ stripWritten plan Lone k pass (workEdge plan k pass gain work) strips
       unfolding stripWrittenTo rowWritten
       copied-strip gain work strips needed copied =
           let w = across a r side in
           (rw (at, indexed, tall, wide) at copied)
-          ∙ rectangle-same (stridePlace start w) _ w (along a r side) (λ q. stripStart plan k pass + q) _ strips
+          ∙ rectangle-same (stridePlace start w) _ w (along a r side) (λ q. stripStart plan Lone k pass + q) _ strips
           (λ q c. let e = div-add-mod' q w in rw (← starts) (omega arith))
           (λ q c. edge-cell gain work needed (q / w) (q % w))
-          ∙ ap (λ z. stripWrittenTo plan k pass (workEdge plan k pass gain work) z strips) (strip-count a side r)
+          ∙ ap (λ z. stripWrittenTo plan Lone k pass (workEdge plan k pass gain work) z strips) (strip-count a side r)

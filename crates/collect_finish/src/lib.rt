@@ -4,11 +4,13 @@ use filter::FilterWords;
 use filter::Window;
 use grid::BlockShape;
 use plan::Plan;
+use task_words::Half;
 ghost use mathlib.Core.Path.{_≡_};
 ghost use Prim.Native.Nat.{_+_, _<_, _≤_};
 ghost use lib.ListN.{length};
 ghost use Rattle.axis.specs.Axis.{axisOf, directionOf};
 ghost use Rattle.filter.specs.FilterWords.{filterWith};
+ghost use Rattle.task_words.specs.declared.Half.the-variants.{Lone};
 ghost use Rattle.task_words.specs.Strips.{stripWritten};
 ghost use Rattle.filter.specs.PlanFilters.{mapOf};
 ghost use Rattle.task_words.specs.Writes.{collected, finished};
@@ -36,7 +38,7 @@ struct Rows {
     stride: usize,
 }
 
-// Block k's four strips: the passes over its pixels, zeros around it. The passes run with gain 1; a strip takes the
+// Block k's four lone strips: the passes over its pixels, zeros around it. The passes run with gain 1; a strip takes the
 // gains of its pass and of those before it.
 pub fn collect(plan: Plan, k: usize, map: &[i32], strips: &mut [u64])
     requires { ⌜ CollectFits plan k (length (now map)) (length (now strips)) ⌝ }
@@ -317,7 +319,7 @@ fn margin_start(pass: usize, order: usize, extent: usize) -> usize
     }
 }
 
-// The words past the block's edge, from the strip of the neighbour there, times a gain. Where no word of the neighbour
+// The words past the block's edge, from the linked strip of the neighbour there, times a gain. Where no word of the neighbour
 // stands, the margin is 0 from the start.
 fn load_margin(
     plan: Plan,
@@ -349,7 +351,7 @@ fn load_margin(
     copy_rectangle(strips, source, work, target, height, width, gain);
 }
 
-// Block k's strip of a pass from the work array, times a gain, zeros around the block; 0 where no neighbour needs the
+// Block k's lone strip of a pass from the work array, times a gain, zeros around the block; 0 where no neighbour needs the
 // strip.
 fn write_strip(
     plan: Plan,
@@ -361,14 +363,14 @@ fn write_strip(
     strips: &mut [u64],
 )
     requires { ⌜ StripMoves plan k pass shape (length (now strips)) (length (now work)) ⌝ }
-    ensures { λ _. ⌜ now (strips .exit) ≡ stripWritten plan k pass (workEdge plan k pass gain (now (work .entry))) (now (strips .entry)) ⌝ }
+    ensures { λ _. ⌜ now (strips .exit) ≡ stripWritten plan Lone k pass (workEdge plan k pass gain (now (work .entry))) (now (strips .entry)) ⌝ }
 {
     let grid = plan.grid;
     let needed = grid.goes_on(grid.position(k), pass);
     let side = grid.side;
     let described = plan.passes[pass];
     let order = described.order;
-    let start = strips::strip_start(plan, k, pass);
+    let start = strips::strip_start(plan, Half::Lone, k, pass);
     if !needed {
         buffer::clear_words(strips, start, 1, side * order);
         return;
