@@ -15,7 +15,7 @@ use Rattle.word.proofs.Ring.{zero-add, mul-zero}
 use Rattle.word.specs.Word.{_⊕_, _⊗_}
 use Rattle.plan.proofs.Record.{order-limited-at}
 use Rattle.number.proofs.Tests.{and-left, and-right}
-use Rattle.plan.specs.Sizes.{neededStrips, orderOf}
+use Rattle.plan.specs.Sizes.{neededStrips, halfWords, orderOf}
 use Rattle.plan.specs.declared.Plan.{Plan}
 use Rattle.buffer.specs.Lists.{wordAt}
 use Rattle.buffer.proofs.Written.{written-none, written-other}
@@ -29,6 +29,7 @@ use Rattle.filter.specs.declared.FilterWords.{FilterWords}
 use Rattle.task_words.proofs.Strips.{in-strip, cell-of}
 use Rattle.task_words.proofs.Tasks.{linked-length, linked-holds}
 use Rattle.grid.specs.Grid.{rowsOf, columnsOf}
+use Rattle.task_words.specs.declared.Half.the-variants.{Lone, Linked}
 use Rattle.task_words.specs.Strips.{stripStart, stripWords, placeInStrip, stripPlace, placeInside, indexOfPlace, insideBlock, edgeWord, stripWord, pastEdges, stripWrittenTo}
 use Rattle.task_words.specs.Writes.{blockPasses, linkWord, linked}
 use Rattle.strips.proofs.StripRecords.{inside-test, address-is}
@@ -43,7 +44,7 @@ use Rattle.link.specs.Carrying.{responseOf}
 use Rattle.link.specs.Writing.{linkedWord, StripLaid, PlacesWritten}
 use Rattle.link.specs.declared.Course.{Course}
 use Rattle.link.proofs.Courses.{filter-is, course-fits}
-use Rattle.link.proofs.OwnStrip.{places, lines, strip-laid}
+use Rattle.link.proofs.OwnStrip.{places, lines, linked-address, strip-laid}
 use Rattle.filter.specs.FilterWords.{gainsAfter}
 use Rattle.task_words.specs.ScaledEdges.{scaledEdges}
 use Rattle.strips.proofs.Edges.{edge-index}
@@ -109,44 +110,44 @@ module _ (plan : Plan) (k pass : ℕ) {n : ℕ} (at : LinkAt plan k pass n) (str
       ∙ sym (held .at line place h (record { below = b; low = omega arith; high = omega arith }))
 
   linked-word : (line place : ℕ) → place < orderOf plan pass
-      → linkedWord (stripOf plan k pass) responses (wordAt strips (stripPlace plan k pass line place)) line place
-      ≡ linkWord plan strips k pass line place
+      → linkedWord (stripOf plan Lone k pass) strips responses line place ≡ linkWord plan strips k pass line place
   unfolding linkedWord linkWord stripWord edgeWord insideBlock stripOf stripWith
   linked-word line place h =
       let same = inside-test (directionOf pass) (orderOf plan pass) (places plan k pass) place h in
       let in-line = ltb line (lines plan k pass) in
-      sum-inside _ _ (ap (in-line &&_) same) refl
+      sum-inside _ _ (ap (in-line &&_) same) (ap (wordAt strips) (address-is plan Lone k pass line place))
       (λ t.
       sym
       (response-word line place (ltb-true line (lines plan k pass) (and-left in-line _ t)) h (sym same ∙ and-right in-line _ t)))
 
   module _ (long : neededStrips plan ≤ length strips) {after : List ℕ}
-      (done : PlacesWritten (stripOf plan k pass) (plan .grid .side) (orderOf plan pass)
-      (linkedWord (stripOf plan k pass) responses) strips after) where
+      (done : PlacesWritten (stripOf plan Lone k pass) (halfWords plan) (plan .grid .side) (orderOf plan pass)
+      (linkedWord (stripOf plan Lone k pass) strips responses) strips after) where
     at-place : (line place : ℕ) → line < plan .grid .side → place < orderOf plan pass
-        → wordAt after (stripPlace plan k pass line place)
-        ≡ wordAt (linked plan k pass strips) (stripPlace plan k pass line place)
+        → wordAt after (stripPlace plan Linked k pass line place)
+        ≡ wordAt (linked plan k pass strips) (stripPlace plan Linked k pass line place)
     at-place line place h b =
-        (rw (address-is plan k pass line place) at (done .here line place h b))
+        (rw (linked-address plan k pass line place) at (done .here line place h b))
         ∙ linked-word line place b
         ∙ sym (linked-holds plan k pass (at .strip-at .pass-below) strips (at .strip-at .counted) long line place h b)
 
     inside : (q : ℕ) → q < stripWords plan pass
-        → wordAt after (stripStart plan k pass + q) ≡ wordAt (linked plan k pass strips) (stripStart plan k pass + q)
+        → wordAt after (stripStart plan Linked k pass + q)
+        ≡ wordAt (linked plan k pass strips) (stripStart plan Linked k pass + q)
     unfolding stripPlace
     inside q h =
         let c = cell-of (plan .grid .side) (orderOf plan pass) (axisOf pass) q h in
         rw (c .stands) at (at-place (c .line) (c .place) (c .in-lines) (c .in-places))
 
-    outside : (z : ℕ) → ((q : ℕ) → q < stripWords plan pass → z ≢ stripStart plan k pass + q)
+    outside : (z : ℕ) → ((q : ℕ) → q < stripWords plan pass → z ≢ stripStart plan Linked k pass + q)
         → wordAt after z ≡ wordAt (linked plan k pass strips) z
     unfolding linked stripWrittenTo rowWritten stripPlace
     outside z out =
         done .rest z
         (λ line place h b e.
         out (placeInStrip (axisOf pass) (plan .grid .side) (orderOf plan pass) line place)
-        (in-strip (plan .grid .side) (orderOf plan pass) (axisOf pass) line place h b) (e ∙ address-is plan k pass line place))
-        ∙ sym (written-other (λ q. stripStart plan k pass + q) _ (stripWords plan pass) strips z out)
+        (in-strip (plan .grid .side) (orderOf plan pass) (axisOf pass) line place h b) (e ∙ linked-address plan k pass line place))
+        ∙ sym (written-other (λ q. stripStart plan Linked k pass + q) _ (stripWords plan pass) strips z out)
 
     -- The strips with all places of the strip written are those of the link.
     strip-linked : after ≡ linked plan k pass strips
@@ -154,13 +155,13 @@ module _ (plan : Plan) (k pass : ℕ) {n : ℕ} (at : LinkAt plan k pass n) (str
         ext-getD 0 after (linked plan k pass strips)
         (done .length-kept ∙ sym (linked-length plan k pass (at .strip-at .pass-below) strips))
         (λ z h.
-        elim (decLt z (stripStart plan k pass)) [
+        elim (decLt z (stripStart plan Linked k pass)) [
           | yes l ↦ outside z (λ q c e. omega arith)
           | no l ↦
-              elim (decLt z (stripStart plan k pass + stripWords plan pass)) [
+              elim (decLt z (stripStart plan Linked k pass + stripWords plan pass)) [
                 | yes b ↦
-                    let there : stripStart plan k pass + (z - stripStart plan k pass) ≡ z = omega arith in
-                    rw there at (inside (z - stripStart plan k pass) (omega arith))
+                    let there : stripStart plan Linked k pass + (z - stripStart plan Linked k pass) ≡ z = omega arith in
+                    rw there at (inside (z - stripStart plan Linked k pass) (omega arith))
                 | no b ↦ outside z (λ q c e. omega arith)
               ]
         ])
@@ -194,18 +195,18 @@ module _ (plan : Plan) (k pass : ℕ) {n : ℕ} (at : LinkAt plan k pass n) {cou
         strips-long = at .strips-long;
       }
 
-  pub link-laid : (course .order ≡ 0 → ⊥) → {strip : Strip} → strip ≡ stripOf plan k pass → {r : ℕ} → r ≡ responseWords
-      → StripLaid n strip (course .order) (plan .grid .side) r
-  link-laid some strip-is long =
-      rw (strip-is, order-of-course) (strip-laid plan k pass at (omega (arith, order-of-course)) long)
+  pub link-laid : (course .order ≡ 0 → ⊥) → {lone : Strip} → lone ≡ stripOf plan Lone k pass → {shift : ℕ} → shift ≡ halfWords plan
+      → {r : ℕ} → r ≡ responseWords → StripLaid n lone shift (course .order) (plan .grid .side) r
+  link-laid some lone-is shift-is long =
+      rw (lone-is, shift-is, order-of-course) (strip-laid plan k pass at (omega (arith, order-of-course)) long)
 
   -- What `link` writes.
   pub link-is : {filters : List FilterWords} → filters ≡ unitGainFilters plan → (strips responses : List ℕ) → length strips ≡ n
       → Held course (responseOf (filterAt filters) course (scaledEdges plan strips k (course .pass))) responses
-      → {strip : Strip} → strip ≡ stripOf plan k pass → {after : List ℕ}
-      → PlacesWritten strip (plan .grid .side) (course .order) (linkedWord strip responses) strips after
+      → {lone : Strip} → lone ≡ stripOf plan Lone k pass → {shift : ℕ} → shift ≡ halfWords plan → {after : List ℕ}
+      → PlacesWritten lone shift (plan .grid .side) (course .order) (linkedWord lone strips responses) strips after
       → after ≡ linked plan k pass strips
   unfolding courseOf
-  link-is {filters} filters-are strips responses long held strip-is done =
+  link-is {filters} filters-are strips responses long held lone-is shift-is done =
       strip-linked plan k pass at strips responses filters filters-are (rw course-is at held) (rw long (at .strips-long))
-      (rw (strip-is, order-of-course) at done)
+      (rw (lone-is, shift-is, order-of-course) at done)

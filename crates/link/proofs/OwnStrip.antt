@@ -1,26 +1,27 @@
--- Where the words of a link's own strip stand, and which of them lie in the block. Assumes nothing.
+-- Where the words of a link's own lone strip stand, and those of its linked strip. Assumes nothing.
 use mathlib.Core.Path.{_≡_, ap, sym, _∙_}
-use Prim.Native.Nat.{ℕ, _-_, _<_}
+use Prim.Native.Nat.{ℕ, _+_, _<_}
 use native.Mathlib.Omega.{arith}
 use Rattle.plan.proofs.Record.{rules, order-limited-at}
-use Rattle.plan.specs.Sizes.{orderOf}
+use Rattle.plan.specs.Sizes.{orderOf, halfWords}
 use Rattle.plan.specs.declared.Plan.{Plan}
 use Rattle.axis.specs.Axis.{Axis, columns, rows, axisOf, along}
-use Rattle.task_words.proofs.Strips.{word-laid, strip-place-below}
+use Rattle.task_words.proofs.Strips.{in-strip, word-laid, strip-in-half, strip-place-below}
 use Rattle.grid.specs.Grid.{extentAlong, linesAcross}
+use Rattle.task_words.specs.declared.Half.the-variants.{Lone, Linked}
 use Rattle.task_words.specs.Strips.{stripPlace, laidInRows}
 use Rattle.strips.proofs.StripRecords.{address-is}
-use Rattle.strips.specs.StripRecord.{stripWith, stripOf}
+use Rattle.strips.specs.StripRecord.{stripWith, stripOf, addressIn}
 use Rattle.strips.specs.declared.Strip.{Strip}
 use Rattle.link.specs.Courses.{LinkAt}
 use Rattle.link.specs.Crossing.{responseWords}
-use Rattle.link.specs.Writing.{StripLaid}
+use Rattle.link.specs.Writing.{linkedAddress, StripLaid}
 
 -- ---- block k's strip
 
 module _ (plan : Plan) (k pass : ℕ) where
-  abbrev strip : Strip
-  strip = stripOf plan k pass
+  abbrev lone : Strip
+  lone = stripOf plan Lone k pass
 
   abbrev side : ℕ
   side = plan .grid .side
@@ -35,7 +36,13 @@ module _ (plan : Plan) (k pass : ℕ) where
   abbrev pub lines : ℕ
   lines = linesAcross (plan .grid) k pass
 
-  some-step : 0 < order → 0 < strip .«line_step»
+  -- The linked strip lies half a slot after the lone one.
+  pub linked-address : (line place : ℕ)
+      → linkedAddress lone (halfWords plan) line place ≡ stripPlace plan Linked k pass line place
+  unfolding stripPlace
+  linked-address line place = ap (_+ halfWords plan) (address-is plan Lone k pass line place) ∙ omega arith
+
+  some-step : 0 < order → 0 < lone .«line_step»
   unfolding stripOf stripWith
   some-step some = by (axisOf pass)
     where
@@ -43,7 +50,16 @@ module _ (plan : Plan) (k pass : ℕ) where
       by columns = omega arith
       by rows = some
 
-  pub strip-laid : {n r : ℕ} → LinkAt plan k pass n → 0 < order → r ≡ responseWords → StripLaid n strip order side r
+  -- The lone strip ends before the linked one begins.
+  lone-before : pass < 4 → (line place : ℕ) → line < side → place < order
+      → addressIn lone line place < lone .start + halfWords plan
+  unfolding stripPlace stripOf stripWith
+  lone-before below line place h b =
+      rw (address-is plan Lone k pass line place)
+      (omega (arith, in-strip side order (axisOf pass) line place h b, strip-in-half plan pass below))
+
+  pub strip-laid : {n r : ℕ} → LinkAt plan k pass n → 0 < order → r ≡ responseWords
+      → StripLaid n lone (halfWords plan) order side r
   unfolding stripPlace
   strip-laid at some long =
       let asked = at .strip-at in
@@ -54,15 +70,16 @@ module _ (plan : Plan) (k pass : ℕ) where
         few-lines = known .side-high;
         few-places = order-limited-at plan (asked .kept) pass (asked .pass-below);
         responses-long = long;
+        lone-before = lone-before (asked .pass-below);
         inside = λ line place h b.
-            rw (address-is plan k pass line place)
+            rw (linked-address line place)
             (omega (
               arith,
-              strip-place-below plan k pass line place (asked .counted) (asked .pass-below) h b,
+              strip-place-below plan Linked k pass line place (asked .counted) (asked .pass-below) h b,
               at .strips-long,
             ));
         apart = λ line place l p h b c d e.
-            let q = sym (address-is plan k pass line place) ∙ e ∙ address-is plan k pass l p in
+            let q = sym (address-is plan Lone k pass line place) ∙ e ∙ address-is plan Lone k pass l p in
             let place-there : ℕ → ℕ → ℕ = λ line place. place in
             sym (word-laid side order (axisOf pass) place-there line place h b)
             ∙ ap (laidInRows (axisOf pass) side order place-there) (omega arith)

@@ -1,6 +1,6 @@
-// The four links: a strip made true by the strips of its needs. No heights are read, and no block is swept: the passes run
-// along the unit histories of each pass, along the few lines past the block's edges, and over their ends. They run with gain
-// 1; the words past an edge take the gains of the passes after their own, up to the link's.
+// The four links: of a lone strip and the strips of its needs, the linked strip. No heights are read, and no block is swept:
+// the passes run along the unit histories of each pass, along the few lines past the block's edges, and over their ends. They
+// run with gain 1; the words past an edge take the gains of the passes after their own, up to the link's.
 // An inner crate: what its functions require, their callers in this repository show.
 mod carrying;
 mod crossing;
@@ -9,13 +9,14 @@ mod writing;
 
 use filter::FilterWords;
 use plan::Plan;
+use task_words::Half;
 ghost use mathlib.Core.Path.{_≡_};
 ghost use lib.ListN.{length};
 ghost use Rattle.task_words.specs.Writes.{linked};
 ghost use Rattle.strips.specs.StripRecord.{StripAt, EdgeFits};
 ghost use Rattle.link.specs.Courses.{unitGainFilters, courseAlong, courseOf, LinkAt};
 
-// The link of a pass of block k: its strip is that of the whole map where the strips of its needs are.
+// The link of a pass of block k: its linked strip is that of the whole map where the strips of its needs are.
 pub fn link(plan: Plan, k: usize, pass: usize, strips: &mut [u64])
     requires { ⌜ LinkAt plan k pass (length (now strips)) ⌝ }
     ensures { λ _. ⌜ now (strips .exit) ≡ linked plan k pass (now (strips .entry)) ⌝ }
@@ -30,8 +31,10 @@ pub fn link(plan: Plan, k: usize, pass: usize, strips: &mut [u64])
     let mut responses = [0; crossing::RESPONSES];
     crossing::cross(&mut responses, &lines, course, filters);
     carrying::carry(&mut responses, &lines, strips, plan, k, course, filters);
-    let strip = strips::strip_of(plan, k, pass);
-    writing::write_strip(strips, strip, course.order, plan.grid.side, &responses);
+    let lone = strips::strip_of(plan, Half::Lone, k, pass);
+    let shift = plan.half_words();
+    let side = plan.grid.side;
+    writing::write_strip(strips, lone, shift, course.order, side, &responses);
 }
 
 // The passes along the axis of a link, `passes` of them from `first` on; the lines that they run along and the places of each;

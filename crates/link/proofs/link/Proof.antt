@@ -30,8 +30,14 @@ crossed-at c = c .before .before .before .before
 abbrev carried-at : tie.After-strip-of → tie.After-carry
 carried-at c = c .before .before
 
-abbrev strip-at : tie.After-responses5 → tie.After-strip-of
-strip-at c = c .before .before
+abbrev begun-at : tie.After-strip-of → tie.After-unit-gain-filters
+begun-at c = filters-at (lines-at (crossed-at (carried-at c .before)))
+
+abbrev lone-at : tie.After-half-words → tie.After-strip-of
+lone-at c = c .before
+
+abbrev sized-at : tie.After-responses5 → tie.After-half-words
+sized-at c = c .before .before
 
 -- What the steps of a link want.
 fits : (c : tie.After-unit-gain-filters)
@@ -96,18 +102,22 @@ carry-requires c κs =
 strip-of-requires : tie.Need-strip-of-requires
 strip-of-requires c κs = search needs
 
+half-words-requires : tie.Need-half-words-requires
+half-words-requires c κs = fits (begun-at c) .kept
+
 slice-aggregate-write-strip : tie.Need-slice-aggregate-write-strip
 slice-aggregate-write-strip c = search needs
 
 write-strip-requires : tie.Need-write-strip-requires
 write-strip-requires c κs =
-    let s = strip-at c in
+    let h = sized-at c in
+    let s = lone-at h in
     let y = carried-at s in
-    let f = filters-at (lines-at (crossed-at (y .before))) in
+    let f = begun-at s in
     let d = course-at f in
     let a = start d in
     link-laid (a .args .plan) (a .args .k) (a .args .pass) (a .pre) (d .course-of .ensures) (f .before .if1 .left)
-    (s .strip-of .ensures) (y .carry .ensures .length-is)
+    (s .strip-of .ensures) (h .half-words .ensures) (y .carry .ensures .length-is)
 
 same-length : tie.Need-same-length
 same-length c = search needs
@@ -115,13 +125,15 @@ same-length c = search needs
 returns-2 : tie.Need-returns-2
 returns-2 c =
     let w = c .before .before in
-    let s = strip-at (w .before) in
+    let h = sized-at (w .before) in
+    let s = lone-at h in
     let y = carried-at s in
-    let f = filters-at (lines-at (crossed-at (y .before))) in
+    let f = begun-at s in
     let d = course-at f in
     let a = start d in
     link-is (a .args .plan) (a .args .k) (a .args .pass) (a .pre) (d .course-of .ensures) (f .unit-gain-filters .ensures)
-    (a .args .strips .now) _ refl (y .carry .ensures) (s .strip-of .ensures) (w .write-strip .ensures)
+    (a .args .strips .now) _ refl (y .carry .ensures) (s .strip-of .ensures) (h .half-words .ensures)
+    (w .write-strip .ensures)
 
 pub link-spec : {M : Type 1} → statement M
 link-spec =
@@ -139,6 +151,7 @@ link-spec =
     slice-aggregate-carry-2
     carry-requires
     strip-of-requires
+    half-words-requires
     slice-aggregate-write-strip
     write-strip-requires
     same-length

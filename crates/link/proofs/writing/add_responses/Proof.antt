@@ -11,11 +11,11 @@ use Rattle.link.proofs.writing.add_responses.Statement.{statement}
 use Rattle.link.proofs.writing.add_responses.Tie as tie
 
 abbrev Inv-loop : tie.InvT-loop
-Inv-loop strips₀ at step lines responses place line₀ strips line =
-    Turned line lines strips₀ strips (responsesAdded at step responses place line strips₀)
+Inv-loop strips₀ from to step lines responses place line₀ strips line =
+    Turned line lines strips₀ strips (responsesAdded from to step responses place line strips₀)
 
 abbrev μ-loop : tie.MeasureT-loop
-μ-loop strips₀ at step lines responses place line₀ strips line = lines - line
+μ-loop strips₀ from to step lines responses place line₀ strips line = lines - line
 
 -- The stations, each from a later one.
 abbrev start : tie.At-loop Inv-loop μ-loop → tie.Start Inv-loop μ-loop
@@ -27,20 +27,21 @@ placed c = c .before .before
 abbrev turn : tie.After-slice-known2 Inv-loop μ-loop → tie.In-loop Inv-loop μ-loop
 turn c = placed c .before
 
--- The word of this turn is in the strips.
+-- The word that this turn reads lies before those that are written, and its sum is in the strips.
 here : (c : tie.In-loop Inv-loop μ-loop)
     → let a = start (c .before) .args in
-    a .at + c .before .loop .line * a .step < length (a .strips .now)
-here c = start (c .before) .pre .word-per-line .words-fit .inside (c .before .loop .line) (omega arith)
+    let line = c .before .loop .line in
+    (a .from + line * a .step < a .to) × (a .to + line * a .step < length (a .strips .now))
+here c =
+    let pre = start (c .before) .pre in
+    let line = c .before .loop .line in
+    (pre .read-before line (omega arith), pre .word-per-line .words-fit .inside line (omega arith))
 
 loop-holds : tie.Need-loop-holds Inv-loop μ-loop
-loop-holds c = record { counted = omega arith; length-kept = refl; as-made = responses-none _ _ _ _ _ }
+loop-holds c = record { counted = omega arith; length-kept = refl; as-made = responses-none _ _ _ _ _ _ }
 
-mul-to : tie.Need-mul-to Inv-loop μ-loop
-mul-to c = let h = here c in search needs
-
-add-to : tie.Need-add-to Inv-loop μ-loop
-add-to c = let h = here c in search needs
+mul-before : tie.Need-mul-before Inv-loop μ-loop
+mul-before c = let h = here c in search needs
 
 response-place-requires : tie.Need-response-place-requires Inv-loop μ-loop
 response-place-requires c κs = search needs
@@ -51,6 +52,9 @@ mul-response c = search needs
 shared-slice-read-response : tie.Need-shared-slice-read-response Inv-loop μ-loop
 shared-slice-read-response c = search needs
 
+add-add : tie.Need-add-add Inv-loop μ-loop
+add-add c = let h = here (c .before .before) in search needs
+
 mul-add : tie.Need-mul-add Inv-loop μ-loop
 mul-add c = let h = here (c .before .before) in search needs
 
@@ -59,6 +63,9 @@ slice-read-add c = let h = here (turn c) in search needs
 
 add-requires : tie.Need-add-requires Inv-loop μ-loop
 add-requires c κs = search needs
+
+add-strips : tie.Need-add-strips Inv-loop μ-loop
+add-strips c = let h = here (turn (c .before)) in search needs
 
 mul-strips : tie.Need-mul-strips Inv-loop μ-loop
 mul-strips c = let h = here (turn (c .before)) in search needs
@@ -81,8 +88,9 @@ loop-again c =
       counted = omega arith;
       length-kept = length-set (l .loop .strips) _ _ ∙ l .loop .inv .length-kept;
       as-made =
-          responses-next (a .args .at) (a .args .step) (a .args .responses .now) (a .args .place) (l .loop .line)
-          (a .args .strips .now) (a .pre .some-step) (l .loop .inv .as-made) (p .response-place .ensures) (c .add .ensures);
+          responses-next (a .args .from) (a .args .to) (a .args .step) (a .args .responses .now) (a .args .place)
+          (a .args .strips .now) (l .loop .line) (here (turn (c .before)) .0) (l .loop .inv .as-made)
+          (p .response-place .ensures) (c .add .ensures);
     }
 
 same-length : tie.Need-same-length Inv-loop μ-loop
@@ -101,14 +109,15 @@ add-responses-spec =
     Inv-loop
     μ-loop
     loop-holds
-    mul-to
-    add-to
+    mul-before
     response-place-requires
     mul-response
     shared-slice-read-response
+    add-add
     mul-add
     slice-read-add
     add-requires
+    add-strips
     mul-strips
     slice-write-strips
     add-line

@@ -1,10 +1,10 @@
--- `write_place` adds the responses of the lines in the block, and clears the others.
+-- `write_place` puts the lone words of the lines in the block, with their responses, and clears the others.
 use Prim.Native.Nat.{ℕ, _+_, _*_, _<_, _≤_}
 use native.Mathlib.Omega.{arith}
 use borrow.Author.Needs.{needs}
 use lib.ListN.{length}
 use Rattle.link.proofs.lines.EdgeReads.{lines-few}
-use Rattle.link.proofs.writing.Places.{word-inside, place-written, place-full}
+use Rattle.link.proofs.writing.Places.{word-inside, word-before, place-written, place-full}
 use Rattle.link.proofs.writing.write_place.Statement.{statement}
 use Rattle.link.proofs.writing.write_place.Tie as tie
 
@@ -24,25 +24,29 @@ added c = c .before .before
 abbrev tested : tie.After-struct-known → tie.Then1
 tested c = c .before .before
 
--- The word of a line is in the strips.
+-- The linked word of a line is in the strips.
 there : (c : tie.After-lines-inside) (line : ℕ) → line < begun c .args .side
-    → c .before .first-at .result + line * begun c .args .strip .«line_step» < length (begun c .args .strips .now)
+    → c .before .first-at .result + begun c .args .shift + line * begun c .args .lone .«line_step»
+    < length (begun c .args .strips .now)
 there c line h =
     let s = begun c in
     let a = s .args in
-    word-inside (a .strip) (a .side) (a .place) (a .responses .now) (a .strips .now) (s .pre) (c .before .first-at .ensures)
-    line h
+    word-inside (a .lone) (a .shift) (a .side) (a .place) (a .responses .now) (a .strips .now) (s .pre)
+    (c .before .first-at .ensures) line h
 
 -- The lines of the place are in the strip.
 few : (c : tie.After-lines-inside) → c .lines-inside .result ≤ begun c .args .side
 few c =
     let a = begun c .args in
-    omega (arith, c .lines-inside .ensures, lines-few (a .strip) (a .place) (a .side))
+    omega (arith, c .lines-inside .ensures, lines-few (a .lone) (a .place) (a .side))
 
 first-at-requires : tie.Need-first-at-requires
 first-at-requires c κs =
     let pre = c .before .before .pre in
     omega (arith, pre .inside 0 (c .before .before .args .place) (pre .some-lines) (omega arith))
+
+add-to : tie.Need-add-to
+add-to c = let pre = start c .pre in omega (arith, pre .inside 0 (start c .args .place) (pre .some-lines) (omega arith))
 
 lines-inside-requires : tie.Need-lines-inside-requires
 lines-inside-requires c κs = search needs
@@ -53,13 +57,15 @@ add-responses-requires c κs =
     let a = begun n in
     record {
       place-low = omega (arith, a .pre .few-places);
-      some-step = a .pre .some-step;
       word-per-line =
           record {
             few-lines = omega (arith, few n, a .pre .few-lines);
             responses-long = a .pre .responses-long;
             words-fit = record { inside = λ line h. there n line (omega (arith, few n)) };
           };
+      read-before = λ line h.
+          word-before (a .args .lone) (a .args .shift) (a .args .side) (a .args .place) (a .args .responses .now)
+          (a .args .strips .now) (a .pre) (n .before .first-at .ensures) line (omega (arith, few n));
     }
 
 mul-clear-words : tie.Need-mul-clear-words
@@ -97,8 +103,8 @@ returns c =
     let r = added (tested (w .before) .before) in
     let n = counted r in
     let a = begun n in
-    place-written (a .args .strip) (a .args .side) (a .args .place) (a .args .responses .now) (a .args .strips .now) (a .pre)
-    (n .before .first-at .ensures) (n .lines-inside .ensures) (r .add-responses .ensures) (w .clear-words .ensures)
+    place-written (a .args .lone) (a .args .shift) (a .args .side) (a .args .place) (a .args .responses .now)
+    (a .args .strips .now) (a .pre) (n .before .first-at .ensures) (n .lines-inside .ensures) (r .add-responses .ensures) (w .clear-words .ensures)
 
 same-length-2 : tie.Need-same-length-2
 same-length-2 c = search needs
@@ -108,14 +114,15 @@ returns-2 c =
     let r = added (c .before) in
     let n = counted r in
     let a = begun n in
-    place-full (a .args .strip) (a .args .side) (a .args .place) (a .args .responses .now) (a .args .strips .now) (a .pre)
-    (n .before .first-at .ensures) (n .lines-inside .ensures) (omega arith) (r .add-responses .ensures)
+    place-full (a .args .lone) (a .args .shift) (a .args .side) (a .args .place) (a .args .responses .now)
+    (a .args .strips .now) (a .pre) (n .before .first-at .ensures) (n .lines-inside .ensures) (omega arith) (r .add-responses .ensures)
 
 pub write-place-spec : {M : Type 1} → statement M
 write-place-spec =
     tie.close
     (tie.spec
     first-at-requires
+    add-to
     lines-inside-requires
     add-responses-requires
     mul-clear-words

@@ -10,11 +10,11 @@ use Rattle.link.proofs.writing.write_strip.Statement.{statement}
 use Rattle.link.proofs.writing.write_strip.Tie as tie
 
 abbrev Inv-loop : tie.InvT-loop
-Inv-loop strips₀ strip order side responses place₀ strips place =
-    (place ≤ order) × PlacesWritten strip side place (linkedWord strip responses) strips₀ strips
+Inv-loop strips₀ lone shift order side responses place₀ strips place =
+    (place ≤ order) × PlacesWritten lone shift side place (linkedWord lone strips₀ responses) strips₀ strips
 
 abbrev μ-loop : tie.MeasureT-loop
-μ-loop strips₀ strip order side responses place₀ strips place = order - place
+μ-loop strips₀ lone shift order side responses place₀ strips place = order - place
 
 -- The stations, each from a later one.
 abbrev start : tie.At-loop Inv-loop μ-loop → tie.Start Inv-loop μ-loop
@@ -26,11 +26,11 @@ turn c = c .before
 -- The place of this turn is laid.
 laid : (c : tie.In-loop Inv-loop μ-loop)
     → let a = start (c .before) .args in
-    StripLaid (length (c .before .loop .strips)) (a .strip) (c .before .loop .place + 1) (a .side) (length (a .responses .now))
+    StripLaid (length (c .before .loop .strips)) (a .lone) (a .shift) (c .before .loop .place + 1) (a .side) (length (a .responses .now))
 laid c = laid-fewer (start (c .before) .pre) (c .before .loop .place + 1) (omega arith) (c .before .loop .inv .1 .length-kept)
 
 loop-holds : tie.Need-loop-holds Inv-loop μ-loop
-loop-holds c = (omega arith, places-none _ _ _ _)
+loop-holds c = (omega arith, places-none _ _ _ _ _)
 
 write-place-requires : tie.Need-write-place-requires Inv-loop μ-loop
 write-place-requires c κs = laid (turn c)
@@ -48,7 +48,8 @@ loop-again c =
     let l = t .before in
     let a = start l .args in (
       omega arith,
-      places-next (a .strip) (a .side) (l .loop .place) _ (a .strips .now) (laid t) (l .loop .inv .1) (f .write-place .ensures),
+      places-next (a .lone) (a .shift) (a .side) (l .loop .place) (a .responses .now) (a .strips .now) (laid t) (l .loop .inv .1)
+          (f .write-place .ensures),
     )
 
 same-length : tie.Need-same-length Inv-loop μ-loop
