@@ -11,24 +11,15 @@ use Rattle.number.proofs.Tests.{and-left, and-right, and-both}
 use Rattle.plan.specs.declared.Plan.{Plan}
 use Rattle.tasks.specs.Tasks.{exists, BlockTask, needsOf, allDone, ready, nothingDone, alsoDone}
 use Rattle.tasks.proofs.Needs.{ready-exists, ready-needs}
-use Rattle.tasks.proofs.Progress.{also-kept, all-kept, Sound, sound-nothing, sound-also}
+use Rattle.tasks.proofs.NeedLists.{all-kept, all-and}
+use Rattle.tasks.proofs.Progress.{Sound, sound-also}
 use Rattle.recall.specs.Recall.{clears, doneWithout}
-use Rattle.job_spec.proofs.Temp.{spared-needs-spared}
+use Rattle.recall.proofs.Closure.{spared-needs-spared}
 use Rattle.job_spec.specs.Steps.{Step, perform, recall, isLong, accepts, doneWith, doneByStep, doneBySteps, doneNow, staysDone, wasMade, wasCleared, ClearedDoneAgain, acceptedCalls}
 use Rattle.job_spec.specs.Demand3.{doneBy, doneFrom, doneAfter}
 
 pub clash : {A : Type 0} {a : Bool} → a ≡ true → a ≡ false → A
 clash p q = absurd (true≢false (sym p ∙ q))
-
--- Tasks of a list that are in two tables are in both.
-pub all-and : (p q : ℕ → ℕ → Bool) (needs : List BlockTask) → allDone p needs ≡ true → allDone q needs ≡ true
-    → allDone (λ t k. p t k && q t k) needs ≡ true
-unfolding allDone
-all-and p q [] e f = refl
-all-and p q (x ∷ xs) e f =
-    and-both
-    (and-both (and-left (p (x .task) (x .block)) (allDone p xs) e) (and-left (q (x .task) (x .block)) (allDone q xs) f))
-    (all-and p q xs (and-right (p (x .task) (x .block)) (allDone p xs) e) (and-right (q (x .task) (x .block)) (allDone q xs) f))
 
 module _ (plan : Plan) where
   -- ---- what is done exists and has its needs done

@@ -30,9 +30,9 @@ use Rattle.tasks.proofs.Progress.{bit-length, bit-other, shows-bit, Sound}
 use Rattle.task_words.specs.declared.Half.the-variants.{Lone, Linked}
 use Rattle.task_words.proofs.Strips.{strip-place-below}
 use Rattle.recall.specs.RecallCall.{marksRecalled, marksAfterRecall}
+use Rattle.recall.proofs.Recalled.{recall-answered, recalled-length, recalled-past, recalled-shows}
 use Rattle.job_spec.specs.Calls.{Buffers, lists, taskAnswer, stripsAfter, outputAfter, performed, afterTask}
 use Rattle.job_spec.specs.Steps.{Step, perform, recall, afterStep, afterSteps, stepAnswer, stepAnswers, isLong, accepts, doneWith, doneByStep, doneBySteps, dueToStep, dueToSteps}
-use Rattle.job_spec.proofs.Temp.{recall-answered, recalled-length, recalled-past, recalled-shows}
 use Rattle.job_spec.proofs.Done.{sound-step}
 use Rattle.job_spec.proofs.Wrote.{strips-wrote, output-wrote}
 

@@ -16,6 +16,7 @@ use Rattle.buffer.specs.Lists.{wordAt}
 use Rattle.tasks.specs.Tasks.{needsOf, allDone, ready, alsoDone}
 use Rattle.tasks.proofs.Existence.{exists-block, exists-has, link-exists}
 use Rattle.tasks.proofs.Needs.{needs-collected, needs-linked, ready-exists, ready-undone, ready-needs}
+use Rattle.tasks.proofs.NeedLists.{all-and}
 use Rattle.tasks.proofs.Progress.{also-cases}
 use Rattle.filter.specs.PlanFilters.{mapOf, serialResult}
 use Rattle.task_words.specs.declared.Half.the-variants.{Lone, Linked}
@@ -30,7 +31,7 @@ use Rattle.task_words.proofs.Depends.{collect-depends, finish-depends}
 use Rattle.task_words.proofs.Tasks.{link-is, finish-is}
 use Rattle.job_spec.specs.Calls.{Buffers, lists}
 use Rattle.job_spec.specs.Rescan.{RightFor}
-use Rattle.job_spec.proofs.Done.{clash, all-and}
+use Rattle.job_spec.proofs.Done.{clash}
 use Rattle.job_spec.proofs.Wrote.{StripsWrote, OutputWrote}
 
 -- In both tables.

@@ -19,14 +19,14 @@ use Rattle.plan.specs.Sizes.{neededMarks, neededStrips, neededPixels}
 use Rattle.tasks.specs.Tasks.{BlockTask, hasTask, exists, needsOf, allDone, ready, nothingDone}
 use Rattle.tasks.proofs.Existence.{has-exists, exists-block}
 use Rattle.tasks.proofs.Needs.{ready-exists}
-use Rattle.tasks.proofs.Progress.{all-kept, Sound}
+use Rattle.tasks.proofs.NeedLists.{all-kept, all-and}
 use Rattle.task_words.proofs.Places.{SideFits, side-fits}
 use Rattle.recall.specs.Recall.{NeedsBlock, reaches, clears, doneWithout}
+use Rattle.recall.proofs.Closure.{spared-needs-spared, clears-what-needs-it}
 use Rattle.job_spec.specs.Calls.{Buffers, performed}
 use Rattle.job_spec.specs.Steps.{Step, perform, recall, afterStep, afterSteps, isLong, accepts, doneWith, doneByStep, doneBySteps, doneNow, staysDone}
 use Rattle.job_spec.specs.Rescan.{LentSame, UnchangedFrom, UnchangedBlock, Unchanged, RightFor, onlyTask}
-use Rattle.job_spec.proofs.Temp.{clears-what-needs-it, spared-needs-spared}
-use Rattle.job_spec.proofs.Done.{clash, all-and, sound-step, stays-now, stays-needs}
+use Rattle.job_spec.proofs.Done.{clash, sound-step, stays-now, stays-needs}
 use Rattle.job_spec.proofs.Wrote.{strips-wrote, output-wrote}
 use Rattle.job_spec.proofs.Judged.{both, Closed, Within, right-fewer, performed-right}
 use Rattle.job_spec.proofs.Invariant.{Kept, stepped, strips-enough, output-enough, after-step, kept-step}

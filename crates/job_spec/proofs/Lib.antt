@@ -1,4 +1,3 @@
-pub mod Temp
 pub mod CallAnswers
 pub mod Done
 pub mod Wrote

@@ -25,6 +25,7 @@ use Rattle.tasks.specs.Counts.{doneCount}
 use Rattle.tasks.proofs.Existence.{has-exists}
 use Rattle.tasks.proofs.Needs.{needs-none}
 use Rattle.tasks.proofs.Counting.{task-count, all-of-count}
+use Rattle.tasks.proofs.Marking.{mark-same}
 use Rattle.tasks.proofs.Verdicts.{ready-accepted}
 use Rattle.tasks.proofs.Progress.{Sound}
 use Rattle.report.specs.Report.{progressOf, report}
@@ -38,11 +39,11 @@ use Rattle.task_words.specs.declared.Half.the-variants.{Lone, Linked}
 use Rattle.task_words.specs.Strips.{stripPlace}
 use Rattle.task_words.proofs.Places.{side-fits}
 use Rattle.recall.specs.Recall.{reaches, clears, doneWithout}
+use Rattle.recall.proofs.Closure.{clears-what-needs-it}
 use Rattle.job_spec.specs.Calls.{Buffers, lists, startAnswer, started, taskAnswer, afterCalls}
 use Rattle.job_spec.specs.Demand3.{Finished, doneAfter}
 use Rattle.job_spec.specs.Steps.{Step, perform, recall, afterStep, afterSteps, stepAnswer, stepAnswers, isLong, accepts, doneByStep, doneNow, dueToStep, wasMade, ClearedDoneAgain, onMap}
 use Rattle.job_spec.specs.Rescan.{Unchanged, RightFor, KeptFrom, RescanClaim, Rescan, AcceptedStep, ClearedAgain, Ran, no-call, task-call, recall-call, RescanOfCalls}
-use Rattle.job_spec.proofs.Temp.{mark-same, clears-what-needs-it}
 use Rattle.job_spec.proofs.Cover.{pixel-of}
 use Rattle.job_spec.proofs.Done.{clash, made-is-done, fresh-done}
 use Rattle.job_spec.proofs.Invariant.{Kept, only-sound, by-accepts, step-answered, kept-steps, steps-answered}
