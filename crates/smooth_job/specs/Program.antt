@@ -101,9 +101,9 @@ askedWith input plan = askedBy (firstDue (countRows input plan)) plan (mapIn inp
 
 -- ---- the answer
 
--- Room for the strips of any job of so many pixels: a slot of the largest side and the largest orders for each.
+-- Room for the strips of any job of so many pixels: a slot of two halves of the largest side and the largest orders for each.
 abbrev pub stripLimit : ℕ
-stripLimit = pixelLimit * (sideLimit * orderSumLimit)
+stripLimit = pixelLimit * (2 * (sideLimit * orderSumLimit))
 
 -- The lists of the program's job: marks and strips of zeros, and an output of any words.
 unfoldable pub jobLists : List ℕ → Buffers

@@ -21,7 +21,7 @@ ghost use Rattle.smooth_job.specs.Program.{pixelLimit, stripLimit, byteA
 // numbers.
 pub const PIXEL_LIMIT: usize = 64;
 
-pub const STRIP_LIMIT: usize = PIXEL_LIMIT * grid::SIDE_LIMIT * plan::ORDER_SUM_LIMIT;
+pub const STRIP_LIMIT: usize = PIXEL_LIMIT * 2 * grid::SIDE_LIMIT * plan::ORDER_SUM_LIMIT;
 
 // The most bytes of an input that asks for a job, and of what stands for any input.
 pub const INPUT_LIMIT: usize = 4 * (plan::WORD_LIMIT + PIXEL_LIMIT);

@@ -20,13 +20,14 @@ pub record StripLink : Type 0 where
   pub pass : ℕ
 
 -- A plan, heights, all links that there are, in an order that their needs allow, and the words that are to be found: in the
--- strips after all collects and then after all links, and in the output after all finishes.
+-- strips after all collects and then after all links, where `unwritten` stands for what no task has written, and in the
+-- output after all finishes.
 pub record WorkedJob : Type 0 where
   pub plan : Plan
   pub heights : List ℤ
   pub links : List StripLink
-  pub stripsCollected : List ℤ
-  pub stripsLinked : List ℤ
+  pub stripsCollected : (unwritten : ℤ) → List ℤ
+  pub stripsLinked : (unwritten : ℤ) → List ℤ
   pub outputFinished : List ℤ
 
 -- The strips after collect of the first n blocks.
@@ -63,8 +64,8 @@ finishedOutput job =
 -- What the definitions compute in a job, beside the words that are to be found.
 unfoldable pub jobExamples : WorkedJob → List (Example (List ℕ))
 jobExamples job =
-    record { computed = collectedStrips job; expected = map residue (job .stripsCollected) }
-    ∷ record { computed = linkedStrips job; expected = map residue (job .stripsLinked) }
+    record { computed = collectedStrips job; expected = map residue (job .stripsCollected (pos 7)) }
+    ∷ record { computed = linkedStrips job; expected = map residue (job .stripsLinked (pos 7)) }
     ∷ record { computed = finishedOutput job; expected = map residue (job .outputFinished) }
     ∷ []
 
@@ -82,10 +83,6 @@ back = passOf (pos 2) (minus 1 ∷ pos 3 ∷ [])
 abbrev pub zeros : ℕ → List ℤ
 zeros n = replicate n (pos 0)
 
--- So many words that no task has written.
-abbrev unwritten : ℕ → List ℤ
-unwritten n = replicate n (pos 7)
-
 -- ---- the jobs: of each block the lone half of its slot, then the linked half; in the first two a strip has six words
 
 -- One column of four rows in two blocks, b = 3: the lower block has one row. Down gives 1, -1, 1, 2 and then up -24, -8, 6, 4.
@@ -96,13 +93,13 @@ columnJob =
           record { grid = record { rows = 4; columns = 1; side = 3 }; passes = forth ∷ back ∷ unchangedPass ∷ unchangedPass ∷ [] };
       heights = pos 1 ∷ pos 0 ∷ pos 2 ∷ pos 1 ∷ [];
       links = record { block = 0; pass = 0 } ∷ record { block = 1; pass = 1 } ∷ [];
-      stripsCollected =
+      stripsCollected = λ unwritten.
           minus 1
           ∷ pos 0
           ∷ pos 0
           ∷ pos 1
-          ∷ (zeros 8 ++ (unwritten 12 ++ (zeros 6 ++ (pos 2 ∷ (zeros 5 ++ unwritten 12)))));
-      stripsLinked =
+          ∷ (zeros 8 ++ (replicate 12 unwritten ++ (zeros 6 ++ (pos 2 ∷ (zeros 5 ++ replicate 12 unwritten)))));
+      stripsLinked = λ unwritten.
           minus 1
           ∷ pos 0
           ∷ pos 0
@@ -112,7 +109,7 @@ columnJob =
           ∷ pos 0
           ∷ pos 0
           ∷ pos 1
-          ∷ (zeros 2 ++ (unwritten 6 ++ (zeros 6 ++ (pos 2 ∷ (zeros 5 ++ (unwritten 6 ++ (pos 4 ∷ zeros 5)))))))));
+          ∷ (zeros 2 ++ (replicate 6 unwritten ++ (zeros 6 ++ (pos 2 ∷ (zeros 5 ++ (replicate 6 unwritten ++ (pos 4 ∷ zeros 5)))))))));
       outputFinished = minus 24 ∷ minus 8 ∷ pos 6 ∷ pos 4 ∷ [];
     }
 
@@ -125,12 +122,12 @@ rowJob =
           record { grid = record { rows = 2; columns = 4; side = 3 }; passes = unchangedPass ∷ unchangedPass ∷ forth ∷ back ∷ [] };
       heights = pos 1 ∷ pos 0 ∷ pos 2 ∷ pos 1 ∷ pos 0 ∷ pos 1 ∷ pos 1 ∷ pos 3 ∷ [];
       links = record { block = 0; pass = 2 } ∷ record { block = 1; pass = 3 } ∷ [];
-      stripsCollected =
+      stripsCollected = λ unwritten.
           minus 1
           ∷ pos 1
           ∷ pos 1
-          ∷ (zeros 9 ++ (unwritten 12 ++ (zeros 6 ++ (pos 2 ∷ pos 0 ∷ pos 6 ∷ (zeros 3 ++ unwritten 12)))));
-      stripsLinked =
+          ∷ (zeros 9 ++ (replicate 12 unwritten ++ (zeros 6 ++ (pos 2 ∷ pos 0 ∷ pos 6 ∷ (zeros 3 ++ replicate 12 unwritten)))));
+      stripsLinked = λ unwritten.
           minus 1
           ∷ pos 1
           ∷ pos 1
@@ -139,8 +136,8 @@ rowJob =
           ∷ pos 1
           ∷ pos 1
           ∷ (zeros 3
-          ++ (unwritten 6
-          ++ (zeros 6 ++ (pos 2 ∷ pos 0 ∷ pos 6 ∷ (zeros 3 ++ (unwritten 6 ++ (pos 4 ∷ pos 0 ∷ pos 2 ∷ zeros 3)))))))));
+          ++ (replicate 6 unwritten
+          ++ (zeros 6 ++ (pos 2 ∷ pos 0 ∷ pos 6 ∷ (zeros 3 ++ (replicate 6 unwritten ++ (pos 4 ∷ pos 0 ∷ pos 2 ∷ zeros 3)))))))));
       outputFinished = minus 24 ∷ minus 8 ∷ pos 6 ∷ pos 4 ∷ minus 8 ∷ minus 2 ∷ pos 2 ∷ pos 2 ∷ [];
     }
 
@@ -164,12 +161,12 @@ tableJob =
           ∷ record { block = 1; pass = 3 }
           ∷ record { block = 3; pass = 3 }
           ∷ [];
-      stripsCollected =
+      stripsCollected = λ unwritten.
           pos 1
           ∷ pos 1
-          ∷ (unwritten 2
-          ++ (pos 2 ∷ pos 0 ∷ (unwritten 2 ++ (pos 0 ∷ pos 3 ∷ (unwritten 2 ++ (pos 0 ∷ pos 0 ∷ unwritten 2))))));
-      stripsLinked =
+          ∷ (replicate 2 unwritten
+          ++ (pos 2 ∷ pos 0 ∷ (replicate 2 unwritten ++ (pos 0 ∷ pos 3 ∷ (replicate 2 unwritten ++ (pos 0 ∷ pos 0 ∷ replicate 2 unwritten))))));
+      stripsLinked = λ unwritten.
           pos 1
           ∷ pos 1
           ∷ pos 1
@@ -177,8 +174,8 @@ tableJob =
           ∷ pos 2
           ∷ pos 0
           ∷ pos 2
-          ∷ (unwritten 1
-          ++ (pos 0 ∷ pos 3 ∷ (unwritten 1 ++ (pos 4 ∷ pos 0 ∷ pos 0 ∷ unwritten 2))));
+          ∷ (replicate 1 unwritten
+          ++ (pos 0 ∷ pos 3 ∷ (replicate 1 unwritten ++ (pos 4 ∷ pos 0 ∷ pos 0 ∷ replicate 2 unwritten))));
       outputFinished = pos 1 ∷ pos 3 ∷ pos 4 ∷ pos 10 ∷ [];
     }
 

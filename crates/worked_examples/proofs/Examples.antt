@@ -23,7 +23,7 @@ use Rattle.dropouts.specs.Dropouts.{dropoutsInside, dropoutsCall}
 use Rattle.tasks.specs.Tasks.{hasTask, exists, needsOf, allDone}
 use Rattle.tasks.specs.Marks.{hasBit, isMarked, spareClear, markValid, markOf, withBit}
 use Rattle.tasks.specs.Verdict.{blocksOf, lookedAt, leastBrokenOf, leastBroken, verdictRows}
-use Rattle.task_words.specs.Strips.{stripPlace, insideBlock, edgeWord, stripWord, nearestFirst, pastEdges, stripWrittenTo, slotWritten}
+use Rattle.task_words.specs.Strips.{stripPlace, insideBlock, edgeWord, stripWord, nearestFirst, pastEdges, stripWrittenTo, halfWritten}
 use Rattle.task_words.specs.Writes.{aloneWord, collected, linkWord, linked, finishWord, blockWritten, finished}
 use Rattle.job_spec.specs.Calls.{startAnswer, unmarked, marksAfterStart, stripsAfterStart, started, taskAnswer, stripsAfter, outputAfter, performed, afterTask, afterCalls}
 use Rattle.worked_examples.specs.Examples.{serialExample, rectangleExample, dropoutsExample, afterJob, outputExample, stripsExample, jobExamples, starred, furtherRectangles, dropouts, ExamplesHold}
@@ -34,7 +34,7 @@ unfolding modulus minusOne _⊕_ _⊖_ _⊗_ residue twosComplement signed allBe
     output lessFeedback filterStep filterLine filterLines passesOver serialPasses isDropout reading pixel heightMap cornerOf rectangleSum filterOf
     written serialAnswer serialWords serialOutput rectangleCall dropoutsInside dropoutsCall hasTask exists needsOf allDone total hasBit isMarked spareClear
     markValid markOf withBit blocksOf lookedAt leastBrokenOf leastBroken verdictRows blockRow blockColumn blockPixelPlace neighbour
-    goesOn stripPlace insideBlock edgeWord stripWord nearestFirst pastEdges stripWrittenTo rowWritten slotWritten aloneWord
+    goesOn stripPlace insideBlock edgeWord stripWord nearestFirst pastEdges stripWrittenTo rowWritten halfWritten aloneWord
     collected linkWord linked finishWord blockWritten rectangleWritten finished startAnswer unmarked cleared marksAfterStart stripsAfterStart
     started lentRows taskAnswer stripsAfter outputAfter performed afterTask afterCalls serialExample rectangleExample dropoutsExample
     afterJob outputExample stripsExample jobExamples starred furtherRectangles dropouts

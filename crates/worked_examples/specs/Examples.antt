@@ -155,8 +155,8 @@ stripsExample plan heights calls words = wordsExample (afterJob plan heights cal
 -- A job of two blocks worked by hand: the strips after the collects, and the strips and the output after all tasks.
 unfoldable pub jobExamples : WorkedJob → (forth back : ℕ) → List (Example (List ℤ))
 jobExamples job forth back =
-    stripsExample (job .plan) (job .heights) collectBoth (job .stripsCollected)
-    ∷ stripsExample (job .plan) (job .heights) (twoBlocks forth back) (job .stripsLinked)
+    stripsExample (job .plan) (job .heights) collectBoth (job .stripsCollected (pos 0))
+    ∷ stripsExample (job .plan) (job .heights) (twoBlocks forth back) (job .stripsLinked (pos 0))
     ∷ outputExample (job .plan) (job .heights) (twoBlocks forth back) (job .outputFinished)
     ∷ []
 
