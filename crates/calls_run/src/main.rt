@@ -16,8 +16,8 @@ ghost use lib.ListN.{length};
 
 const PIXEL_LIMIT: usize = 256;
 
-// Any job of so many pixels needs fewer: its M×N×b is below twice the limit.
-const STRIP_LIMIT: usize = 2 * PIXEL_LIMIT * plan::ORDER_SUM_LIMIT;
+// Any job of so many pixels needs fewer: its M×N×b is below twice the limit, and a slot has two halves.
+const STRIP_LIMIT: usize = 4 * PIXEL_LIMIT * plan::ORDER_SUM_LIMIT;
 
 const CALL_LIMIT: usize = 2048;
 
