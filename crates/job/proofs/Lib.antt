@@ -1,3 +1,4 @@
 pub mod Starting
 pub mod Tasking
 pub mod Running
+pub mod CalledInTurn

@@ -40,10 +40,10 @@ use Rattle.task_words.specs.Strips.{stripPlace}
 use Rattle.task_words.proofs.Places.{side-fits}
 use Rattle.recall.specs.Recall.{reaches, clears, doneWithout}
 use Rattle.recall.proofs.Closure.{clears-what-needs-it}
-use Rattle.job_spec.specs.Calls.{Buffers, lists, startAnswer, started, taskAnswer, afterCalls}
+use Rattle.job_spec.specs.Calls.{Buffers, startAnswer, started, taskAnswer, afterCalls}
 use Rattle.job_spec.specs.Demand3.{Finished, doneAfter}
 use Rattle.job_spec.specs.Steps.{Step, perform, recall, afterStep, afterSteps, stepAnswer, stepAnswers, isLong, accepts, doneByStep, doneNow, dueToStep, wasMade, ClearedDoneAgain, onMap}
-use Rattle.job_spec.specs.Rescan.{Unchanged, RightFor, KeptFrom, RescanClaim, Rescan, AcceptedStep, ClearedAgain, Ran, no-call, task-call, recall-call, RescanOfCalls}
+use Rattle.job_spec.specs.Rescan.{Unchanged, RightFor, KeptFrom, RescanClaim, Rescan, AcceptedStep, ClearedAgain}
 use Rattle.job_spec.proofs.Cover.{pixel-of}
 use Rattle.job_spec.proofs.Done.{clash, made-is-done, fresh-done}
 use Rattle.job_spec.proofs.Invariant.{Kept, only-sound, by-accepts, step-answered, kept-steps, steps-answered}
@@ -296,23 +296,3 @@ cleared-again plan done k e =
       rw (e, has-exists (plan .grid) k here 0 refl, and-right (ltb k (blockTotal (plan .grid))) (done 0 k) e, eq-eqb k k refl)
           (needs-none (doneWithout (plan .grid) done k) (plan .grid) k),
     )
-
--- ---- the code's own calls
-
-module _ (plan : Plan) where
-  ran-after : (before : Buffers) (steps : List Step) (after : Buffers) (said : List Answer) → Ran plan before steps after said
-      → (after ≡ afterSteps plan steps before) × (said ≡ stepAnswers plan steps before)
-  unfolding afterSteps afterStep stepAnswers stepAnswer
-  ran-after before steps after said (no-call now) = (refl, refl)
-  ran-after before steps after said (task-call heights t k _ between _ outcome rest later answered wrote ran) =
-      let (left, answers) = ran-after between rest after later ran in
-      (left ∙ ap (afterSteps plan rest) wrote, ap₂ _∷_ answered (answers ∙ ap (stepAnswers plan rest) wrote))
-  ran-after before steps after said (recall-call k _ _ marks outcome rest later answered cleared ran) =
-      let (left, answers) = ran-after _ rest after later ran in
-      let wrote = ap (λ left. lists left (before .strips) (before .output)) cleared in
-      (left ∙ ap (afterSteps plan rest) wrote, ap₂ _∷_ answered (answers ∙ ap (stepAnswers plan rest) wrote))
-
-pub rescan-of-calls : RescanOfCalls
-rescan-of-calls plan lent start-accepted output-long steps after said ran =
-    let (left, answers) = ran-after plan (started plan lent) steps after said ran in
-    rw (left, answers) (rescan plan lent start-accepted output-long steps)

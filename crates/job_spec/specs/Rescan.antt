@@ -9,8 +9,6 @@ use lib.IntN.{ℤ}
 use lib.Dec.{eqb}
 use lib.ListN.{length}
 use Rattle.refusal.specs.Refusals.{Answer, accepted}
-use Rattle.refusal.specs.Table.{answerOf}
-use Rattle.refusal.specs.declared.Outcome.{Outcome}
 use Rattle.grid.specs.Grid.{rowsOf, columnsOf, partOf, blockPixelPlace}
 use Rattle.plan.specs.declared.Plan.{Plan}
 use Rattle.plan.specs.Sizes.{neededMarks, neededStrips, neededPixels, taskCount, orderOf}
@@ -28,8 +26,7 @@ use Rattle.task_words.specs.Writes.{aloneWord}
 use Rattle.task_words.specs.Matching.{matchingWord}
 use Rattle.task_words.specs.Depends.{SameBlock}
 use Rattle.recall.specs.Recall.{NeedsBlock}
-use Rattle.recall.specs.RecallCall.{recallAnswer, marksAfterRecall}
-use Rattle.job_spec.specs.Calls.{Buffers, lists, startAnswer, started, taskAnswer, afterTask, afterCalls}
+use Rattle.job_spec.specs.Calls.{Buffers, startAnswer, started, taskAnswer, afterCalls}
 use Rattle.job_spec.specs.Steps.{Step, perform, recall, afterSteps, stepAnswers, accepts, doneByStep, doneNow, dueToStep, dueToSteps, staysDone, wasMade, ClearedDoneAgain, acceptedCalls}
 use Rattle.job_spec.specs.Demand3.{Collected, Finished, OutsideFinished, OutsideStrips, doneAfter}
 
@@ -171,24 +168,3 @@ ClearedAgain =
     (plan : Plan) (done : ℕ → ℕ → Bool) (k : ℕ) → accepts plan done (recall k) ≡ true
     → ((t j : ℕ) → NeedsBlock (plan .grid) k t j → doneByStep plan done (recall k) t j ≡ false)
     × (ready (plan .grid) (doneByStep plan done (recall k)) 0 k ≡ true)
-
--- ---- the code's own calls
-
--- Calls of `task` and of `recall`, one after another, as their contracts say of what they answer and leave.
-pub data Ran (plan : Plan) : Buffers → List Step → Buffers → List Answer → Type 0 where
-  no-call : (now : Buffers) → Ran plan now [] now []
-  task-call : (heights : List ℤ) (t k : ℕ) (before between after : Buffers) (outcome : Outcome) (steps : List Step)
-      (said : List Answer) → answerOf outcome ≡ taskAnswer plan heights before t k
-      → between ≡ afterTask plan heights t k before → Ran plan between steps after said
-      → Ran plan before (perform heights t k ∷ steps) after (answerOf outcome ∷ said)
-  recall-call : (k : ℕ) (before after : Buffers) (marks : List ℕ) (outcome : Outcome) (steps : List Step)
-      (said : List Answer) → answerOf outcome ≡ recallAnswer plan (before .marks) k
-      → marks ≡ marksAfterRecall plan k (before .marks) → Ran plan (lists marks (before .strips) (before .output)) steps after said
-      → Ran plan before (recall k ∷ steps) after (answerOf outcome ∷ said)
-
--- The claim holds of every such run of the code from an accepted start.
-abbrev pub RescanOfCalls : Type 0
-RescanOfCalls =
-    (plan : Plan) (lent : Buffers) → startAnswer plan (lent .marks) (lent .strips) ≡ accepted
-    → neededPixels plan ≤ length (lent .output) → (steps : List Step) (after : Buffers) (said : List Answer)
-    → Ran plan (started plan lent) steps after said → RescanClaim plan lent steps after said
