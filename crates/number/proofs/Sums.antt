@@ -101,6 +101,17 @@ unfolding total
 total-zero f zero e = refl
 total-zero f (suc n) e = omega (arith, total-zero f n (λ i h. e i (omega arith)), e n (omega arith))
 
+-- A sum whose terms are 0 from m on is the sum of the first m.
+pub total-cut : (f g : ℕ → ℕ) (m n : ℕ) → m ≤ n → ((i : ℕ) → i < m → g i ≡ f i) → ((i : ℕ) → m ≤ i → i < n → g i ≡ 0)
+    → total g n ≡ total f m
+unfolding total
+total-cut f g m zero h same none = let z : m ≡ 0 = omega arith in rw z
+total-cut f g m (suc n) h same none =
+    ⊎-elim (λ (e : m ≡ suc n). rw e (total-same g f (suc n) (λ i l. same i (omega arith))))
+    (λ (l : m < suc n).
+    omega (arith, total-cut f g m n (omega arith) same (λ i a b. none i a (omega arith)), none n (omega arith) (omega arith)))
+    (eq-or-lt-of-le {n = m} {m = suc n} h)
+
 pub total-affine : (a c : ℕ) (f : ℕ → ℕ) (n : ℕ) → total (λ i. a + c * f i) n ≡ n * a + c * total f n
 unfolding total
 total-affine a c f zero = omega arith

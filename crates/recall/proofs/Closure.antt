@@ -24,7 +24,7 @@ use Rattle.recall.specs.Recall.{NeedsBlock, its-own, through, reaches, c
 -- ---- where a task is reached
 
 -- The places of `reaches` in words of rows and columns.
-abbrev Reached : Grid → (k t j : ℕ) → Type 0
+abbrev pub Reached : Grid → (k t j : ℕ) → Type 0
 Reached grid k zero j = j ≡ k
 Reached grid k (suc zero) j = (blockColumn grid j ≡ blockColumn grid k) × (blockRow grid k ≤ blockRow grid j)
 Reached grid k (suc (suc zero)) j = blockColumn grid j ≡ blockColumn grid k
@@ -53,7 +53,7 @@ module _ (grid : Grid) (k : ℕ) where
   from-left-links t j h =
       rw (ne-eqb t 0 (λ e. omega arith), ne-eqb t 1 (λ e. omega arith), ne-eqb t 2 (λ e. omega arith), ne-eqb t 3 (λ e. omega arith))
 
-  reaches-reached : (t j : ℕ) → reaches grid k t j ≡ true → Reached grid k t j
+  pub reaches-reached : (t j : ℕ) → reaches grid k t j ≡ true → Reached grid k t j
   unfolding reaches
   reaches-reached zero j e = eqb-true j k e
   reaches-reached (suc zero) j e =
@@ -64,7 +64,7 @@ module _ (grid : Grid) (k : ℕ) where
   reaches-reached (suc (suc (suc zero))) j e = leb-true _ _ e
   reaches-reached (suc (suc (suc (suc t)))) j e = tt
 
-  reached-reaches : (t j : ℕ) → Reached grid k t j → reaches grid k t j ≡ true
+  pub reached-reaches : (t j : ℕ) → Reached grid k t j → reaches grid k t j ≡ true
   unfolding reaches
   reached-reaches zero j r = eq-eqb j k r
   reached-reaches (suc zero) j r = and-both (eq-eqb _ _ (r .0)) (le-leb _ _ (r .1))
@@ -80,7 +80,7 @@ module _ (grid : Grid) (k : ℕ) where
   reached-next (suc (suc (suc t))) j r = tt
 
   -- and so is every later one.
-  reached-later : (u t j : ℕ) → u ≤ t → Reached grid k u j → Reached grid k t j
+  pub reached-later : (u t j : ℕ) → u ≤ t → Reached grid k u j → Reached grid k t j
   reached-later u zero j h r = let z : u ≡ 0 = omega arith in rw z at r
   reached-later u (suc t) j h r =
       ⊎-elim (λ (q : u ≡ suc t). rw q at r) (λ (l : u < suc t). reached-next t j (reached-later u t j (omega arith) r))

@@ -1,2 +1,4 @@
 pub mod Closure
 pub mod Recalled
+pub mod Clearing
+pub mod RecallAnswers

@@ -1,2 +1,3 @@
 pub mod Recall
 pub mod RecallCall
+pub mod Clearing

@@ -70,7 +70,7 @@ fn report_on(grid: Grid, marks: &[u32]) -> ReportAnswer
 }
 
 // The least block whose mark is broken, or the number of blocks.
-fn first_broken(grid: Grid, marks: &[u32]) -> usize
+pub fn first_broken(grid: Grid, marks: &[u32]) -> usize
     requires { ⌜ Lent grid (length (now marks)) ⌝ }
     ensures { λ r. ⌜ r ≡ firstBroken grid (now (marks .entry)) ⌝ }
 {

@@ -4,20 +4,20 @@ use mathlib.Core.Path.{_≡_, refl, ap, _∙_}
 use mathlib.Core.Bool.{Bool, true, false, not, cond}
 use mathlib.Core.List.{List}
 use Prim.Native.Nat.{ℕ, zero, suc, _+_, _*_, _/_, _%_, _^_, _<_, _≤_}
-use native.Mathlib.Nat.{div-add-mod', div-div-eq-div-mul}
+use native.Mathlib.Nat.{div-add-mod', div-div-eq-div-mul, pow-le-pow-right}
 use native.Mathlib.Omega.{arith}
 use lib.Dec.{ltb, eqb}
 use borrow.Author.Tests.{eq-eqb, lt-ltb, ltb-true, eqb-true}
 use Rattle.number.specs.Numbers.{total, one}
-use Rattle.number.proofs.Tests.{and-left, and-right, and-both}
+use Rattle.number.proofs.Tests.{and-left, and-right, and-both, all-at}
 use Rattle.number.proofs.Sums.{all-below, one-most, total-same}
 use Rattle.buffer.specs.Lists.{wordAt}
 use Rattle.grid.specs.declared.Grid.{Grid}
 use Rattle.grid.specs.Grid.{blockTotal, blockRow, blockColumn}
-use Rattle.tasks.specs.Tasks.{exists, nothingDone}
+use Rattle.tasks.specs.Tasks.{hasTask, exists, nothingDone}
 use Rattle.tasks.specs.Counts.{oneAt}
 use Rattle.tasks.specs.Marks.{hasBit, isMarked, spareClear, markValid, markValidAt, markOf, Shows, markKind}
-use Rattle.tasks.proofs.Existence.{exists-has}
+use Rattle.tasks.proofs.Existence.{has-exists, exists-has}
 use Rattle.tasks.proofs.Counting.{Only}
 use Rattle.number.specs.KindWords.{kindOf, payloadOf, wordOf}
 
@@ -59,13 +59,7 @@ unfolding markOf
 mark-same p q k same = ap (wordOf markKind) (total-same _ _ 6 (λ t h. ap (λ x. one x * 2 ^ t) (same t h)))
 
 power-small : (t : ℕ) → t < 6 → 2 ^ t ≤ 32
-power-small zero l = omega arith
-power-small (suc zero) l = omega arith
-power-small (suc (suc zero)) l = omega arith
-power-small (suc (suc (suc zero))) l = omega arith
-power-small (suc (suc (suc (suc zero)))) l = omega arith
-power-small (suc (suc (suc (suc (suc zero))))) l = omega arith
-power-small (suc (suc (suc (suc (suc (suc t)))))) l = absurd (omega arith)
+power-small t l = pow-le-pow-right {n = 2} (omega arith) {i = t} {j = 5} (omega arith)
 
 -- 1 shifted by t in a word of 32 bits.
 pub shifted-one : (t : ℕ) → t < 6 → 1 * 2 ^ t % 4294967296 ≡ 2 ^ t
@@ -104,14 +98,36 @@ low-bits w (suc n) =
     one-more : (s q half bit p : ℕ) → half * 2 + bit ≡ q → s + q * p ≡ s + bit * p + half * (p * 2)
     one-more s q half bit p e = rw (← e) (omega arith)
 
--- A mark that passes the test is the mark of the tasks that it shows.
+-- What a word leaves when it is divided by a power of 2 are its low bits.
+pub low-part : (w n : ℕ) → w % 2 ^ n ≡ total (λ t. one (hasBit w t) * 2 ^ t) n
+low-part w n = omega (arith, low-bits w n, div-add-mod' w (2 ^ n))
+
+-- A mark that passes the test is the mark of the tasks that it shows,
 pub valid-shows : (grid : Grid) (marks : List ℕ) → Valid grid marks → Shows grid (isMarked marks) marks
 unfolding markValid markOf isMarked
 valid-shows grid marks valid k h =
     let w = wordAt marks k in
     let kind : kindOf w ≡ markKind = eqb-true (kindOf w) markKind (and-left (eqb (kindOf w) markKind) _ (valid k h)) in
-    let low : payloadOf w < 64 = ltb-true (payloadOf w) 64 (and-left (ltb (payloadOf w) 64) _ (and-right (eqb (kindOf w) markKind) _ (valid k h))) in
+    let low : payloadOf w < 64 =
+    ltb-true (payloadOf w) 64
+    (and-left (ltb (payloadOf w) 64) _ (and-right (eqb (kindOf w) markKind) _ (valid k h)))
+    in
     low-bits w 6 ∙ omega arith
+
+-- and these exist.
+pub valid-only : (grid : Grid) (marks : List ℕ) → Valid grid marks → Only grid (isMarked marks)
+unfolding markValid spareClear isMarked
+valid-only grid marks valid t k l h e =
+    let w = wordAt marks k in
+    let spare = spareClear grid (blockRow grid k) (blockColumn grid k) w in
+    let clear : spare t ≡ true =
+    all-at spare 6 t (and-right (ltb (payloadOf w) 64) _ (and-right (eqb (kindOf w) markKind) _ (valid k h))) l
+    in
+    has-exists grid k h t (by (hasTask grid t (blockRow grid k) (blockColumn grid k)) (rw e at clear))
+  where
+    by : (x : Bool) → cond x true (not true) ≡ true → x ≡ true
+    by true q = refl
+    by false q = q
 
 spare-of : (grid : Grid) (done : ℕ → ℕ → Bool) (k : ℕ) → ((t : ℕ) → t < 6 → done t k ≡ true → exists grid t k ≡ true)
     → (t : ℕ) → t < 6 → spareClear grid (blockRow grid k) (blockColumn grid k) (markOf done k) t ≡ true

@@ -52,6 +52,13 @@ module _ (grid : Grid) (marks : List ℕ) where
       by true = omega arith
       by false = omega arith
 
+  unbroken-valid : (k : ℕ) → k < blockTotal grid → blockTotal grid ≤ brokenAt grid marks k → markValidAt grid marks k ≡ true
+  unbroken-valid k h = by (markValidAt grid marks k)
+    where
+      by : (valid : Bool) → blockTotal grid ≤ cond valid (blockTotal grid) k → valid ≡ true
+      by true l = refl
+      by false l = absurd (omega arith)
+
   -- The least broken of the first n blocks.
   pub leastBelow : ℕ → ℕ
   leastBelow n = leastBrokenOf grid marks (listOf (λ k. k) n)
@@ -84,6 +91,17 @@ module _ (grid : Grid) (marks : List ℕ) where
   -- and where all marks do, none of all blocks is.
   pub all-valid : Valid grid marks → leastBrokenOf grid marks (allBlocks grid) ≡ blockTotal grid
   all-valid valid = sym below-all ∙ below-whole (blockTotal grid) (omega arith) valid
+
+  -- Conversely, where none of all blocks is broken all marks pass the test.
+  pub none-broken-valid : blockTotal grid ≤ leastBrokenOf grid marks (allBlocks grid) → Valid grid marks
+  none-broken-valid whole k h = upto (blockTotal grid) (omega arith) h (omega (arith, below-all))
+    where
+      upto : (n : ℕ) → n ≤ blockTotal grid → k < n → blockTotal grid ≤ leastBelow n → markValidAt grid marks k ≡ true
+      upto zero m l w = absurd (omega arith)
+      upto (suc n) m l w =
+          let more = below-more n (omega arith) in
+          ⊎-elim (λ (e : k ≡ n). unbroken-valid k h (rw e (omega arith)))
+          (λ (i : k < n). upto n (omega arith) i (omega arith)) (eq-or-lt-of-le (omega arith))
 
   -- The first broken of all blocks is the least.
   pub first-least : (k : ℕ) → k < blockTotal grid → leastBelow k ≡ blockTotal grid → markValidAt grid marks k ≡ false
@@ -177,11 +195,7 @@ module _ (grid : Grid) (marks : List ℕ) where
     -- Where no mark that is looked at is broken, the block's own passes the test.
     own-valid : (t : ℕ) → blockTotal grid ≤ leastBroken grid marks t k → markValidAt grid marks k ≡ true
     unfolding leastBroken lookedAt leastBrokenOf
-    own-valid t l = by (markValidAt grid marks k) (omega arith)
-      where
-        by : (valid : Bool) → blockTotal grid ≤ cond valid (blockTotal grid) k → valid ≡ true
-        by true l = refl
-        by false l = absurd (omega arith)
+    own-valid t l = unbroken-valid k h (omega arith)
 
 -- On marks that show what is done, the answer is the one by what is done.
 pub verdict-shown : (grid : Grid) (done : ℕ → ℕ → Bool) (marks : List ℕ) → Shows grid done marks → Only grid done → (t k : ℕ)
