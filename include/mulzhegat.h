@@ -9,7 +9,8 @@
  * bottom row for up, from the last column for left.
  *
  * Outputs outside the map count as 0, and all words are taken modulo 2^64. The passes run over the whole map in one
- * call (mzg_serial), or block by block in any order that respects the tasks' needs (mzg_start, mzg_task, mzg_report).
+ * call (mzg_serial), or block by block in any order that respects the tasks' needs (mzg_start, mzg_task, mzg_report). A
+ * block that is scanned again is recalled (mzg_recall), and only what depends on it is done again.
  *
  * Dropouts. Where the laser's beam gets no return, the height is MZG_DROPOUT. The passes read it as 0, in mzg_serial as
  * in mzg_task: outputs, tables and totals are those of the map with every dropout replaced by 0, and none of them shows
@@ -24,8 +25,8 @@
  *
  * Where several causes hold, the one that is tested first refuses the call. mzg_plan_read is refused by the first of 1,
  * 2, 3 from left to right (2 before 3 at one word), then 5, then 4. Every other call tests the record (6), then the
- * lengths of the buffers that it is lent (7, 14, 15, 16), and only then the rest, by rising numbers (8 to 12): a short
- * output is 16 also where the task does not exist. The numbers after `Refused:` stand in that order.
+ * lengths of the buffers that it is lent (7, 14, 15, 16), and only then the rest, by rising numbers (8 to 12, 17): a
+ * short output is 16 also where the task does not exist. The numbers after `Refused:` stand in that order.
  *
  * So a buffer that is too short has one of four numbers: 14, 15 and 16 for the strips, the map and the output, 7 for
  * the words of mzg_plan_write, the marks or the table, whichever the call is lent. The first that is too short is
@@ -76,7 +77,8 @@ enum {
     /* 13 is for inputs of the program `smooth`: no function answers it */
     MZG_STRIPS_TOO_SHORT = 14,  /* the strips are too short */
     MZG_MAP_TOO_SHORT = 15,     /* the map is too short */
-    MZG_OUTPUT_TOO_SHORT = 16   /* the output is too short */
+    MZG_OUTPUT_TOO_SHORT = 16,  /* the output is too short */
+    MZG_BLOCK_NOT_COLLECTED = 17 /* the block to recall is not collected */
 };
 
 /* What the head writes for the height of a pixel where the laser's beam gets no return: -2147483648. No other height is
@@ -111,7 +113,7 @@ typedef struct {
     uint64_t block_rows;     /* M: rows / side, rounded up */
     uint64_t block_columns;  /* N: columns / side, rounded up */
     uint64_t marks;          /* M * N */
-    uint64_t strips;         /* M * N * side * (sum of the four orders) */
+    uint64_t strips;         /* M * N * 2 * side * (sum of the four orders) */
     uint64_t pixels;         /* rows * columns: the length of map, output and table */
     uint64_t tasks;          /* all tasks of a job: 6 * M * N - 2 * M - 2 * N */
 } mzg_sizes;
@@ -161,12 +163,13 @@ uint64_t mzg_start(const mzg_plan *plan, uint32_t *marks, size_t marks_len, uint
  *     5 finish       always       own 0; 1 of above, 2 of below, 3 of left, 4 of right
  *
  * A need on a neighbour beyond the map falls away. Collect and finish read dropouts as 0. Collect and the links write
- * in the block's slot of the strips (its part of side * (sum of the four orders) words; no caller needs its layout),
- * finish writes the block's output words, which are those of mzg_serial from then on; an accepted task also sets bit
- * `task` of the block's mark, and nothing else changes. The output need not be set before. Lend the same map to every
- * call of a job. Calls may come in any order: one that comes too early is refused by 11 and may be repeated. An order
- * without any 11: the tasks 0 to 5 one after another, each over the blocks by their number, 2 and 4 from the last block
- * to the first (links that a block does not have are refused by 8).
+ * in the block's slot of the strips, its part of 2 * side * (sum of the four orders) words: collect the first half, the
+ * links the second (no caller needs more of its layout). Finish writes the block's output words, which are those of
+ * mzg_serial from then on; an accepted task also sets bit `task` of the block's mark, and nothing else changes. The
+ * output need not be set before. Lend the same map to every call of a job; the heights of a block may change only while
+ * it is not collected, and mzg_recall is the way back there. Calls may come in any order: one that comes too early is
+ * refused by 11 and may be repeated. An order without any 11: the tasks 0 to 5 one after another, each over the blocks
+ * by their number, 2 and 4 from the last block to the first (links that a block does not have are refused by 8).
  * Needs, for every task, also one that does not read or write them: sizes.marks marks, sizes.strips strip words,
  * sizes.pixels map and output words.
  * Refused: 6, 7 (marks), 14 (strips), 15 (map), 16 (output), 8, 9 (the marks of the block and of the neighbours in its
@@ -179,6 +182,36 @@ uint64_t mzg_task(const mzg_plan *plan, size_t task, size_t block, const int32_t
  * Needs sizes.marks marks and looks at all of them, so that a large job asks for it now and then, not for every task.
  * Refused: 6, 7 (marks), 9; the progress is then all zeros. */
 uint64_t mzg_report(const mzg_plan *plan, const uint32_t *marks, size_t marks_len, mzg_progress *progress);
+
+/* Recalls a block that is to be scanned again: its marks, and those of every task that needs it, directly or through
+ * others, lose their bits, whatever is marked between; no other bit changes, and strips and output are not touched.
+ * Recalling block (m, n) clears its collect, the down links of column n from row m on, all up links of column n, all
+ * right links from column n on, all left links and all finishes; the collects of all other blocks stay done. A chip lay
+ * on a block, the operator has blown it off:
+ *
+ *     mzg_progress next;
+ *     uint64_t answer = mzg_recall(&plan, block, marks, marks_len);
+ *     if (MZG_NUMBER(answer) == MZG_BLOCK_NOT_COLLECTED)
+ *         answer = MZG_ACCEPTED; // there is nothing to clear
+ *     if (answer == MZG_ACCEPTED)
+ *         scan_again(map, block); // its heights alone, and not before: of a collected block they must not change
+ *     while (answer == MZG_ACCEPTED
+ *            && (answer = mzg_report(&plan, marks, marks_len, &next)) == MZG_ACCEPTED && next.ready)
+ *         answer = mzg_task(&plan, next.task, next.block, map, map_len, marks, marks_len, strips, strips_len,
+ *                           output, output_len);
+ *     if (answer != MZG_ACCEPTED)
+ *         stop_for_the_operator();
+ *
+ * Then marks, strips and output are, word for word, those of a fresh job on the new map. On a large map call the tasks
+ * in the order of mzg_task instead of asking for a report before each: those that are still done are refused by 10, and
+ * nothing is done twice. A job need not be whole: once the cleared tasks are done again it is as a fresh job, begun on
+ * the same lent words, with the same tasks done. Several blocks may be recalled before they are scanned, each by a call
+ * of its own. Until its task is done again, a strip or a block of the output keeps its old words: a total read
+ * meanwhile mixes both maps. Where a height was changed, even for a time, while its block was collected, no call
+ * notices, and nothing is promised of the tasks that need the block: recall it.
+ * Needs sizes.marks marks and looks at all of them.
+ * Refused: 6, 7 (marks), 8 (no such block), 9, 17 (the block is not collected). */
+uint64_t mzg_recall(const mzg_plan *plan, size_t block, uint32_t *marks, size_t marks_len);
 
 /* Runs the four passes over the whole map, dropouts read as 0. Needs sizes.pixels map and output words.
  * Refused: 6, 15 (map), 16 (output). */

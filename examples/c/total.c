@@ -23,7 +23,7 @@ static const uint32_t plan_words[] = {
     0x60000000                          /* end */
 };
 
-static const int32_t map[5 * 7] = {
+static int32_t map[5 * 7] = {
      3, -1,  4,  1, -5, MZG_DROPOUT, 2,
      6,  5, -3,  5,  8, -9,  7,
     -9,  3,  2,  3,  8,  4, -6,
@@ -167,6 +167,23 @@ int main(void)
         else
             printf(", nothing seen\n");
     }
+
+    /* The block with the hole, rows 0 and 1 of columns 4 and 5, is scanned again: recalled, scanned, and then what the
+     * report names until it names none. */
+    const size_t rescanned = 2;
+    accept("recall", mzg_recall(&plan, rescanned, marks, (size_t)sizes.marks));
+    map[0 * 7 + 5] = 6;
+    accept("report", mzg_report(&plan, marks, (size_t)sizes.marks, &progress));
+    printf("block %zu recalled: %" PRIu64 " of %" PRIu64 " tasks are still done\n",
+           rescanned, progress.marked, sizes.tasks);
+    while (progress.ready) {
+        accept("task", mzg_task(&plan, (size_t)progress.task, (size_t)progress.block, map, map_length,
+                                marks, (size_t)sizes.marks, strips, (size_t)sizes.strips,
+                                output, (size_t)sizes.pixels));
+        accept("report", mzg_report(&plan, marks, (size_t)sizes.marks, &progress));
+    }
+    accept("rectangle", mzg_rectangle(&plan, 0, 4, 1, 7, output, (size_t)sizes.pixels, &total));
+    printf("scanned again: %" PRIu64 " tasks done, total %" PRId64 "\n", progress.marked, total);
 
     /* A refused call says why: the map has 5 rows. */
     uint64_t answer = mzg_rectangle(&plan, 2, 2, 6, 6, output, (size_t)sizes.pixels, &total);
