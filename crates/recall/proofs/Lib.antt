@@ -2,3 +2,4 @@ pub mod Closure
 pub mod Recalled
 pub mod Clearing
 pub mod RecallAnswers
+pub mod Examples

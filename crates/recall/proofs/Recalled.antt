@@ -1,6 +1,6 @@
 -- A recall on marks that show what is done: its answer, and the marks after it. Assumes nothing.
 use mathlib.Core.Path.{_≡_, refl, sym, ap, _∙_}
-use mathlib.Core.Bool.{Bool, true, false, not, _&&_, true≢false}
+use mathlib.Core.Bool.{Bool, true, false, not, _&&_, and-true, and-false, true≢false}
 use mathlib.Core.List.{List, [], _∷_}
 use Prim.Native.Nat.{ℕ, _≤_, _<_}
 use native.Mathlib.Omega.{arith}
@@ -26,7 +26,8 @@ use Rattle.tasks.proofs.Marking.{Valid, mark-same, shows-marked, shows-valid, v
 use Rattle.tasks.proofs.Verdicts.{below-whole, all-valid, first-least}
 use Rattle.report.specs.Report.{firstBroken, marksRows, lentToReport}
 use Rattle.recall.specs.Recall.{clears, doneWithout}
-use Rattle.recall.specs.RecallCall.{recallRows, recallAnswer, marksRecalled, RefusedInOrder, OtherMarksStay}
+use Rattle.recall.specs.RecallCall.{recallRows, recallAnswer, marksRecalled, RefusedInOrder, ClearsMarksOfWhatNeedsIt, OtherMarksStay}
+use Rattle.recall.proofs.Closure.{clears-what-needs-it}
 
 -- ---- the answer
 
@@ -104,6 +105,19 @@ module _ (grid : Grid) (k : ℕ) (marks : List ℕ) where
   unfolding marksRecalled
   recalled-at enough j h =
       written-at (λ j. j) _ (blockTotal grid) marks (λ i j a b. omega arith) (λ i a. omega arith) j h
+
+pub clears-marks-of-what-needs-it : ClearsMarksOfWhatNeedsIt
+unfolding doneWithout
+clears-marks-of-what-needs-it grid marks enough k here t j l h =
+    let stays = shows-marked grid (doneWithout grid (isMarked marks) k) (marksRecalled grid k marks) (recalled-at grid k marks enough) t j l h in
+    let (needed, needs) = clears-what-needs-it grid k t j here in (
+      λ n. stays ∙ rw (needed n) (and-false (isMarked marks t j)),
+      λ free. stays ∙ by (clears grid k t j) (λ c. free (needs c)),
+    )
+  where
+    by : (cleared : Bool) → (cleared ≡ true → ⊥) → (isMarked marks t j && not cleared) ≡ isMarked marks t j
+    by true u = absurd (u refl)
+    by false u = and-true (isMarked marks t j)
 
 -- The marks after a recall show what is done without what it clears.
 pub recalled-shows : (grid : Grid) (done : ℕ → ℕ → Bool) (marks : List ℕ) → blockTotal grid ≤ length marks → Shows grid done marks

@@ -1,3 +1,4 @@
 pub mod Recall
 pub mod RecallCall
 pub mod Clearing
+pub mod Examples

@@ -16,7 +16,7 @@ use Rattle.plan.specs.Rules.{keepsRules}
 use Rattle.plan.specs.FirstTests.{lentRows}
 use Rattle.tasks.specs.Marks.{isMarked, markValidAt, markOf}
 use Rattle.report.specs.Report.{lentToReport, marksRows}
-use Rattle.recall.specs.Recall.{clears, doneWithout}
+use Rattle.recall.specs.Recall.{NeedsBlock, clears, doneWithout}
 
 -- What a recall of block k is refused by: 8 where there is no such block, 17 where it is not collected. The tests of marks, if
 -- any, stand between the two.
@@ -61,6 +61,15 @@ abbrev pub RefusedInOrder : Type 0
 RefusedInOrder =
     (plan : Plan) (marks : List ℕ) (k : ℕ) → keepsRules plan ≡ true → blockTotal (plan .grid) ≤ length marks
     → RecallRefusals plan marks k
+
+-- An accepted recall clears the marks of the block's tasks and of every task that needs it, directly or through others,
+-- whatever is marked between; and no further mark.
+abbrev pub ClearsMarksOfWhatNeedsIt : Type 0
+ClearsMarksOfWhatNeedsIt =
+    (grid : Grid) (marks : List ℕ) → blockTotal grid ≤ length marks → (k : ℕ) → k < blockTotal grid → (t j : ℕ) → t < 6
+    → j < blockTotal grid
+    → (NeedsBlock grid k t j → isMarked (marksRecalled grid k marks) t j ≡ false)
+    × ((NeedsBlock grid k t j → ⊥) → isMarked (marksRecalled grid k marks) t j ≡ isMarked marks t j)
 
 -- On any marks that refusal 9 lets through, a mark that has none of the bits that a recall clears stays as it was.
 abbrev pub OtherMarksStay : Type 0
