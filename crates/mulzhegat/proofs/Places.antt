@@ -43,6 +43,7 @@ use Rattle.report.specs.declared.ReportAnswer.{ReportAnswer}
 use Rattle.report.specs.declared.ReportAnswer.the-variants as reported
 use Rattle.report.specs.Values.{reportGiven}
 use Rattle.report.specs.Report.{marksRows, lentToReport, report}
+use Rattle.recall.specs.RecallCall.{recallAnswer}
 use Rattle.mulzhegat.specs.Places.{PlacesFit}
 use Rattle.buffer.specs.Lists.{joined}
 
@@ -179,6 +180,11 @@ module _ (plan : Plan) where
   report-place marks =
       after-lent (lentToReport marks) (marksRows (plan .grid) marks) (λ kept. (block-place _ kept, λ n. tt))
 
+  pub recall-place : (marks : List ℕ) (k : ℕ) → placeIn (recallAnswer plan marks k) < half
+  unfolding recallAnswer
+  recall-place marks k =
+      after-lent (lentToReport marks) _ (λ kept. (at-0, λ n. (block-place _ kept, λ n. (at-0, λ n. tt))))
+
   -- ---- the other calls: their refusals have place 0
 
   sizes-place : placeIn (planSizes plan .answer) < half
@@ -223,6 +229,7 @@ places-fit =
       start = start-place;
       task = task-place;
       report-on = report-place;
+      recall = recall-place;
       serial = serial-place;
       rectangle = rectangle-place;
       dropouts = dropouts-place;

@@ -14,6 +14,7 @@ use Rattle.macro_values.specs.declared.Quantity.{Quantity}
 use Rattle.macro_values.specs.MacroValues.{macroCall, pairCall}
 use Rattle.job_spec.specs.Calls.{Buffers, startAnswer, taskAnswer}
 use Rattle.report.specs.Report.{report}
+use Rattle.recall.specs.RecallCall.{recallAnswer}
 use Rattle.mulzhegat.specs.Codes.{codeHalf}
 
 -- A place fits the lower half of a code.
@@ -28,6 +29,7 @@ pub record PlacesFit : Type 0 where
   pub start : (plan : Plan) (marks strips : List ℕ) → Fits (startAnswer plan marks strips)
   pub task : (plan : Plan) (heights : List ℤ) (buffers : Buffers) (t k : ℕ) → Fits (taskAnswer plan heights buffers t k)
   pub report-on : (plan : Plan) (marks : List ℕ) → Fits (report plan marks .answer)
+  pub recall : (plan : Plan) (marks : List ℕ) (k : ℕ) → Fits (recallAnswer plan marks k)
   pub serial : (plan : Plan) (mapLength outputLength : ℕ) → Fits (serialAnswer plan mapLength outputLength)
   pub rectangle : (plan : Plan) (table : List ℕ) (top left bottom right : ℕ)
       → Fits (rectangleCall plan table top left bottom right .answer)

@@ -29,6 +29,7 @@ ghost use Rattle.macro_values.specs.MacroValues.{macroCall, pairCall, variableO
 ghost use Rattle.job_spec.specs.Calls.{lists, startAnswer, marksAfterStart, stripsAfterStart, taskAnswer, afterTask};
 ghost use Rattle.report.specs.Values.{valuesOf};
 ghost use Rattle.report.specs.Report.{report};
+ghost use Rattle.recall.specs.RecallCall.{recallAnswer, marksAfterRecall};
 ghost use Rattle.mulzhegat.specs.Places.{Fits};
 ghost use Rattle.mulzhegat.specs.Codes.{codeOf, sizesRecord, progressRecord, stateOf, floatIn, VariableWritten, pairStates, pairFloats, PairWritten};
 
@@ -136,6 +137,20 @@ pub extern "C" fn mzg_report(
             refusal_code(refusal)
         }
     }
+}
+
+// Recalls a block to be scanned again: its marks and those of every task that needs it are cleared.
+#[no_mangle]
+pub extern "C" fn mzg_recall(
+    plan: &[i64; plan_record::RECORD_LENGTH],
+    block: usize,
+    marks: &mut [u32],
+) -> u64
+    ensures answer { λ r. ⌜ r ≡ codeOf (recallAnswer (planOfRecord (now (plan .entry))) (now (marks .entry)) block) ⌝ }
+    ensures cleared { λ _. ⌜ now (marks .exit) ≡ marksAfterRecall (planOfRecord (now (plan .entry))) block (now (marks .entry)) ⌝ }
+{
+    let outcome = recall::recall(plan_record::plan_of_record(plan), block, marks);
+    outcome_code(outcome)
 }
 
 // ---- whole maps
