@@ -74,19 +74,6 @@ recall-answered plan kept done only marks enough shows k =
     by true e = rw (shows-marked (plan .grid) done marks shows 0 k (omega arith) (ltb-true k (blockTotal (plan .grid)) e))
     by false e = refl
 
--- It is accepted exactly where the block is in the map and collected.
-pub accepted-if-collected : (grid : Grid) (done : ℕ → ℕ → Bool) (k : ℕ)
-    → (firstDue (recallRows grid done [] k) ≡ accepted → (ltb k (blockTotal grid) && done 0 k) ≡ true)
-    × ((ltb k (blockTotal grid) && done 0 k) ≡ true → firstDue (recallRows grid done [] k) ≡ accepted)
-accepted-if-collected grid done k = by (ltb k (blockTotal grid)) (done 0 k)
-  where
-    by : (inside collected : Bool)
-        → (firstDue (8 at 0 when not inside ∷ 17 at 0 when not collected ∷ []) ≡ accepted → (inside && collected) ≡ true)
-        × ((inside && collected) ≡ true → firstDue (8 at 0 when not inside ∷ 17 at 0 when not collected ∷ []) ≡ accepted)
-    by true true = (λ e. refl, λ e. refl)
-    by true false = (λ e. cc, λ e. absurd (true≢false (sym e)))
-    by false collected = (λ e. cc, λ e. absurd (true≢false (sym e)))
-
 -- ---- the marks
 
 module _ (grid : Grid) (k : ℕ) (marks : List ℕ) where

@@ -54,6 +54,15 @@ uint64_t pixels_seen(const mzg_plan *plan, const int32_t *map)
     return 1 - count;
 }
 
+/* A block that is not collected need not be recalled. */
+int may_be_scanned(const mzg_plan *plan, size_t block, uint32_t *marks, size_t marks_len);
+
+int may_be_scanned(const mzg_plan *plan, size_t block, uint32_t *marks, size_t marks_len)
+{
+    uint64_t answer = mzg_recall(plan, block, marks, marks_len);
+    return answer == MZG_ACCEPTED || MZG_NUMBER(answer) == MZG_BLOCK_NOT_COLLECTED;
+}
+
 /* Answers are compared with the constants, and taken apart, without a cast. */
 uint64_t block_of_a_broken_mark(uint64_t answer);
 
