@@ -22,11 +22,15 @@ use Rattle.rectangle.specs.Rectangle.{rectangleCall}
 use Rattle.dropouts.specs.Dropouts.{dropoutsInside, dropoutsCall}
 use Rattle.tasks.specs.Tasks.{hasTask, exists, needsOf, allDone}
 use Rattle.tasks.specs.Marks.{hasBit, isMarked, spareClear, markValid, markOf, withBit}
-use Rattle.tasks.specs.Verdict.{blocksOf, lookedAt, leastBrokenOf, leastBroken, verdictRows}
+use Rattle.tasks.specs.Verdict.{blocksOf, lookedAt, allBlocks, leastBrokenOf, leastBroken, verdictRows}
+use Rattle.report.specs.Report.{firstBroken}
+use Rattle.recall.specs.Recall.{reaches, clears, doneWithout}
+use Rattle.recall.specs.RecallCall.{recallAnswer, marksRecalled, marksAfterRecall}
 use Rattle.task_words.specs.Strips.{stripPlace, insideBlock, edgeWord, stripWord, nearestFirst, pastEdges, stripWrittenTo, halfWritten}
 use Rattle.task_words.specs.Writes.{aloneWord, collected, linkWord, linked, finishWord, blockWritten, finished}
 use Rattle.job_spec.specs.Calls.{startAnswer, unmarked, marksAfterStart, stripsAfterStart, started, taskAnswer, stripsAfter, outputAfter, performed, afterTask, afterCalls}
-use Rattle.worked_examples.specs.Examples.{serialExample, rectangleExample, dropoutsExample, afterJob, outputExample, stripsExample, jobExamples, starred, furtherRectangles, dropouts, ExamplesHold}
+use Rattle.job_spec.specs.Steps.{afterStep, afterSteps, stepAnswer, stepAnswers, onMap}
+use Rattle.worked_examples.specs.Examples.{serialExample, rectangleExample, dropoutsExample, afterJob, outputExample, stripsExample, jobExamples, starred, furtherRectangles, dropouts, afterHistory, numbersSaid, rescanExamples, ExamplesHold}
 
 pub examples-hold : ExamplesHold
 unfolding modulus minusOne _⊕_ _⊖_ _⊗_ residue twosComplement signed allBelow coefficientsKept passKept passesKept keepsRules blockCount
@@ -37,5 +41,6 @@ unfolding modulus minusOne _⊕_ _⊖_ _⊗_ residue twosComplement signed allBe
     goesOn stripPlace insideBlock edgeWord stripWord nearestFirst pastEdges stripWrittenTo rowWritten halfWritten aloneWord
     collected linkWord linked finishWord blockWritten rectangleWritten finished startAnswer unmarked cleared marksAfterStart stripsAfterStart
     started lentRows taskAnswer stripsAfter outputAfter performed afterTask afterCalls serialExample rectangleExample dropoutsExample
-    afterJob outputExample stripsExample jobExamples starred furtherRectangles dropouts
+    afterJob outputExample stripsExample jobExamples starred furtherRectangles dropouts allBlocks firstBroken reaches clears doneWithout
+    recallAnswer marksRecalled marksAfterRecall afterStep afterSteps stepAnswer stepAnswers onMap afterHistory numbersSaid rescanExamples
 examples-hold = refl

@@ -1,6 +1,6 @@
 -- The starred examples of document 01, with document 02's changes, in one list, each through the definition that the
 -- contract of its call cites; further rectangles, a map with dropouts, and two jobs worked by hand, their strips word by
--- word after the collects and after all tasks.
+-- word after the collects and after all tasks, one of them with a block scanned again.
 use mathlib.Core.Path.{_≡_}
 use mathlib.Core.List.{List, [], _∷_, _++_, map}
 use Prim.Native.Nat.{ℕ}
@@ -17,8 +17,9 @@ use Rattle.serial.specs.Serial.{serialOutput}
 use Rattle.rectangle.specs.Rectangle.{rectangleCall}
 use Rattle.dropouts.specs.Dropouts.{dropoutsCall}
 use Rattle.tasks.specs.Tasks.{BlockTask}
-use Rattle.task_words.specs.Examples.{WorkedJob, columnJob, rowJob}
+use Rattle.task_words.specs.Examples.{WorkedJob, zeros, columnJob, rowJob}
 use Rattle.job_spec.specs.Calls.{Buffers, started, afterCalls}
+use Rattle.job_spec.specs.Steps.{Step, perform, recall, afterSteps, stepAnswers, onMap}
 use Rattle.filter.specs.PlanFilters.{summedAreaPasses, passOf, unchangedPass, runningSumPass}
 
 -- ---- plan words
@@ -228,10 +229,61 @@ dropouts =
     ∷ dropoutsExample (pos 1 ∷ []) 0 0 3 3 15 0 0
     ∷ []
 
--- The starred examples, further rectangles, dropouts, and strips and outputs of two jobs of order 2 whose last block is
--- short.
+-- ---- a block scanned again
+
+-- The column job, with 5 in the place of its last height, 1: down gives 1, -1, 1, 6 and then up -64, -24, 14, 12.
+abbrev rescannedHeights : List ℤ
+rescannedHeights = pos 1 ∷ pos 0 ∷ pos 2 ∷ pos 5 ∷ []
+
+-- All its tasks are done; then the lower block is recalled, scanned again and collected.
+abbrev collectedAgain : List Step
+collectedAgain =
+    onMap (columnJob .heights) (twoBlocks 1 2) ++ (recall 1 ∷ perform rescannedHeights 0 1 ∷ [])
+
+-- Then the other tasks that the recall cleared are done again: the lower block's up link, and both finishes.
+abbrev doneAgain : List Step
+doneAgain =
+    collectedAgain
+    ++ onMap rescannedHeights (record { task = 2; block = 1 } ∷ record { task = 5; block = 0 } ∷ record { task = 5; block = 1 } ∷ [])
+
+-- The strips of both blocks, lone and linked, by the first word of the lower one's up strip in each half.
+abbrev columnStrips : (lone linked : ℤ) → List ℤ
+columnStrips lone linked =
+    let down = minus 1 ∷ pos 0 ∷ pos 0 ∷ pos 1 ∷ zeros 8 in
+    down ++ (down ++ (zeros 6 ++ (lone ∷ (zeros 11 ++ (linked ∷ zeros 5)))))
+
+-- The lists after steps on started buffers.
+unfoldable pub afterHistory : List Step → Buffers
+afterHistory steps = afterSteps (columnJob .plan) steps (started (columnJob .plan) (lentFor (columnJob .plan)))
+
+-- What each step says, as numbers alone.
+unfoldable pub numbersSaid : List Step → List ℤ
+numbersSaid steps =
+    map (λ answer. pos (numberIn answer)) (stepAnswers (columnJob .plan) steps (started (columnJob .plan) (lentFor (columnJob .plan))))
+
+-- Marks, strips and output with the lower block collected again: what the recall cleared keeps its old words. The same with
+-- all done again: those of the new map. And what is said: a block that is not collected, or not there, is not recalled.
+unfoldable pub rescanExamples : List (Example (List ℤ))
+rescanExamples =
+    record { computed = map pos (afterHistory collectedAgain .marks); expected = pos 0x70000003 ∷ pos 0x70000001 ∷ [] }
+    ∷ wordsExample (afterHistory collectedAgain .strips) (columnStrips (pos 10) (pos 4))
+    ∷ wordsExample (afterHistory collectedAgain .output) (columnJob .outputFinished)
+    ∷ record { computed = map pos (afterHistory doneAgain .marks); expected = pos 0x70000023 ∷ pos 0x70000025 ∷ [] }
+    ∷ wordsExample (afterHistory doneAgain .strips) (columnStrips (pos 10) (pos 12))
+    ∷ wordsExample (afterHistory doneAgain .output) (minus 64 ∷ minus 24 ∷ pos 14 ∷ pos 12 ∷ [])
+    ∷ record {
+      computed = numbersSaid (recall 1 ∷ perform rescannedHeights 0 1 ∷ recall 1 ∷ recall 1 ∷ recall 2 ∷ perform [] 0 1 ∷ []);
+      expected = pos 17 ∷ pos 0 ∷ pos 0 ∷ pos 17 ∷ pos 8 ∷ pos 15 ∷ [];
+    }
+    ∷ []
+
+-- The starred examples, further rectangles, dropouts, strips and outputs of two jobs of order 2 whose last block is short,
+-- and one of them scanned again.
 abbrev pub examples : List (Example (List ℤ))
-examples = starred ++ (furtherRectangles ++ (dropouts ++ (jobExamples columnJob 1 2 ++ jobExamples rowJob 3 4)))
+examples =
+    starred
+    ++ (furtherRectangles
+    ++ (dropouts ++ (jobExamples columnJob 1 2 ++ (jobExamples rowJob 3 4 ++ rescanExamples))))
 
 -- The definitions compute what is given, in every example.
 abbrev pub ExamplesHold : Type 0
