@@ -1,13 +1,11 @@
 -- Clearing a mark: a recall reaches the tasks of a block from one on, so that what stays of its mark are its low bits.
 -- Assumes nothing.
-use mathlib.Core.Path.{_≡_, refl, sym, ap, ap₂, _∙_}
-use mathlib.Core.Bool.{Bool, true, false, not, _&&_, cond, and-true}
+use mathlib.Core.Path.{_≡_, refl, sym, ap, _∙_}
+use mathlib.Core.Bool.{Bool, true, false, not, _&&_, and-true}
 use mathlib.Core.List.{List}
-use Prim.Native.Nat.{ℕ, suc, _+_, _*_, _%_, _^_, _≤_, _<_}
+use Prim.Native.Nat.{ℕ, _+_, _*_, _%_, _^_, _≤_, _<_}
 use native.Mathlib.Omega.{arith}
-use lib.Dec.{ltb}
 use lib.ListN.{set}
-use borrow.Author.Tests.{ltb-true, ltb-false}
 use Rattle.number.specs.Numbers.{one}
 use Rattle.number.specs.KindWords.{wordOf}
 use Rattle.number.proofs.Sums.{total-cut}
@@ -15,57 +13,17 @@ use Rattle.buffer.specs.Lists.{wordAt}
 use Rattle.buffer.specs.Written.{written}
 use Rattle.buffer.proofs.Written.{written-more, written-other}
 use Rattle.grid.specs.declared.Grid.{Grid}
-use Rattle.grid.specs.Grid.{blockTotal, blockNumber, blockRow, blockColumn}
+use Rattle.grid.specs.Grid.{blockTotal}
 use Rattle.grid.specs.Shapes.{positionOf}
-use Rattle.grid.proofs.Blocks.{number-of-block}
 use Rattle.tasks.specs.Tasks.{exists}
 use Rattle.tasks.specs.Marks.{isMarked, markKind, bitAt, markOf}
 use Rattle.tasks.proofs.Marking.{Valid, low-part, valid-only}
 use Rattle.recall.specs.Recall.{reaches, clears, doneWithout}
 use Rattle.recall.specs.Clearing.{firstReached}
-use Rattle.recall.proofs.Closure.{Reached, reached-later, reaches-reached, reached-reaches}
+use Rattle.recall.proofs.Reached.{reaches-reached, reached-reaches, reached-later, reached-from}
 
--- Of the tasks of block j, a recall of block k reaches those from `first` on.
-pub record ReachedFrom (grid : Grid) (k j first : ℕ) : Type 0 where
-  pub link : first ≤ 4
-  pub reached : Reached grid k first j
-  pub not-before : (t : ℕ) → t < first → Reached grid k t j → ⊥
-
-module _ (grid : Grid) (k j : ℕ) where
-  -- The first is the one after a task that is not reached.
-  first-after : (t : ℕ) → t < 4 → (Reached grid k t j → ⊥) → Reached grid k (suc t) j → ReachedFrom grid k j (suc t)
-  first-after t l u r =
-      record { link = omega arith; reached = r; not-before = λ v h e. u (reached-later grid k v t j (omega arith) e) }
-
-  reached-from : ReachedFrom grid k j (firstReached (positionOf grid k) (positionOf grid j))
-  unfolding firstReached positionOf
-  reached-from =
-      by (ltb (blockColumn grid j) (blockColumn grid k)) (ltb (blockColumn grid k) (blockColumn grid j))
-      (ltb (blockRow grid j) (blockRow grid k)) (ltb (blockRow grid k) (blockRow grid j)) refl refl refl refl
-    where
-      by : (left right above below : Bool) → ltb (blockColumn grid j) (blockColumn grid k) ≡ left
-          → ltb (blockColumn grid k) (blockColumn grid j) ≡ right → ltb (blockRow grid j) (blockRow grid k) ≡ above
-          → ltb (blockRow grid k) (blockRow grid j) ≡ below
-          → ReachedFrom grid k j (cond left 4 (cond right 3 (cond above 2 (cond below 1 0))))
-      by true right above below l r a b = first-after 3 (omega arith) (λ u. omega (arith, ltb-true)) tt
-      by false true above below l r a b =
-          first-after 2 (omega arith) (λ u. omega (arith, ltb-true)) (omega (arith, ltb-false))
-      by false false true below l r a b =
-          first-after 1 (omega arith) (λ u. omega (arith, ltb-true)) (omega (arith, ltb-false))
-      by false false false true l r a b =
-          first-after 0 (omega arith) (λ u. let row = ap (blockRow grid) u in omega (arith, ltb-true))
-          (omega (arith, ltb-false), omega (arith, ltb-false))
-      by false false false false l r a b =
-          let row : blockRow grid j ≡ blockRow grid k = omega (arith, ltb-false) in
-          let column : blockColumn grid j ≡ blockColumn grid k = omega (arith, ltb-false) in
-          record {
-            link = omega arith;
-            reached = sym (number-of-block grid j) ∙ ap₂ (blockNumber grid) row column ∙ number-of-block grid k;
-            not-before = λ t h e. absurd (omega arith);
-          }
-
-  pub first-link : firstReached (positionOf grid k) (positionOf grid j) ≤ 4
-  first-link = reached-from .link
+pub first-link : (grid : Grid) (k j : ℕ) → firstReached (positionOf grid k) (positionOf grid j) ≤ 4
+first-link grid k j = reached-from grid k j .least 4 tt
 
 -- What stays of a mark that passes the test.
 module _ (grid : Grid) (k : ℕ) (marks : List ℕ) (valid : Valid grid marks) (j : ℕ) (h : j < blockTotal grid) where
@@ -75,7 +33,9 @@ module _ (grid : Grid) (k : ℕ) (marks : List ℕ) (valid : Valid grid marks) (
   -- A task before the first that is reached stays marked,
   stays : (t : ℕ) → t < first → doneWithout grid (isMarked marks) k t j ≡ isMarked marks t j
   unfolding doneWithout clears
-  stays t l = by (exists grid t j) (reaches grid k t j) (λ e. reached-from grid k j .not-before t l (reaches-reached grid k t j e))
+  stays t l =
+      by (exists grid t j) (reaches grid k t j)
+      (λ e. let least = reached-from grid k j .least t (reaches-reached grid k t j e) in omega arith)
     where
       by : (exist reach : Bool) → (reach ≡ true → ⊥) → (isMarked marks t j && not (exist && reach)) ≡ isMarked marks t j
       by exist true u = absurd (u refl)
@@ -98,8 +58,9 @@ module _ (grid : Grid) (k : ℕ) (marks : List ℕ) (valid : Valid grid marks) (
   spared-mark =
       ap (wordOf markKind)
       (low-part (wordAt marks j) first
-      ∙ sym (total-cut (bitAt (isMarked marks) j) (bitAt (doneWithout grid (isMarked marks) k) j) first 6 (omega (arith, first-link grid k j))
-      (λ t l. ap (λ x. one x * 2 ^ t) (stays t l)) (λ t l b. rw (cleared t l b) (omega arith))))
+      ∙ sym (total-cut (bitAt (isMarked marks) j) (bitAt (doneWithout grid (isMarked marks) k) j) first 6
+      (omega (arith, first-link grid k j)) (λ t l. ap (λ x. one x * 2 ^ t) (stays t l))
+      (λ t l b. rw (cleared t l b) (omega arith))))
 
 -- ---- mark after mark
 

@@ -1,5 +1,5 @@
 -- A recall clears exactly what needs its block, and what it spares has only needs that it spares. Assumes nothing.
-use mathlib.Core.Path.{_≡_, refl, sym, ap, ap₂, _∙_}
+use mathlib.Core.Path.{_≡_, refl, sym, ap, _∙_}
 use mathlib.Core.Logic.{⊎-elim}
 use mathlib.Core.Bool.{Bool, true, false, not, true≢false}
 use mathlib.Core.List.{List·Memᴰ, List·Memᴰ·head, Memᴰ·append-left, Memᴰ·append-right}
@@ -7,135 +7,51 @@ use mathlib.Core.Option.{some}
 use Prim.Native.Nat.{ℕ, zero, suc, _+_, _<_, _≤_, min}
 use native.Mathlib.Omega.{arith}
 use native.Mathlib.Nat.{eq-or-lt-of-le}
-use lib.Dec.{eqb, leb}
-use borrow.Author.Tests.{lt-ltb, leb-true, le-leb, eqb-true, eq-eqb, ne-eqb}
+use borrow.Author.Tests.{lt-ltb}
 use Rattle.number.proofs.Tests.{and-left, and-right, and-both, lt-or-ge}
 use Rattle.axis.specs.Axis.{Direction, forward, backward, axisOf, directionOf}
 use Rattle.grid.specs.declared.Grid.{Grid}
-use Rattle.grid.specs.Grid.{blockTotal, blockNumber, blockRow, blockColumn, lineIndex, lineStep, hasBefore, stepBefore, neighbour}
-use Rattle.grid.proofs.Blocks.{number-of-block}
+use Rattle.grid.specs.Grid.{blockTotal, lineIndex, lineStep, hasBefore, stepBefore, neighbour}
+use Rattle.grid.specs.Shapes.{positionOf}
 use Rattle.grid.proofs.Neighbours.{StandsBefore, neighbour-stands, index-below}
 use Rattle.tasks.specs.Tasks.{exists, ownCollect, needsOf, allDone}
 use Rattle.tasks.proofs.Existence.{exists-block, exists-task, neighbour-linked}
 use Rattle.tasks.proofs.NeedLists.{all-member}
 use Rattle.tasks.proofs.Needs.{linkNeeds, needs-are, needs-all, distance, nearer}
-use Rattle.recall.specs.Recall.{NeedsBlock, its-own, through, reaches, clears, ClearsWhatNeedsIt, SparedNeedsSpared}
+use Rattle.recall.specs.Recall.{NeedsBlock, its-own, through, clears, ClearsWhatNeedsIt, SparedNeedsSpared}
+use Rattle.recall.specs.Clearing.{firstReached}
+use Rattle.recall.proofs.Reached.{Reached, reaches-reached, reached-reaches, reached-later, Before, reached-from}
 
--- ---- where a task is reached
+-- ---- a link that is reached, along its pass
 
--- The places of `reaches` in words of rows and columns.
-abbrev pub Reached : Grid → (k t j : ℕ) → Type 0
-Reached grid k zero j = j ≡ k
-Reached grid k (suc zero) j = (blockColumn grid j ≡ blockColumn grid k) × (blockRow grid k ≤ blockRow grid j)
-Reached grid k (suc (suc zero)) j = blockColumn grid j ≡ blockColumn grid k
-Reached grid k (suc (suc (suc zero))) j = blockColumn grid k ≤ blockColumn grid j
-Reached grid k (suc (suc (suc (suc t)))) j = Unit {0}
+module _ (grid : Grid) (k j : ℕ) where
+  -- The link of a pass that is reached at the neighbour where the pass comes from is reached at the block.
+  reached-on : (pass i : ℕ) → pass < 4 → StandsBefore grid j pass i → Reached grid k (suc pass) i → Reached grid k (suc pass) j
+  reached-on zero i l at r = (sym (at .across-pass) ∙ r .0, omega arith)
+  reached-on (suc zero) i l at r = sym (at .across-pass) ∙ r
+  reached-on (suc (suc zero)) i l at r = omega arith
+  reached-on (suc (suc (suc zero))) i l at r = tt
+  reached-on (suc (suc (suc (suc pass)))) i l at r = absurd (omega arith)
 
--- Index i of a line comes before index j, as a pass in this direction has them,
-abbrev Before : Direction → (i j : ℕ) → Type 0
-Before forward i j = i < j
-Before backward i j = j < i
+  -- Where the pass comes from block k the link is reached at that neighbour too,
+  reached-before : (pass i : ℕ) → pass < 4 → Before (directionOf pass) (lineIndex grid k pass) (lineIndex grid j pass)
+      → StandsBefore grid j pass i → Reached grid k (suc pass) j → Reached grid k (suc pass) i
+  reached-before zero i l b at r = (at .across-pass ∙ r .0, omega arith)
+  reached-before (suc zero) i l b at r = at .across-pass ∙ r
+  reached-before (suc (suc zero)) i l b at r = omega arith
+  reached-before (suc (suc (suc zero))) i l b at r = tt
+  reached-before (suc (suc (suc (suc pass)))) i l b at r = absurd (omega arith)
 
--- so that there is one next before j.
-before-there : (d : Direction) (count i j : ℕ) → i < count → Before d i j → hasBefore d count j ≡ true
-before-there forward count i j h b = lt-ltb 0 j (omega arith)
-before-there backward count i j h b = lt-ltb (j + 1) count (omega arith)
-
--- A neighbour that a pass comes from, where the link of the pass is reached.
-record Brought (grid : Grid) (k pass j : ℕ) : Type 0 where
-  from : ℕ
-  beside : neighbour grid j pass ≡ some from
-  reached : Reached grid k (suc pass) from
-
-module _ (grid : Grid) (k : ℕ) where
-  from-left-links : (t j : ℕ) → 4 ≤ t → reaches grid k t j ≡ true
-  unfolding reaches
-  from-left-links t j h =
-      rw (ne-eqb t 0 (λ e. omega arith), ne-eqb t 1 (λ e. omega arith), ne-eqb t 2 (λ e. omega arith), ne-eqb t 3 (λ e. omega arith))
-
-  pub reaches-reached : (t j : ℕ) → reaches grid k t j ≡ true → Reached grid k t j
-  unfolding reaches
-  reaches-reached zero j e = eqb-true j k e
-  reaches-reached (suc zero) j e =
-      let same = eqb (blockColumn grid j) (blockColumn grid k) in
-      let below = leb (blockRow grid k) (blockRow grid j) in
-      (eqb-true _ _ (and-left same below e), leb-true _ _ (and-right same below e))
-  reaches-reached (suc (suc zero)) j e = eqb-true _ _ e
-  reaches-reached (suc (suc (suc zero))) j e = leb-true _ _ e
-  reaches-reached (suc (suc (suc (suc t)))) j e = tt
-
-  pub reached-reaches : (t j : ℕ) → Reached grid k t j → reaches grid k t j ≡ true
-  unfolding reaches
-  reached-reaches zero j r = eq-eqb j k r
-  reached-reaches (suc zero) j r = and-both (eq-eqb _ _ (r .0)) (le-leb _ _ (r .1))
-  reached-reaches (suc (suc zero)) j r = eq-eqb _ _ r
-  reached-reaches (suc (suc (suc zero))) j r = le-leb _ _ r
-  reached-reaches (suc (suc (suc (suc t)))) j r = from-left-links (suc (suc (suc (suc t)))) j (omega arith)
-
-  -- Where a task is reached the next one is,
-  reached-next : (t j : ℕ) → Reached grid k t j → Reached grid k (suc t) j
-  reached-next zero j r = rw r (refl, omega arith)
-  reached-next (suc zero) j r = r .0
-  reached-next (suc (suc zero)) j r = omega arith
-  reached-next (suc (suc (suc t))) j r = tt
-
-  -- and so is every later one.
-  pub reached-later : (u t j : ℕ) → u ≤ t → Reached grid k u j → Reached grid k t j
-  reached-later u zero j h r = let z : u ≡ 0 = omega arith in rw z at r
-  reached-later u (suc t) j h r =
-      ⊎-elim (λ (q : u ≡ suc t). rw q at r) (λ (l : u < suc t). reached-next t j (reached-later u t j (omega arith) r))
-      (eq-or-lt-of-le {n = u} {m = suc t} h)
-
-  module _ (j : ℕ) where
-    -- The link of a pass that is reached at the neighbour where the pass comes from is reached at the block.
-    reached-on : (pass i : ℕ) → pass < 4 → StandsBefore grid j pass i → Reached grid k (suc pass) i
-        → Reached grid k (suc pass) j
-    reached-on zero i l at r = (sym (at .across-pass) ∙ r .0, omega arith)
-    reached-on (suc zero) i l at r = sym (at .across-pass) ∙ r
-    reached-on (suc (suc zero)) i l at r = omega arith
-    reached-on (suc (suc (suc zero))) i l at r = tt
-    reached-on (suc (suc (suc (suc pass)))) i l at r = absurd (omega arith)
-
-    -- Where a link is reached and the task before it is not, its pass comes from the recalled block,
-    comes-from : (pass : ℕ) → pass < 4 → (Reached grid k pass j → ⊥) → Reached grid k (suc pass) j
-        → Before (directionOf pass) (lineIndex grid k pass) (lineIndex grid j pass)
-    comes-from zero l u r =
-        ⊎-elim
-        (λ (e : blockRow grid k ≡ blockRow grid j).
-        absurd (u (sym (number-of-block grid j) ∙ ap₂ (blockNumber grid) (sym e) (r .0) ∙ number-of-block grid k)))
-        (λ (m : blockRow grid k < blockRow grid j). m) (eq-or-lt-of-le (r .1))
-    comes-from (suc zero) l u r =
-        ⊎-elim (λ (m : blockRow grid j < blockRow grid k). m) (λ (m : blockRow grid k ≤ blockRow grid j). absurd (u (r, m)))
-        (lt-or-ge (blockRow grid j) (blockRow grid k))
-    comes-from (suc (suc zero)) l u r =
-        ⊎-elim (λ (e : blockColumn grid k ≡ blockColumn grid j). absurd (u (sym e)))
-        (λ (m : blockColumn grid k < blockColumn grid j). m) (eq-or-lt-of-le r)
-    comes-from (suc (suc (suc zero))) l u r =
-        ⊎-elim (λ (m : blockColumn grid j < blockColumn grid k). m) (λ (m : blockColumn grid k ≤ blockColumn grid j). absurd (u m))
-        (lt-or-ge (blockColumn grid j) (blockColumn grid k))
-    comes-from (suc (suc (suc (suc pass)))) l u r = absurd (omega arith)
-
-    -- and the link is reached at the neighbour that it comes from.
-    reached-before : (pass i : ℕ) → pass < 4 → Before (directionOf pass) (lineIndex grid k pass) (lineIndex grid j pass)
-        → StandsBefore grid j pass i → Reached grid k (suc pass) j → Reached grid k (suc pass) i
-    reached-before zero i l b at r = (at .across-pass ∙ r .0, omega arith)
-    reached-before (suc zero) i l b at r = at .across-pass ∙ r
-    reached-before (suc (suc zero)) i l b at r = omega arith
-    reached-before (suc (suc (suc zero))) i l b at r = tt
-    reached-before (suc (suc (suc (suc pass)))) i l b at r = absurd (omega arith)
-
-    brought : (pass : ℕ) → k < blockTotal grid → j < blockTotal grid → pass < 4 → (Reached grid k pass j → ⊥)
-        → Reached grid k (suc pass) j → Brought grid k pass j
-    unfolding neighbour
-    brought pass here inside l u r =
-        let from = comes-from pass l u r in
-        let beside : neighbour grid j pass ≡ some (stepBefore (directionOf pass) (lineStep grid pass) j) =
-        rw (before-there (directionOf pass) _ _ _ (index-below grid k here (axisOf pass)) from) in
-        record {
-          from = stepBefore (directionOf pass) (lineStep grid pass) j;
-          beside = beside;
-          reached = reached-before pass _ l from (neighbour-stands grid j pass _ inside beside) r;
-        }
+  -- which there is.
+  neighbour-there : (pass : ℕ) → k < blockTotal grid → Before (directionOf pass) (lineIndex grid k pass) (lineIndex grid j pass)
+      → neighbour grid j pass ≡ some (stepBefore (directionOf pass) (lineStep grid pass) j)
+  unfolding neighbour
+  neighbour-there pass here before =
+      rw (has-before (directionOf pass) _ _ _ (index-below grid k here (axisOf pass)) before)
+    where
+      has-before : (d : Direction) (count m n : ℕ) → m < count → Before d m n → hasBefore d count n ≡ true
+      has-before forward count m n h b = lt-ltb 0 n (omega arith)
+      has-before backward count m n h b = lt-ltb (n + 1) count (omega arith)
 
 -- ---- what is spared has only needs that are spared
 
@@ -168,7 +84,8 @@ spared-needs-spared = spared-needs
 
 needs-cleared : (grid : Grid) (k : ℕ) {t j : ℕ} → NeedsBlock grid k t j → clears grid k t j ≡ true
 unfolding clears
-needs-cleared grid k (its-own t there) = and-both there (reached-reaches grid k t k (reached-later grid k 0 t k (omega arith) refl))
+needs-cleared grid k (its-own t there) =
+    and-both there (reached-reaches grid k t k (reached-later grid k 0 t k (omega arith) refl))
 needs-cleared grid k (through t j there need m n) = by (clears grid k t j) refl (needs-cleared grid k n)
   where
     by : (x : Bool) → clears grid k t j ≡ x → clears grid k (need .task) (need .block) ≡ true → x ≡ true
@@ -197,28 +114,32 @@ need-member grid (suc t) j pass i l b e =
     rw (needs-are grid t j (omega arith)) (Memᴰ·append-right (ownCollect j) (link-member grid j pass i (min (suc t) 4) b e))
 
 module _ (grid : Grid) (k : ℕ) (here : k < blockTotal grid) where
-  -- Tasks from t on need block k where task t is reached.
+  -- Where task u is reached, it and every later task of the block needs block k.
   Needing : ℕ → Type 0
   Needing u = (t j : ℕ) → u ≤ t → exists grid t j ≡ true → Reached grid k u j → NeedsBlock grid k t j
 
-  -- Along one pass, block by block from where it begins: the link at the neighbour needs block k, or the pass has just come to it.
+  -- Along one pass, block by block from where it begins: an earlier task is reached already, or the link at the neighbour
+  -- that the pass comes from needs block k.
   needing-along : (pass : ℕ) → pass < 4 → Needing pass → (n t j : ℕ) → distance (directionOf pass) (blockTotal grid) j < n
       → suc pass ≤ t → exists grid t j ≡ true → Reached grid k (suc pass) j → NeedsBlock grid k t j
   unfolding Needing
-  needing-along pass l before zero t j near h there r = absurd (omega arith)
-  needing-along pass l before (suc n) t j near h there r = by (needing-along pass l before n) (reaches grid k pass j) refl
-    where
-      by : ((u i : ℕ) → distance (directionOf pass) (blockTotal grid) i < n → suc pass ≤ u → exists grid u i ≡ true
-          → Reached grid k (suc pass) i → NeedsBlock grid k u i)
-          → (x : Bool) → reaches grid k pass j ≡ x → NeedsBlock grid k t j
-      by closer true e = before t j (omega arith) there (reaches-reached grid k pass j e)
-      by closer false e =
-          let inside = exists-block grid t j there in
-          let x = brought grid k j pass here inside l (λ p. true≢false (sym (reached-reaches grid k pass j p) ∙ e)) r in
-          through t j there (record { task = suc pass; block = x .from })
-          (need-member grid t j pass (x .from) (exists-task grid t j there) (omega arith) (x .beside))
-          (closer (suc pass) (x .from) (omega (arith, nearer grid j pass (x .from) inside (x .beside))) (omega arith)
-          (neighbour-linked grid j pass (x .from) inside l (x .beside)) (x .reached))
+  needing-along pass l earlier zero t j near h there r = absurd (omega arith)
+  needing-along pass l earlier (suc n) t j near h there r =
+      let first = firstReached (positionOf grid k) (positionOf grid j) in
+      let from = reached-from grid k j in
+      let inside = exists-block grid t j there in
+      let i = stepBefore (directionOf pass) (lineStep grid pass) j in
+      ⊎-elim
+      (λ (e : first ≡ suc pass).
+      let before = from .comes-from pass e in
+      let beside = neighbour-there grid k j pass here before in
+      through t j there (record { task = suc pass; block = i })
+      (need-member grid t j pass i (exists-task grid t j there) (omega arith) beside)
+      (needing-along pass l earlier n (suc pass) i (omega (arith, nearer grid j pass i inside beside)) (omega arith)
+      (neighbour-linked grid j pass i inside l beside)
+      (reached-before grid k j pass i l before (neighbour-stands grid j pass i inside beside) r)))
+      (λ (e : first < suc pass). earlier t j (omega arith) there (reached-later grid k first pass j (omega arith) (from .reached)))
+      (eq-or-lt-of-le {n = first} {m = suc pass} (from .least (suc pass) r))
 
   needing : (u : ℕ) → u ≤ 4 → Needing u
   unfolding Needing
@@ -232,7 +153,8 @@ module _ (grid : Grid) (k : ℕ) (here : k < blockTotal grid) where
   cleared-needs t j e =
       let there = and-left (exists grid t j) _ e in
       ⊎-elim
-      (λ (l : t < 4). needing t (omega arith) t j (omega arith) there (reaches-reached grid k t j (and-right (exists grid t j) _ e)))
+      (λ (l : t < 4).
+      needing t (omega arith) t j (omega arith) there (reaches-reached grid k t j (and-right (exists grid t j) _ e)))
       (λ (l : 4 ≤ t). needing 4 (omega arith) t j l there tt) (lt-or-ge t 4)
 
 pub clears-what-needs-it : ClearsWhatNeedsIt

@@ -1,3 +1,4 @@
+pub mod Reached
 pub mod Closure
 pub mod Recalled
 pub mod Clearing

@@ -82,7 +82,9 @@ clearable plan marks k e =
             lent = record { kept = rules plan (enough .rules) .grid-kept; enough = enough .of7-long };
             inside = ltb-true k (blockTotal (plan .grid)) (not-false (ltb k (blockTotal (plan .grid))) (there .first));
           };
-      valid = none-broken-valid (plan .grid) marks (ltb-false (firstBroken (plan .grid) marks) (blockTotal (plan .grid)) (whole .first));
+      valid =
+          none-broken-valid (plan .grid) marks
+          (ltb-false (firstBroken (plan .grid) marks) (blockTotal (plan .grid)) (whole .first));
     }
 
 -- ---- the outcome of all tests, and the marks after the call

@@ -6,7 +6,7 @@ use Prim.Native.Nat.{ℕ, _≤_, _<_}
 use native.Mathlib.Omega.{arith}
 use lib.Dec.{ltb}
 use lib.ListN.{length}
-use borrow.Author.Tests.{ltb-true, lt-ltb, le-ltb}
+use borrow.Author.Tests.{ltb-true, le-ltb}
 use Rattle.refusal.specs.Refusals.{accepted}
 use Rattle.refusal.specs.Table.{_at_when_, firstDue}
 use Rattle.refusal.proofs.Table.{accepted-before}
@@ -24,27 +24,25 @@ use Rattle.tasks.specs.Marks.{isMarked, markOf, Shows}
 use Rattle.tasks.proofs.Counting.{Only}
 use Rattle.tasks.proofs.Marking.{Valid, mark-same, shows-marked, shows-valid, valid-shows}
 use Rattle.tasks.proofs.Verdicts.{below-whole, all-valid, first-least}
-use Rattle.report.specs.Report.{firstBroken, marksRows, lentToReport}
+use Rattle.report.specs.Report.{firstBroken, lentToReport}
 use Rattle.recall.specs.Recall.{clears, doneWithout}
 use Rattle.recall.specs.RecallCall.{recallRows, recallAnswer, marksRecalled, RefusedInOrder, ClearsMarksOfWhatNeedsIt, OtherMarksStay}
 use Rattle.recall.proofs.Closure.{clears-what-needs-it}
+use Rattle.recall.proofs.RecallAnswers.{ownRows, no-block, mark-broken, not-collected, collected}
 
 -- ---- the answer
 
 -- Beside a record that keeps the rules and enough marks, what a recall tests of its own decides.
 own-tests : (plan : Plan) (marks : List ℕ) (k : ℕ) → keepsRules plan ≡ true → neededMarks plan ≤ length marks
-    → recallAnswer plan marks k ≡ firstDue (recallRows (plan .grid) (isMarked marks) (marksRows (plan .grid) marks) k)
+    → recallAnswer plan marks k ≡ firstDue (ownRows (plan .grid) marks k)
 unfolding recallAnswer
 own-tests plan marks k kept enough =
-    accepted-before (lentRows plan (lentToReport marks)) _ (sym (only-accepted plan (Marks (length marks)) kept enough))
+    accepted-before (lentRows plan (lentToReport marks)) (ownRows (plan .grid) marks k)
+    (sym (only-accepted plan (Marks (length marks)) kept enough))
 
--- Where no mark is broken that is whether the block is in the map and collected.
-whole-marks : (grid : Grid) (marks : List ℕ) (k : ℕ) → Valid grid marks
-    → firstDue (recallRows grid (isMarked marks) (marksRows grid marks) k) ≡ firstDue (recallRows grid (isMarked marks) [] k)
+none-broken : (grid : Grid) (marks : List ℕ) → Valid grid marks → blockTotal grid ≤ firstBroken grid marks
 unfolding firstBroken
-whole-marks grid marks k valid =
-    let whole = all-valid grid marks valid in
-    rw (le-ltb (firstBroken grid marks) (blockTotal grid) (omega arith))
+none-broken grid marks valid = omega (arith, all-valid grid marks valid)
 
 pub refused-in-order : RefusedInOrder
 unfolding firstBroken
@@ -52,21 +50,22 @@ refused-in-order plan marks k kept enough =
     let grid = plan .grid in
     let tested = own-tests plan marks k kept enough in
     record {
-      no-block = λ h. tested ∙ rw (le-ltb k (blockTotal grid) h);
+      no-block = λ h. tested ∙ sym (no-block grid marks k h);
       mark-broken = λ h j l broken before.
           let least = first-least grid marks j l (below-whole grid marks j (omega arith) before) broken in
-          tested ∙ rw (lt-ltb k (blockTotal grid) h, ← least, lt-ltb j (blockTotal grid) l);
-      not-collected = λ h valid e. tested ∙ whole-marks grid marks k valid ∙ rw (lt-ltb k (blockTotal grid) h, e);
-      collected = λ h valid e. tested ∙ whole-marks grid marks k valid ∙ rw (lt-ltb k (blockTotal grid) h, e);
+          tested ∙ sym (mark-broken grid marks k h j least l);
+      not-collected = λ h valid e. tested ∙ sym (not-collected grid marks k h _ refl (none-broken grid marks valid) e);
+      collected = λ h valid e. tested ∙ sym (collected grid marks k h _ refl (none-broken grid marks valid) e);
     }
 
 -- Enough marks that show what is done are answered by what is done.
-pub recall-answered : (plan : Plan) → keepsRules plan ≡ true → (done : ℕ → ℕ → Bool) → Only (plan .grid) done → (marks : List ℕ)
-    → neededMarks plan ≤ length marks → Shows (plan .grid) done marks → (k : ℕ)
+pub recall-answered : (plan : Plan) → keepsRules plan ≡ true → (done : ℕ → ℕ → Bool) → Only (plan .grid) done
+    → (marks : List ℕ) → neededMarks plan ≤ length marks → Shows (plan .grid) done marks → (k : ℕ)
     → recallAnswer plan marks k ≡ firstDue (recallRows (plan .grid) done [] k)
 recall-answered plan kept done only marks enough shows k =
-    own-tests plan marks k kept enough ∙ whole-marks (plan .grid) marks k (shows-valid (plan .grid) done marks shows only)
-    ∙ by (ltb k (blockTotal (plan .grid))) refl
+    let whole = none-broken (plan .grid) marks (shows-valid (plan .grid) done marks shows only) in
+    own-tests plan marks k kept enough
+    ∙ rw (le-ltb (firstBroken (plan .grid) marks) (blockTotal (plan .grid)) whole) (by (ltb k (blockTotal (plan .grid))) refl)
   where
     by : (inside : Bool) → ltb k (blockTotal (plan .grid)) ≡ inside
         → firstDue (8 at 0 when not inside ∷ 17 at 0 when not (isMarked marks 0 k) ∷ [])
@@ -96,7 +95,9 @@ module _ (grid : Grid) (k : ℕ) (marks : List ℕ) where
 pub clears-marks-of-what-needs-it : ClearsMarksOfWhatNeedsIt
 unfolding doneWithout
 clears-marks-of-what-needs-it grid marks enough k here t j l h =
-    let stays = shows-marked grid (doneWithout grid (isMarked marks) k) (marksRecalled grid k marks) (recalled-at grid k marks enough) t j l h in
+    let stays =
+    shows-marked grid (doneWithout grid (isMarked marks) k) (marksRecalled grid k marks) (recalled-at grid k marks enough) t j l h
+    in
     let (needed, needs) = clears-what-needs-it grid k t j here in (
       λ n. stays ∙ rw (needed n) (and-false (isMarked marks t j)),
       λ free. stays ∙ by (clears grid k t j) (λ c. free (needs c)),
@@ -107,8 +108,8 @@ clears-marks-of-what-needs-it grid marks enough k here t j l h =
     by false u = and-true (isMarked marks t j)
 
 -- The marks after a recall show what is done without what it clears.
-pub recalled-shows : (grid : Grid) (done : ℕ → ℕ → Bool) (marks : List ℕ) → blockTotal grid ≤ length marks → Shows grid done marks
-    → (k : ℕ) → Shows grid (doneWithout grid done k) (marksRecalled grid k marks)
+pub recalled-shows : (grid : Grid) (done : ℕ → ℕ → Bool) (marks : List ℕ) → blockTotal grid ≤ length marks
+    → Shows grid done marks → (k : ℕ) → Shows grid (doneWithout grid done k) (marksRecalled grid k marks)
 unfolding doneWithout
 recalled-shows grid done marks enough shows k j h =
     recalled-at grid k marks enough j h

@@ -80,8 +80,9 @@ fn clear_marks(grid: Grid, recalled: usize, marks: &mut [u32])
     }
 }
 
-// The first task of a block that a recall reaches; it reaches all later ones. Left of the recalled block these are the
-// left link and finish, right of it the right link too, above it the up link too, below it the down link too.
+// The first task of a block that a recall reaches; it reaches all later ones. In columns left of the recalled block these
+// are the left link and finish, right of it the right link too; in its own column, above it the up link too, below it the
+// down link too; of the block itself all.
 fn first_reached(recalled: Position, at: Position) -> usize
     ensures { λ r. ⌜ r ≡ firstReached recalled at ⌝ }
 {

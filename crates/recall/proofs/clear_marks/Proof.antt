@@ -28,10 +28,14 @@ at-start c = c .before .before .before .before
 abbrev at-loop : tie.After-first-reached Inv-loop μ-loop → tie.At-loop Inv-loop μ-loop
 at-loop c = c .before .before .before .before
 
+-- Which task is the first that is reached.
 first-known : (c : tie.After-first-reached Inv-loop μ-loop)
     → let a = at-start (at-loop c) .args in
-    c .first-reached .result ≡ firstReached (positionOf (a .grid) (a .recalled)) (positionOf (a .grid) (at-loop c .loop .block))
-first-known c = c .first-reached .ensures ∙ ap₂ firstReached (at-loop c .before .position .ensures) (c .before .position2 .ensures)
+    c .first-reached .result
+    ≡ firstReached (positionOf (a .grid) (a .recalled)) (positionOf (a .grid) (at-loop c .loop .block))
+first-known c =
+    c .first-reached .ensures
+    ∙ ap₂ firstReached (at-loop c .before .position .ensures) (c .before .position2 .ensures)
 
 -- ---- needs
 
@@ -75,11 +79,12 @@ loop-again : tie.Need-loop-again Inv-loop μ-loop
 loop-again c =
     let loop = at-loop (c .before) in
     let start = at-start loop in
-    let inside : loop .loop .block < blockTotal (start .args .grid) = omega (arith, loop .before .before .blocks2 .ensures) in (
+    let a = start .args in
+    let inside : loop .loop .block < blockTotal (a .grid) = omega (arith, loop .before .before .blocks2 .ensures) in (
       omega arith,
       length-set (loop .loop .marks) _ _ ∙ loop .loop .inv .1,
-      recalled-next (start .args .grid) (start .args .recalled) (start .args .marks .now) (start .pre .valid) (loop .loop .block) inside
-          (loop .loop .marks) (loop .loop .inv .2) (first-known (c .before)) (c .first-tasks-of .ensures),
+      recalled-next (a .grid) (a .recalled) (a .marks .now) (start .pre .valid) _ inside _ (loop .loop .inv .2)
+          (first-known (c .before)) (c .first-tasks-of .ensures),
     )
 
 same-length : tie.Need-same-length Inv-loop μ-loop

@@ -36,7 +36,8 @@ first-broken-requires c κs = search needs
 returns-2 : tie.Need-returns-2
 returns-2 c =
     let past = c .before .before in
-    mark-broken _ _ _ (inside past) _ (c .before .first-broken .ensures) (rw (past .before .blocks2 .ensures) at (c .if2 .taken))
+    mark-broken _ _ _ (inside past) _ (c .before .first-broken .ensures)
+    (rw (past .before .blocks2 .ensures) at (c .if2 .taken))
 
 is-marked-requires : tie.Need-is-marked-requires
 is-marked-requires c κs = (omega arith, omega (arith, inside (looked c .before)))

@@ -34,7 +34,8 @@ returns : tie.Need-returns
 returns c =
     let cleared = c .before .before in
     let told = accepted-at cleared in
-    recall-accepted _ _ _ _ (answered told .recall-outcome .ensures) (told .enum-told .given .1) _ (cleared .clear-marks .ensures)
+    recall-accepted _ _ _ _ (answered told .recall-outcome .ensures) (told .enum-told .given .1) _
+    (cleared .clear-marks .ensures)
 
 same-length-2 : tie.Need-same-length-2
 same-length-2 c = search needs
