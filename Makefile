@@ -13,6 +13,7 @@ library:
 
 bench: library
 	@cd rust && cargo run --release --offline --quiet --bin bench -- --svg ../docs/benchmarks.svg
+	@cd rust && cargo run --release --offline --quiet --bin rescan
 
 # The random tests for longer than the gate does; one of them runs the program calls_run.
 soak: library

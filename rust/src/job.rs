@@ -1,4 +1,4 @@
-//! Jobs: start, tasks, report.
+//! Jobs: start, tasks, report, recall.
 
 #[cfg(doc)]
 use crate::Sizes;
@@ -20,10 +20,11 @@ extern "C" {
         output_len: usize,
     ) -> u64;
     fn mzg_report(plan: *const Plan, marks: *const u32, marks_len: usize, progress: *mut Progress) -> u64;
+    fn mzg_recall(plan: *const Plan, block: usize, marks: *mut u32, marks_len: usize) -> u64;
 }
 
-/// Starts a job: no task is marked, and the strips are 0. Needs [`Sizes::marks`] marks and [`Sizes::strips`] strip
-/// words.
+/// Starts a job: no task is marked, and all strips, lone and linked, are 0. Needs [`Sizes::marks`] marks and
+/// [`Sizes::strips`] strip words.
 ///
 /// # Errors
 /// 6, 7 (marks), 14 (strips).
@@ -34,7 +35,8 @@ pub fn start(plan: &Plan, marks: &mut [u32], strips: &mut [u64]) -> Result<(), R
 }
 
 /// Performs one task on one block; collect and finish read dropouts as 0. Needs the lengths of [`Sizes`]: `pixels` map
-/// and output words, `marks`, `strips`.
+/// and output words, `marks`, `strips`. All calls of a job are lent one map; a block of it may change while it is not
+/// collected, as before its collect or after its [`recall`].
 ///
 /// # Errors
 /// 6, then 7 (marks), 14 (strips), 15 (map) and 16 (output), also where the task does not read or write that buffer;
@@ -103,4 +105,43 @@ pub fn report_into(plan: &Plan, marks: &[u32], progress: &mut Progress) -> Resul
     // SAFETY: the record and the marks are readable, the marks for their length, and the progress is writable; borrowed
     // mutably, it overlaps nothing.
     Refusal::check(unsafe { mzg_report(plan, marks.as_ptr(), marks.len(), progress) })
+}
+
+/// Recalls a block that is scanned again: clears its marks and those of every task that needs it, directly or through
+/// others, and no further mark. Strips and output are not lent: what a cleared task wrote stays until it is done again.
+/// Needs [`Sizes::marks`] marks, and looks at all of them.
+///
+/// # Errors
+/// 6, 7 (marks), 8 (no such block), 9, 17 (the block is not collected).
+///
+/// # One block rescanned
+/// Recall the block, scan it again, and perform what the report names until it names none. Marks, strips and output are
+/// then those of a job that was started on the new map. The heights of the other blocks must not have changed since they
+/// were collected, even for a time: what was worked out from them would stay.
+///
+/// ```
+/// use mulzhegat::{job, plan, Plan};
+/// let plan = Plan::summed(2, 3, 2);
+/// let sizes = plan::sizes(&plan).unwrap();
+/// let mut marks = vec![0; sizes.marks as usize];
+/// let mut strips = vec![0; sizes.strips as usize];
+/// let mut output = vec![0; sizes.pixels as usize];
+/// job::start(&plan, &mut marks, &mut strips).unwrap();
+/// let mut perform_all = |map: &[i32], marks: &mut [u32]| {
+///     while let Some((task, block)) = job::report(&plan, marks).unwrap().ready_task() {
+///         job::perform(&plan, task.number(), block, map, marks, &mut strips, &mut output).unwrap();
+///     }
+///     output.clone()
+/// };
+/// // A chip lies on the last column, which is block 1.
+/// let mut map = [1, 2, 903, 4, 5, 906];
+/// assert_eq!(perform_all(&map, &mut marks), [1, 3, 906, 5, 12, 1821]);
+/// job::recall(&plan, 1, &mut marks).unwrap();
+/// (map[2], map[5]) = (3, 6);
+/// assert_eq!(perform_all(&map, &mut marks), [1, 3, 6, 5, 12, 21]);
+/// ```
+pub fn recall(plan: &Plan, block: usize, marks: &mut [u32]) -> Result<(), Refusal> {
+    // SAFETY: the record is readable and the marks are writable for their length; borrowed mutably, they overlap
+    // nothing.
+    Refusal::check(unsafe { mzg_recall(plan, block, marks.as_mut_ptr(), marks.len()) })
 }

@@ -4,7 +4,8 @@
 //! - [`serial`]: the four passes over a whole map, and the sum over a rectangle of a summed-area table.
 //! - [`macros`]: total and number of pixels of a rectangle as macro variables of a control, exact or vacant.
 //! - [`dropouts`]: how many pixels of a rectangle the laser's head has not seen.
-//! - [`job`]: start a job, perform its tasks in any order that respects their needs, report progress.
+//! - [`job`]: start a job, perform its tasks in any order that respects their needs, report progress, recall a block
+//!   that is scanned again.
 //!
 //! A map has rows * columns heights, row after row. Where the beam gets no return the head writes
 //! [`dropouts::DROPOUT`]: collect and finish of a job and the serial passes read it as 0, and every other height as it

@@ -21,7 +21,7 @@ pub enum Refusal {
     /// 7: the marks, the plan writer's words or the rectangle's table are too short; strips, map and output have
     /// numbers of their own.
     BufferTooShort,
-    /// 8: no such block or task there.
+    /// 8: no such block, or the block has no such task.
     NoSuchTask,
     /// 9: a mark looked at has a wrong kind or a spare bit; the least such block.
     MarkBroken(u32),
@@ -37,6 +37,8 @@ pub enum Refusal {
     MapTooShort,
     /// 16: the output is too short.
     OutputTooShort,
+    /// 17: the block to recall is not collected.
+    BlockNotCollected,
     /// An answer with a number, or a place beside its number, that no call gives.
     Unknown(u64),
 }
@@ -62,11 +64,12 @@ impl Refusal {
             (14, 0) => Refusal::StripsTooShort,
             (15, 0) => Refusal::MapTooShort,
             (16, 0) => Refusal::OutputTooShort,
+            (17, 0) => Refusal::BlockNotCollected,
             _ => Refusal::Unknown(answer),
         })
     }
 
-    /// The number of the cause: 1 to 12 or 14 to 16, since no call of this crate answers the program's own 13; of
+    /// The number of the cause: 1 to 12 or 14 to 17, since no call of this crate answers the program's own 13; of
     /// [`Refusal::Unknown`] the number that was answered.
     pub fn number(self) -> u32 {
         match self {
@@ -85,6 +88,7 @@ impl Refusal {
             Refusal::StripsTooShort => 14,
             Refusal::MapTooShort => 15,
             Refusal::OutputTooShort => 16,
+            Refusal::BlockNotCollected => 17,
             Refusal::Unknown(answer) => (answer >> 32) as u32,
         }
     }
@@ -136,7 +140,7 @@ mod tests {
                 assert_eq!(u64::from(refusal.number()) << 32 | u64::from(refusal.place()), answer);
                 let place_is_free = matches!(number, 1 | 2 | 3 | 5 | 9);
                 let place_is_right = place_is_free || place == u64::from(number == 4);
-                let known = matches!(number, 1..=12 | 14..=16) && place_is_right;
+                let known = matches!(number, 1..=12 | 14..=17) && place_is_right;
                 assert_eq!(refusal == Refusal::Unknown(answer), !known, "{refusal}");
             }
         }

@@ -84,7 +84,7 @@ pub struct Sizes {
     pub block_columns: u64,
     /// Marks: one for each block.
     pub marks: u64,
-    /// Strip words.
+    /// Strip words: for each block, side * (sum of the orders) for its lone strips and as many for its linked ones.
     pub strips: u64,
     /// Words of map, output and table.
     pub pixels: u64,
@@ -119,15 +119,15 @@ impl Progress {
 /// The six kinds of task.
 #[derive(Clone, Copy, Debug, PartialEq, Eq)]
 pub enum Task {
-    /// Writes the four strips of the block filtered alone.
+    /// Writes the block's four lone strips: those of the block filtered alone.
     Collect = 0,
-    /// Makes the down strip true for the whole map.
+    /// Writes the linked down strip, which is true for the whole map.
     DownLink = 1,
-    /// Makes the up strip true for the whole map.
+    /// Writes the linked up strip, which is true for the whole map.
     UpLink = 2,
-    /// Makes the right strip true for the whole map.
+    /// Writes the linked right strip, which is true for the whole map.
     RightLink = 3,
-    /// Makes the left strip true for the whole map.
+    /// Writes the linked left strip, which is true for the whole map.
     LeftLink = 4,
     /// Writes the block's output words.
     Finish = 5,

@@ -188,6 +188,23 @@ pub fn report(plan: &Plan, marks: &[u32]) -> Result<Progress, Refusal> {
     Ok(progress)
 }
 
+/// Recalls a block. Strips and output are not lent to it.
+pub fn recall(plan: &Plan, block: usize, marks: &mut [u32]) -> Result<(), Refusal> {
+    let job = Job::of(plan)?;
+    job.check_lengths(&[Buffer::Marks(marks.len())])?;
+    if block >= job.marks() {
+        return Err(Refusal::NoSuchTask);
+    }
+    job.check_marks(marks, 0..job.marks())?;
+    if !is_marked(marks[block], 0) {
+        return Err(Refusal::BlockNotCollected);
+    }
+    for (mark, needing) in marks.iter_mut().zip(job.tasks_needing(block)) {
+        *mark &= !needing;
+    }
+    Ok(())
+}
+
 /// Runs the four passes over the whole map, by the second serial program.
 pub fn serial(plan: &Plan, map: &[i32], output: &mut [u64]) -> Result<(), Refusal> {
     let job = Job::of(plan)?;
@@ -272,6 +289,15 @@ pub struct Block {
     pub width: usize,
 }
 
+/// The two halves of a block's slot in the strips, in the order in which they stand there.
+#[derive(Clone, Copy, Debug, PartialEq, Eq)]
+pub enum Half {
+    /// The strips of the block filtered alone: collect writes them.
+    Lone = 0,
+    /// The strips that are true for the whole map: links write them, and neighbours read them.
+    Linked = 1,
+}
+
 /// The blocks, tasks and strips of a plan that keeps all rules.
 pub struct Job<'a> {
     plan: &'a Plan,
@@ -312,9 +338,14 @@ impl<'a> Job<'a> {
         self.block_rows * self.block_columns
     }
 
+    /// Words of half a slot: all strips of a block once.
+    fn half_slot(&self) -> usize {
+        self.side * self.orders.iter().sum::<usize>()
+    }
+
     /// Strip words needed.
     pub fn strips(&self) -> usize {
-        self.marks() * self.side * self.orders.iter().sum::<usize>()
+        self.marks() * 2 * self.half_slot()
     }
 
     /// Words of map, output and table needed.
@@ -358,7 +389,7 @@ impl<'a> Job<'a> {
     }
 
     /// All blocks, in the order of their numbers.
-    pub fn blocks(&self) -> impl Iterator<Item = Block> + '_ {
+    pub fn blocks(&self) -> impl DoubleEndedIterator<Item = Block> + '_ {
         (0..self.marks()).map(|number| self.block(number))
     }
 
@@ -396,6 +427,32 @@ impl<'a> Job<'a> {
         [(block.number, 0)].into_iter().chain(linked).collect()
     }
 
+    /// The tasks that a block has, one bit each.
+    pub fn tasks_of(&self, block: usize) -> u32 {
+        (0..6).filter(|&task| self.has_task(&self.block(block), task)).map(|task| 1 << task).sum()
+    }
+
+    /// The tasks of a block and those that need it, directly or through others: for each block the bits of such tasks.
+    pub fn tasks_needing(&self, block: usize) -> Vec<u32> {
+        let mut needing = vec![0; self.marks()];
+        needing[block] = self.tasks_of(block);
+        loop {
+            let before = needing.clone();
+            // Forward and back, so that a chain of needs takes few rounds whichever way it runs.
+            for block in self.blocks().chain(self.blocks().rev()) {
+                let needs_it = |task: usize| {
+                    self.has_task(&block, task)
+                        && self.needs(&block, task).iter().any(|&(number, need)| is_marked(needing[number], need))
+                };
+                let found: u32 = (0..6).filter(|&task| needs_it(task)).map(|task| 1 << task).sum();
+                needing[block.number] |= found;
+            }
+            if needing == before {
+                return needing;
+            }
+        }
+    }
+
     /// Whether a task exists in a block, is unmarked and has all its needs marked.
     pub fn is_ready(&self, marks: &[u32], block: &Block, task: usize) -> bool {
         self.has_task(block, task)
@@ -418,10 +475,10 @@ impl<'a> Job<'a> {
 
     /// The place in the strips of the word of a pass that stands `distance` (1 to the order) back from the edge over
     /// which the pass leaves the block, in `line`: the column for down and up, the row for right and left.
-    pub fn strip_place(&self, block: usize, pass: usize, distance: usize, line: usize) -> usize {
+    pub fn strip_place(&self, half: Half, block: usize, pass: usize, distance: usize, line: usize) -> usize {
         let order = self.orders[pass];
-        let slot = block * self.side * self.orders.iter().sum::<usize>();
-        let strip = slot + self.side * self.orders[..pass].iter().sum::<usize>();
+        let strips = (2 * block + half as usize) * self.half_slot();
+        let strip = strips + self.side * self.orders[..pass].iter().sum::<usize>();
         // In map order the nearest to the leaving edge is the last for down and right, the first for up and left.
         let step = if pass == DOWN || pass == RIGHT { order - distance } else { distance - 1 };
         strip + if pass == DOWN || pass == UP { step * self.side + line } else { line * order + step }
@@ -478,21 +535,29 @@ impl<'a> Job<'a> {
         })
     }
 
-    /// Writes the strip of a pass whole: the word of each used place, and 0 at all others.
-    fn write_strip(&self, block: &Block, pass: usize, strips: &mut [u64], word: impl Fn(usize, &[u64], usize) -> u64) {
+    /// Writes the strip of a pass whole, in one half of the block's slot: 0 at each place that is not used, and at the
+    /// others what `word` says of the pixel there and of the lone word of the same place.
+    fn write_strip(
+        &self,
+        half: Half,
+        block: &Block,
+        pass: usize,
+        strips: &mut [u64],
+        word: impl Fn(usize, u64) -> u64,
+    ) {
         let (length, _) = self.extent(block, pass);
         for distance in 1..=self.orders[pass] {
             for line in 0..self.side {
-                let place = self.strip_place(block.number, pass, distance, line);
-                strips[place] = match self.is_strip_place_used(block, pass, distance, line) {
-                    true => word(self.pixel(block, pass, length - distance, line), strips, place),
+                let place = |half| self.strip_place(half, block.number, pass, distance, line);
+                strips[place(half)] = match self.is_strip_place_used(block, pass, distance, line) {
+                    true => word(self.pixel(block, pass, length - distance, line), strips[place(Half::Lone)]),
                     false => 0,
                 };
             }
         }
     }
 
-    /// What the strips of the first `known` passes say past the edges of a block, and 0 past the others.
+    /// What the linked strips of the first `known` passes say past the edges of a block, and 0 past the others.
     fn strips_around<'s>(
         &'s self,
         block: &'s Block,
@@ -501,7 +566,7 @@ impl<'a> Job<'a> {
     ) -> impl Fn(usize, usize, usize) -> u64 + 's {
         move |pass, distance, line| match self.neighbour_before(block, pass) {
             Some(neighbour) if pass < known && self.is_strip_place_used(&neighbour, pass, distance, line) => {
-                strips[self.strip_place(neighbour.number, pass, distance, line)]
+                strips[self.strip_place(Half::Linked, neighbour.number, pass, distance, line)]
             }
             _ => 0,
         }
@@ -518,14 +583,15 @@ impl<'a> Job<'a> {
     fn collect(&self, block: &Block, map: &[i32], strips: &mut [u64]) {
         let alone = self.filter(block, self.readings(block, map), |_, _, _| 0);
         for (pass, result) in alone.iter().enumerate() {
-            self.write_strip(block, pass, strips, |pixel, _, _| result[pixel]);
+            self.write_strip(Half::Lone, block, pass, strips, |pixel, _| result[pixel]);
         }
     }
 
     fn link(&self, block: &Block, pass: usize, strips: &mut [u64]) {
         let zeros = vec![0; block.height * block.width];
         let from_around = self.filter(block, zeros, self.strips_around(block, pass + 1, strips));
-        self.write_strip(block, pass, strips, |pixel, own, place| own[place].wrapping_add(from_around[pass][pixel]));
+        let linked = |pixel: usize, lone: u64| lone.wrapping_add(from_around[pass][pixel]);
+        self.write_strip(Half::Linked, block, pass, strips, linked);
     }
 
     fn finish(&self, block: &Block, map: &[i32], strips: &[u64], output: &mut [u64]) {
@@ -536,9 +602,15 @@ impl<'a> Job<'a> {
         }
     }
 
-    /// The matching strip of a linked one, as pairs of a place in the strips and its word: at each place inside the
-    /// block the word that the result of the pass has there when the passes run over the whole map, 0 at all others.
-    pub fn matching_strip(&self, block: &Block, pass: usize, results: &[Vec<u64>; 4]) -> Vec<(usize, u64)> {
+    /// The words of a strip, as pairs of a place in the strips and its word: at each place inside the block what `word`
+    /// says of the row and the column there, counted in the block, and 0 at all others.
+    fn strip_of(
+        &self,
+        half: Half,
+        block: &Block,
+        pass: usize,
+        word: impl Fn(usize, usize) -> u64,
+    ) -> Vec<(usize, u64)> {
         let (length, lines) = self.extent(block, pass);
         let mut words = Vec::new();
         for distance in 1..=self.orders[pass] {
@@ -546,15 +618,35 @@ impl<'a> Job<'a> {
                 let inside = distance <= length && line < lines;
                 let word = if inside {
                     let pixel = self.pixel(block, pass, length - distance, line);
-                    let (row, column) = (pixel / block.width, pixel % block.width);
-                    results[pass][(block.top + row) * self.columns + block.left + column]
+                    word(pixel / block.width, pixel % block.width)
                 } else {
                     0
                 };
-                words.push((self.strip_place(block.number, pass, distance, line), word));
+                words.push((self.strip_place(half, block.number, pass, distance, line), word));
             }
         }
         words
+    }
+
+    /// The matching strip of a linked one: the words that the result of the pass has there when the passes run over the
+    /// whole map.
+    pub fn matching_strip(&self, block: &Block, pass: usize, results: &[Vec<u64>; 4]) -> Vec<(usize, u64)> {
+        let word = |row: usize, column: usize| results[pass][(block.top + row) * self.columns + block.left + column];
+        self.strip_of(Half::Linked, block, pass, word)
+    }
+
+    /// The lone strips of a block, by the second serial program over the block as a map of its own; 0 where no neighbour
+    /// needs them.
+    pub fn lone_strips(&self, block: &Block, map: &[i32]) -> Vec<(usize, u64)> {
+        let alone = Plan { rows: block.height as i64, columns: block.width as i64, ..*self.plan };
+        let rows = map.chunks(self.columns).skip(block.top).take(block.height);
+        let heights = Vec::from_iter(rows.flat_map(|row| &row[block.left..][..block.width]).copied());
+        let results = reference::results(&alone, &heights);
+        let word = |pass: usize, row: usize, column: usize| match self.neighbour_after(block, pass) {
+            Some(_) => results[pass][row * block.width + column],
+            None => 0,
+        };
+        (0..4).flat_map(|pass| self.strip_of(Half::Lone, block, pass, |row, column| word(pass, row, column))).collect()
     }
 }
 
@@ -563,19 +655,29 @@ mod tests {
     use super::*;
     use mulzhegat::LEFT;
 
+    /// Performs what the report names until it names none.
+    fn perform_the_rest(plan: &Plan, map: &[i32], marks: &mut [u32], strips: &mut [u64], output: &mut [u64]) {
+        loop {
+            let progress = report(plan, marks).unwrap();
+            if progress.ready == 0 {
+                return;
+            }
+            perform(plan, progress.task as usize, progress.block as usize, map, marks, strips, output).unwrap();
+        }
+    }
+
     /// All tasks of a job in the order in which the report names them.
     fn whole_job(plan: &Plan, map: &[i32]) -> (Vec<u32>, Vec<u64>, Vec<u64>) {
         let job = Job::of(plan).unwrap();
         let (mut marks, mut strips, mut output) = (vec![0; job.marks()], vec![1; job.strips()], vec![0; job.pixels()]);
         start(plan, &mut marks, &mut strips).unwrap();
-        loop {
-            let progress = report(plan, &marks).unwrap();
-            if progress.ready == 0 {
-                return (marks, strips, output);
-            }
-            let (task, block) = (progress.task as usize, progress.block as usize);
-            perform(plan, task, block, map, &mut marks, &mut strips, &mut output).unwrap();
-        }
+        perform_the_rest(plan, map, &mut marks, &mut strips, &mut output);
+        (marks, strips, output)
+    }
+
+    /// Numbers as words modulo 2^64.
+    fn modulo<const N: usize>(numbers: [i64; N]) -> [u64; N] {
+        numbers.map(|number| number as u64)
     }
 
     #[test]
@@ -585,8 +687,9 @@ mod tests {
         let (marks, strips, output) = whole_job(&plan, &[1, 2, 3, 4, 5, 6]);
         assert_eq!(output, [1, 3, 6, 5, 12, 21]);
         assert_eq!(marks, [NOTHING_DONE | 0b101001, NOTHING_DONE | 0b110001]);
-        // Slots of 2 x 2 words: the down strip (0 at the border), then the right strip, of which only block 0 has one.
-        assert_eq!(strips, [0, 0, 3, 12, 0, 0, 0, 0]);
+        // Halves of 2 x 2 words: the down strip (0 at the border), then the right strip, of which only block 0 has one;
+        // with nothing to the left of it, its lone strip is true for the whole map.
+        assert_eq!(strips, [0, 0, 3, 12, 0, 0, 3, 12, 0, 0, 0, 0, 0, 0, 0, 0]);
         assert_eq!(rectangle(&plan, [0, 1, 2, 3], &output), Ok(16));
         assert_eq!(rectangle(&plan, [1, 0, 2, 1], &output), Ok(4));
         assert_eq!(rectangle(&plan, [0, 0, 0, 3], &output), Ok(0));
@@ -600,7 +703,7 @@ mod tests {
         let (plan, map) = (Plan::summed(2, 3, 2), [1, -2147483648, 3, 4, 5, 6]);
         let (_, strips, output) = whole_job(&plan, &map);
         assert_eq!(output, [1, 1, 4, 5, 10, 19]);
-        assert_eq!(strips, [0, 0, 1, 10, 0, 0, 0, 0]);
+        assert_eq!(strips, [0, 0, 1, 10, 0, 0, 1, 10, 0, 0, 0, 0, 0, 0, 0, 0]);
         assert_eq!(rectangle(&plan, [0, 1, 1, 3], &output), Ok(3));
         assert_eq!(dropouts(&plan, [0, 1, 1, 3], &map), Ok(1));
         assert_eq!(dropouts(&plan, [1, 0, 2, 3], &map), Ok(0));
@@ -614,9 +717,53 @@ mod tests {
     fn the_column_of_the_paper_in_blocks_of_two() {
         let plan = Plan::plain(3, 1, 2).with(DOWN, 6, &[2]).with(UP, -1, &[2]);
         let (_, strips, output) = whole_job(&plan, &[1, 0, 0]);
-        assert_eq!(output, [-126i64 as u64, 60, -24i64 as u64]);
-        // Slots of 2 x 2 words, one column wide: down -12 of block 0, up -24 of block 1.
-        assert_eq!(strips, [-12i64 as u64, 0, 0, 0, 0, 0, -24i64 as u64, 0]);
+        assert_eq!(output, modulo([-126, 60, -24]));
+        // Halves of 2 x 2 words, one column wide: down -12 of block 0; up of block 1, 0 alone and -24 linked.
+        assert_eq!(strips, modulo([-12, 0, 0, 0, -12, 0, 0, 0, 0, 0, 0, 0, 0, 0, -24, 0]));
+    }
+
+    #[test]
+    fn the_column_of_the_paper_with_its_last_block_rescanned() {
+        let plan = Plan::plain(3, 1, 2).with(DOWN, 6, &[2]).with(UP, -1, &[2]);
+        let (mut marks, mut strips, mut output) = whole_job(&plan, &[1, 0, 0]);
+        recall(&plan, 1, &mut marks).unwrap();
+        // Collect and down link of block 0 do not need block 1.
+        assert_eq!(marks, [NOTHING_DONE | 0b11, NOTHING_DONE]);
+        assert_eq!(recall(&plan, 1, &mut marks), Err(Refusal::BlockNotCollected));
+        perform_the_rest(&plan, &[1, 0, 1], &mut marks, &mut strips, &mut output);
+        // Down gives 6, -12, 30. Block 1 alone: 6 for down, -6 for up.
+        assert_eq!(output, modulo([-150, 72, -30]));
+        assert_eq!(strips, modulo([-12, 0, 0, 0, -12, 0, 0, 0, 0, 0, -6, 0, 0, 0, -30, 0]));
+        assert_eq!(marks, [NOTHING_DONE | 0b100011, NOTHING_DONE | 0b100101]);
+    }
+
+    #[test]
+    fn recalls_in_a_square_of_nine_blocks_worked_out_by_hand() {
+        // Blocks 0 1 2 / 3 4 5 / 6 7 8, all done. No need leads to a block from collect of the others, down above it, down
+        // and up in the other columns, and right to the left of it. Bits: finish, left, right, up, down, collect.
+        let middle = (4, [0b1011, 0b0011, 0b0011, 0b1111, 0, 0b0111, 0b1101, 0b0001, 0b0101]);
+        let edge = (5, [0b1011, 0b1011, 0b0011, 0b1111, 0b1111, 0, 0b1101, 0b1101, 0b0001]);
+        let plan = Plan::plain(9, 9, 3);
+        let job = Job::of(&plan).unwrap();
+        let all_done = Vec::from_iter((0..9).map(|block| NOTHING_DONE | job.tasks_of(block)));
+        for (block, left) in [middle, edge] {
+            let mut marks = all_done.clone();
+            recall(&plan, block, &mut marks).unwrap();
+            assert_eq!(marks, left.map(|bits| NOTHING_DONE | bits));
+        }
+    }
+
+    #[test]
+    fn the_first_cause_refuses_a_recall() {
+        let plan = Plan::plain(9, 9, 3);
+        let mut marks = [NOTHING_DONE; 9];
+        assert_eq!(recall(&plan, 4, &mut marks), Err(Refusal::BlockNotCollected));
+        // The last block has no right link.
+        marks[8] |= 1 << 3;
+        assert_eq!(recall(&plan, 4, &mut marks), Err(Refusal::MarkBroken(8)));
+        assert_eq!(recall(&plan, 9, &mut marks), Err(Refusal::NoSuchTask));
+        assert_eq!(recall(&plan, 9, &mut marks[1..]), Err(Refusal::BufferTooShort));
+        assert_eq!(recall(&Plan { side: 0, ..plan }, 9, &mut marks[1..]), Err(Refusal::RecordBreaksRule));
     }
 
     #[test]
@@ -624,8 +771,8 @@ mod tests {
         let plan = Plan::plain(1, 5, 2).with(LEFT, 1, &[-1, -1]);
         let (_, strips, output) = whole_job(&plan, &[1, 1, 1, 1, 1]);
         assert_eq!(output, [12, 7, 4, 2, 1]);
-        // Slots of 2 rows, 2 words each; the first block's strip no neighbour needs.
-        assert_eq!(strips, [0, 0, 0, 0, 4, 2, 0, 0, 1, 0, 0, 0]);
+        // Halves of 2 rows, 2 words each; the first block's strip no neighbour needs.
+        assert_eq!(strips, [[0; 8], [2, 1, 0, 0, 4, 2, 0, 0], [1, 0, 0, 0, 1, 0, 0, 0]].concat());
     }
 
     #[test]

@@ -98,13 +98,15 @@ fn list_of_calls(job: &Job, random: &mut Random) -> Vec<(u32, u32)> {
 fn example_map_in_an_order_of_its_needs() {
     // The six tasks of 2 by 3 with b = 2, worked out by hand: see the model's own test of this job.
     let calls = [(0, 0), (0, 1), (3, 0), (4, 1), (5, 0), (5, 1)];
-    let text = "accepted 3 3\nmarks 70000029 70000031\nstrips 0 0 3 12 0 0 0 0\noutput 1 3 6 5 12 21\n";
+    let text = "accepted 3 3\nmarks 70000029 70000031\n\
+                strips 0 0 3 12 0 0 3 12 0 0 0 0 0 0 0 0\noutput 1 3 6 5 12 21\n";
     assert_eq!(run(&words_of(&Plan::summed(2, 3, 2), &[1, 2, 3, 4, 5, 6], &calls)), text);
 }
 
 #[test]
 fn example_map_without_calls() {
-    let text = "accepted 0 0\nmarks 70000000 70000000\nstrips 0 0 0 0 0 0 0 0\noutput 77 77 77 77 77 77\n";
+    let text =
+        "accepted 0 0\nmarks 70000000 70000000\nstrips 0 0 0 0 0 0 0 0 0 0 0 0 0 0 0 0\noutput 77 77 77 77 77 77\n";
     assert_eq!(run(&words_of(&Plan::summed(2, 3, 2), &[1, 2, 3, 4, 5, 6], &[])), text);
 }
 

@@ -47,17 +47,17 @@ fn a_map_with_two_holes() {
 /// a map of two blocks of one pixel.
 fn expect_read_as(height: i32, read: i64, dropouts: u64) {
     let (map, word) = ([height; 2], read as u64);
-    // A right pass that keeps the words, and keeps one in its strip.
+    // A right pass that keeps the words, and keeps one in its strips: block 0 has a lone and a linked one of a word.
     let plan = Plan::plain(1, 2, 1).with(RIGHT, 1, &[0]);
     assert_eq!(serial_output(&plan, &map), [word; 2], "{height}");
-    let (mut marks, mut strips, mut output) = ([0; 2], [9; 2], [9; 2]);
+    let (mut marks, mut strips, mut output) = ([0; 2], [9; 4], [9; 2]);
     job::start(&plan, &mut marks, &mut strips).unwrap();
     job::perform(&plan, 0, 0, &map, &mut marks, &mut strips, &mut output).unwrap();
-    assert_eq!(strips, [word, 0], "{height}");
+    assert_eq!(strips, [word, 0, 0, 0], "{height}");
     for (task, block) in [(0, 1), (3, 0), (4, 1), (5, 0), (5, 1)] {
         job::perform(&plan, task, block, &map, &mut marks, &mut strips, &mut output).unwrap();
     }
-    assert_eq!(output, [word; 2], "{height}");
+    assert_eq!((strips, output), ([word, word, 0, 0], [word; 2]), "{height}");
 
     let (summed, both) = (Plan::summed(1, 2, 1), Rectangle::new(0, 0, 1, 2));
     let table = serial_output(&summed, &map);

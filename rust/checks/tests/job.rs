@@ -1,123 +1,14 @@
 //! Start, tasks and report: the examples of the paper, and the library against the model of the calls.
 
 use checks::lent::Lent;
-use checks::model::{self, Job, NOTHING_DONE};
+use checks::model::{self, Half, Job, NOTHING_DONE};
+use checks::needs::Grid;
 use checks::random::{self, MapsSeen, Random, Reached};
 use checks::records::{all_orders, broken_record};
 use checks::short::ShortBuffers;
+use checks::trial::{any_task_and_block, report, report_and_compare, Buffers, Trial};
 use checks::{rectangles, reference};
 use mulzhegat::{job, plan, serial, Pass, Plan, Progress, Refusal, DOWN, LEFT, RIGHT, UP};
-
-/// The three buffers that calls may write, with the words around them.
-#[derive(Clone, PartialEq)]
-struct Buffers {
-    marks: Lent<u32>,
-    strips: Lent<u64>,
-    output: Lent<u64>,
-}
-
-/// One job run by the library and by the model side by side.
-struct Trial<'a> {
-    plan: &'a Plan,
-    job: Job<'a>,
-    map: Lent<i32>,
-    map_before: Lent<i32>,
-    library: Buffers,
-    model: Buffers,
-    calls: usize,
-}
-
-impl<'a> Trial<'a> {
-    /// Lends buffers of any words, often longer than needed. No job is started.
-    fn new(plan: &'a Plan, random: &mut Random) -> Trial<'a> {
-        let job = Job::of(plan).expect("the plan keeps the rules");
-        let lengths = [job.pixels(), job.marks(), job.strips(), job.pixels()];
-        let [map, marks, strips, output] = lengths.map(|length| length + random.pick(&[0, 0, 1, 2, 7]));
-        let map = Lent::new(map, random.heights_of_a_map());
-        let library = Buffers {
-            marks: Lent::new(marks, || random.word() as u32),
-            strips: Lent::new(strips, || random.word()),
-            output: Lent::new(output, || random.word()),
-        };
-        Trial { plan, job, map_before: map.clone(), map, model: library.clone(), library, calls: 0 }
-    }
-
-    /// The same job on another map.
-    fn on(mut self, map: &[i32]) -> Trial<'a> {
-        self.map = Lent::of(map, || 0);
-        self.map_before = self.map.clone();
-        self
-    }
-
-    fn start(&mut self) {
-        let answer = job::start(self.plan, self.library.marks.get_mut(), self.library.strips.get_mut());
-        let expected = model::start(self.plan, self.model.marks.get_mut(), self.model.strips.get_mut());
-        assert_eq!(answer, expected, "start of {:?}", self.plan);
-        self.calls += 1;
-    }
-
-    /// Performs a task on both sides and compares the answers.
-    fn perform(&mut self, task: usize, block: usize) -> Result<(), Refusal> {
-        let Trial { plan, map, library, model, .. } = self;
-        let Buffers { marks, strips, output } = library;
-        let answer = job::perform(plan, task, block, map.get(), marks.get_mut(), strips.get_mut(), output.get_mut());
-        let Buffers { marks, strips, output } = model;
-        let expected =
-            model::perform(plan, task, block, map.get(), marks.get_mut(), strips.get_mut(), output.get_mut());
-        assert_eq!(answer, expected, "task {task} of block {block} of {:?}", self.plan);
-        self.calls += 1;
-        answer
-    }
-
-    /// Reports on both sides, compares, and gives the library's report.
-    fn report(&mut self) -> Progress {
-        let progress = report_and_compare(self.plan, self.library.marks.get()).expect("the marks are right");
-        self.calls += 1;
-        progress
-    }
-
-    /// Compares all words of all buffers.
-    fn compare(&self) {
-        let Buffers { marks, strips, output } = &self.library;
-        assert_eq!(marks, &self.model.marks, "marks of {:?}", self.plan);
-        assert!(strips == &self.model.strips, "the strips differ for {:?}", self.plan);
-        assert!(output == &self.model.output, "the output differs for {:?}", self.plan);
-        assert!(self.map == self.map_before, "the map changed for {:?}", self.plan);
-    }
-
-    /// A call that may be refused: a task that may not exist there, may be early or done, or numbers out of range.
-    fn perform_anything(&mut self, random: &mut Random) -> Result<(), Refusal> {
-        let (task, block) = any_task_and_block(&self.job, random);
-        self.perform(task, block)
-    }
-}
-
-/// A task that the block may not have, or numbers out of range.
-fn any_task_and_block(job: &Job, random: &mut Random) -> (usize, usize) {
-    let blocks = job.marks();
-    let out_of_range = [blocks, blocks + 1, 4096 * 4096, 1 << 32, 1 << 63, usize::MAX - 1, usize::MAX];
-    match random.below(6) {
-        0 => (random.below(6), random.pick(&out_of_range)),
-        1 => (random.pick(&[6, 7, 8, 28, 32, 64, 1 << 32, 1 << 63, usize::MAX]), random.below(blocks)),
-        2 => (random.pick(&[6, usize::MAX]), random.pick(&out_of_range)),
-        _ => (random.below(6), random.below(blocks)),
-    }
-}
-
-/// The library's report, which is all zeros beside a refusal.
-fn report(plan: &Plan, marks: &[u32]) -> Result<Progress, Refusal> {
-    let mut progress = Progress { marked: 77, tally: 77, ready: 77, task: 77, block: 77 };
-    let answer = job::report_into(plan, marks, &mut progress);
-    assert!(answer.is_ok() || progress == Progress::default(), "{progress:?} beside {answer:?}");
-    answer.map(|()| progress)
-}
-
-/// Reports and compares with the model.
-fn report_and_compare(plan: &Plan, marks: &[u32]) -> Result<Progress, Refusal> {
-    let expected = model::report(plan, marks);
-    assert_eq!(report(plan, marks), expected, "marks {marks:x?} of {plan:?}");
-    expected
-}
 
 /// Keeps the ready tasks of a job that begins with nothing done.
 struct Ready {
@@ -179,8 +70,9 @@ fn perform_in_random_order(
     done
 }
 
-/// What a list of calls promises as a whole: the tasks done give the strips and the output of the serial passes, all
-/// other output words are as they were before, and the report counts them. `done` holds the tasks done, one bit each.
+/// What a list of calls promises as a whole: the tasks done give the lone strips, the linked strips and the output of the
+/// serial passes, all other output words are as they were before, and the report counts them. `done` holds the tasks
+/// done, one bit each.
 fn check_the_list(trial: &mut Trial, done: &[u32], output_before: &Lent<u64>) {
     let results = reference::results(trial.plan, trial.map.get());
     let mut expected_output = output_before.clone();
@@ -190,16 +82,9 @@ fn check_the_list(trial: &mut Trial, done: &[u32], output_before: &Lent<u64>) {
         assert_eq!(trial.library.marks.get()[block.number], NOTHING_DONE | bits);
         marked += u64::from(bits.count_ones());
         tally += (block.height * block.width) as u64 * u64::from((bits & 1) + (bits >> 5 & 1));
-        for pass in (0..4).filter(|pass| bits >> (pass + 1) & 1 == 1) {
-            for (place, word) in trial.job.matching_strip(&block, pass, &results) {
-                assert_eq!(
-                    trial.library.strips.get()[place],
-                    word,
-                    "block {} pass {pass} of {:?}",
-                    block.number,
-                    trial.plan
-                );
-            }
+        for task in (0..6).filter(|&task| model::is_marked(bits, task)) {
+            let are_true = trial.are_words_true(task, &block, &results);
+            assert!(are_true, "task {task} of block {} of {:?}", block.number, trial.plan);
         }
         if bits >> 5 & 1 == 1 {
             for row in block.top..block.top + block.height {
@@ -342,9 +227,10 @@ fn wrong_turn_of_running_into_rows_past_the_map() {
     for (task, block) in [(0, 1), (0, 0), (1, 0), (2, 1)] {
         assert_eq!(trial.perform(task, block), Ok(()));
     }
-    // Slots of 2 x 3 words: a row of down, two rows of up.
-    let up_strip = &trial.library.strips.get()[6 + 2..6 + 6];
-    assert_eq!(up_strip, modulo(&[-24, 0, 0, 0]));
+    // Halves of 2 x 3 words: a row of down, two rows of up. Block 1 has the second slot; alone its height is 0.
+    let slot = &trial.library.strips.get()[12..24];
+    assert_eq!(slot[2..6], modulo(&[0, 0, 0, 0]));
+    assert_eq!(slot[6 + 2..6 + 6], modulo(&[-24, 0, 0, 0]));
     assert_eq!(trial.perform(5, 1), Ok(()));
     assert_eq!(trial.library.output.get()[2], -24i64 as u64);
     trial.compare();
@@ -452,33 +338,17 @@ fn dropouts_replaced_by_0_change_no_word_of_a_job() {
 #[test]
 fn lists_of_calls_do_what_the_table_of_needs_says() {
     let mut random = random::of_test("lists_of_calls_do_what_the_table_of_needs_says");
-    // The table, told again without the model: which neighbour (row, column) must have done which task.
-    let needs: [&[(isize, isize, u32)]; 6] = [
-        &[],
-        &[(0, 0, 0), (-1, 0, 1)],
-        &[(0, 0, 0), (-1, 0, 1), (1, 0, 2)],
-        &[(0, 0, 0), (-1, 0, 1), (1, 0, 2), (0, -1, 3)],
-        &[(0, 0, 0), (-1, 0, 1), (1, 0, 2), (0, -1, 3), (0, 1, 4)],
-        &[(0, 0, 0), (-1, 0, 1), (1, 0, 2), (0, -1, 3), (0, 1, 4)],
-    ];
     for _ in 0..400 * random::rounds() {
         let plan = random.small_plan(60);
         let mut trial = Trial::new(&plan, &mut random);
         let output_before = trial.library.output.clone();
-        let (m, n) = (trial.job.block_rows as isize, trial.job.block_columns as isize);
-        let mut done = vec![0u32; (m * n) as usize];
+        let grid = Grid::new(trial.job.block_rows, trial.job.block_columns);
+        let mut done = vec![0; grid.blocks()];
         trial.start();
-        for _ in 0..random.below(60 * (m * n) as usize) {
-            let (task, row, column) =
-                (random.below(6), random.below(m as usize) as isize, random.below(n as usize) as isize);
-            let block = (row * n + column) as usize;
-            let exists = [true, row < m - 1, row > 0, column < n - 1, column > 0, true][task];
-            let has_needs = needs[task].iter().all(|&(down, right, need)| {
-                let (row, column) = (row + down, column + right);
-                let beyond = row < 0 || row >= m || column < 0 || column >= n;
-                beyond || done[(row * n + column) as usize] >> need & 1 == 1
-            });
-            let accepted = exists && done[block] >> task & 1 == 0 && has_needs;
+        for _ in 0..random.below(60 * grid.blocks()) {
+            let (task, block) = (random.below(6), random.below(grid.blocks()));
+            let has_needs = grid.needs((task, block)).all(|(need, other)| model::is_marked(done[other], need));
+            let accepted = grid.has((task, block)) && !model::is_marked(done[block], task) && has_needs;
             assert_eq!(trial.perform(task, block).is_ok(), accepted);
             done[block] |= u32::from(accepted) << task;
         }
@@ -496,15 +366,15 @@ fn tasks_on_any_strips_and_marks() {
         reached.note(&plan);
         let mut trial = Trial::new(&plan, &mut random);
         maps.note(trial.map.get());
-        let all_done: Vec<u32> = trial.job.blocks().map(|block| tasks_of(&trial.job, block.number)).collect();
+        let all_done: Vec<u32> = trial.job.blocks().map(|block| trial.job.tasks_of(block.number)).collect();
         for (block, may) in all_done.iter().enumerate() {
             let mark = NOTHING_DONE | may & if random.once_in(4) { random.word() as u32 } else { 0x3F };
-            set_mark(&mut trial, block, mark);
+            trial.set_mark(block, mark);
         }
         for _ in 0..4 {
             let (task, block) = (random.below(6), random.below(trial.job.marks()));
             let mark = trial.library.marks.get()[block] & !(1 << task);
-            set_mark(&mut trial, block, mark);
+            trial.set_mark(block, mark);
             if trial.perform(task, block).is_ok() {
                 accepted[task] += 1;
             }
@@ -515,37 +385,6 @@ fn tasks_on_any_strips_and_marks() {
     reached.expect_all_orders();
     reached.expect_all_short_blocks();
     maps.expect_each(300);
-}
-
-/// The bits of all tasks that a block has.
-fn tasks_of(job: &Job, block: usize) -> u32 {
-    (0..6).filter(|&task| job.has_task(&job.block(block), task)).map(|task| 1 << task).sum()
-}
-
-fn set_mark(trial: &mut Trial, block: usize, mark: u32) {
-    trial.library.marks.get_mut()[block] = mark;
-    trial.model.marks.get_mut()[block] = mark;
-}
-
-/// Marks all tasks of two blocks in three, and any tasks of the others.
-fn mark_at_random(trial: &mut Trial, random: &mut Random) {
-    for block in 0..trial.job.marks() {
-        let bits = if random.once_in(3) { random.word() as u32 } else { 0x3F };
-        set_mark(trial, block, NOTHING_DONE | tasks_of(&trial.job, block) & bits);
-    }
-}
-
-/// Breaks the mark of a block, by a wrong kind or a spare bit, and gives the number of the block.
-fn break_a_mark(trial: &mut Trial, random: &mut Random) -> usize {
-    let block = random.below(trial.job.marks());
-    let right = NOTHING_DONE | tasks_of(&trial.job, block);
-    let spare = (0..28).map(|bit| 1 << bit).filter(|bit| right & bit == 0).collect::<Vec<u32>>();
-    let mark = match random.below(3) {
-        0 => right & 0xFFFFFFF | random.pick(&[0, 1, 2, 3, 4, 5, 6, 8, 9, 10, 11, 12, 13, 14, 15]) << 28,
-        _ => right | random.pick(&spare),
-    };
-    set_mark(trial, block, mark);
-    block
 }
 
 #[test]
@@ -565,7 +404,9 @@ fn places_read_as_0_and_written_as_0() {
             .flat_map(|(block, pass)| (1..=orders[pass]).map(move |distance| (block, pass, distance)))
             .flat_map(|(block, pass, distance)| (0..plan.side as usize).map(move |line| (block, pass, distance, line)))
             .filter(|(block, pass, distance, line)| !job.is_strip_place_used(block, *pass, *distance, *line))
-            .map(|(block, pass, distance, line)| job.strip_place(block.number, pass, distance, line))
+            .flat_map(|(block, pass, distance, line)| {
+                [Half::Lone, Half::Linked].map(|half| job.strip_place(half, block.number, pass, distance, line))
+            })
             .collect();
         unused_places += unused.len();
         perform_in_random_order(&mut trial, &mut random, usize::MAX, |trial, random| {
@@ -699,7 +540,7 @@ fn report_of_random_marks() {
         let marks: Vec<u32> = (0..job.marks())
             .map(|block| {
                 let bits = (0..6).filter(|_| !random.once_in(density * density)).map(|task| 1 << task).sum::<u32>();
-                NOTHING_DONE | bits & tasks_of(&job, block)
+                NOTHING_DONE | bits & job.tasks_of(block)
             })
             .collect();
         let spare = random.below(3);
@@ -723,8 +564,8 @@ fn broken_marks_are_refused_9_with_the_least_block_looked_at() {
         let orders = random.orders(side);
         let plan = random.plan(rows, columns, side, orders);
         let mut trial = Trial::new(&plan, &mut random);
-        mark_at_random(&mut trial, &mut random);
-        let broken = (0..random.between(1, 3)).map(|_| break_a_mark(&mut trial, &mut random));
+        trial.mark_at_random(&mut random);
+        let broken = (0..random.between(1, 3)).map(|_| trial.break_a_mark(&mut random));
         let least = broken.min().unwrap();
         assert_eq!(report_and_compare(&plan, trial.library.marks.get()), Err(Refusal::MarkBroken(least as u32)));
         for _ in 0..6 {
@@ -749,7 +590,7 @@ fn every_spare_bit_and_kind_breaks_a_mark() {
             for mark in (0..32).map(|bit| NOTHING_DONE ^ 1 << bit).chain((0..16).map(|kind| kind << 28)) {
                 let mut marks = vec![NOTHING_DONE; job.marks()];
                 marks[block] = mark;
-                let right = mark >> 28 == 7 && mark & 0xFFFFFFF & !tasks_of(&job, block) == 0;
+                let right = mark >> 28 == 7 && mark & 0xFFFFFFF & !job.tasks_of(block) == 0;
                 let answer = report_and_compare(&plan, &marks).map(|_| ());
                 assert_eq!(answer, if right { Ok(()) } else { Err(Refusal::MarkBroken(block as u32)) });
                 let (mut strips, mut output) = (vec![0; job.strips()], vec![0; job.pixels()]);
@@ -793,7 +634,7 @@ fn every_set_of_short_buffers_refuses_a_task_by_7_14_15_16_then_8_to_11() {
     for _ in 0..100 * random::rounds() {
         let plan = random.small_plan(150);
         let broken = broken_record(&mut random, &plan);
-        let trial = trial_with_any_marks(&plan, &mut random);
+        let trial = Trial::with_any_marks(&plan, &mut random);
         let Trial { job, map, library: Buffers { marks, strips, output }, .. } = &trial;
         let needed = [job.marks(), job.strips(), job.pixels(), job.pixels()];
         let lend = |lengths: [usize; 4]| {
@@ -821,23 +662,13 @@ fn short_marks_refuse_the_report_by_7_and_broken_ones_by_9_after_it() {
     for _ in 0..300 * random::rounds() {
         let plan = random.small_plan(150);
         let broken = broken_record(&mut random, &plan);
-        let trial = trial_with_any_marks(&plan, &mut random);
+        let trial = Trial::with_any_marks(&plan, &mut random);
         let lend = |[length]: [usize; 1]| trial.library.marks.shortened(length);
         let calls =
             [report, model::report].map(|report| move |plan: &Plan, marks: &mut Lent<u32>| report(plan, marks.get()));
         short.try_all([&plan, &broken], [trial.job.marks()], lend, calls);
     }
     short.expect_all(1, &[0, 9]);
-}
-
-/// A job with any marks, of which one is broken now and then.
-fn trial_with_any_marks<'a>(plan: &'a Plan, random: &mut Random) -> Trial<'a> {
-    let mut trial = Trial::new(plan, random);
-    mark_at_random(&mut trial, random);
-    if random.once_in(3) {
-        break_a_mark(&mut trial, random);
-    }
-    trial
 }
 
 #[test]
@@ -858,16 +689,16 @@ fn the_least_of_8_to_11_comes_first() {
     trial.start();
     // Block 4 is in the middle; its task 0 is marked, and the marks above, left, right and below are broken.
     for block in [1, 3, 5, 7] {
-        set_mark(&mut trial, block, 0);
+        trial.set_mark(block, 0);
     }
-    set_mark(&mut trial, 4, NOTHING_DONE | 0x3F);
+    trial.set_mark(4, NOTHING_DONE | 0x3F);
     assert_eq!(trial.perform(6, 4), Err(Refusal::NoSuchTask));
     assert_eq!(trial.perform(0, 4), Err(Refusal::AlreadyMarked));
     for (task, block) in [(1, 1), (2, 1), (3, 1), (4, 1), (5, 1)] {
         assert_eq!(trial.perform(task, 4), Err(Refusal::MarkBroken(block)));
     }
     // With the one above put right, the next one looked at is named: below for up, left for right, left and finish.
-    set_mark(&mut trial, 1, NOTHING_DONE);
+    trial.set_mark(1, NOTHING_DONE);
     for (task, answer) in [
         (1, Refusal::AlreadyMarked),
         (2, Refusal::MarkBroken(7)),
@@ -877,22 +708,22 @@ fn the_least_of_8_to_11_comes_first() {
     ] {
         assert_eq!(trial.perform(task, 4), Err(answer));
     }
-    set_mark(&mut trial, 3, NOTHING_DONE);
+    trial.set_mark(3, NOTHING_DONE);
     for (task, block) in [(2, 7), (3, 7), (4, 5), (5, 5)] {
         assert_eq!(trial.perform(task, 4), Err(Refusal::MarkBroken(block)));
     }
     // All right, and the needs unmarked: marked tasks are refused 10, the others 11.
-    set_mark(&mut trial, 5, NOTHING_DONE);
-    set_mark(&mut trial, 7, NOTHING_DONE);
+    trial.set_mark(5, NOTHING_DONE);
+    trial.set_mark(7, NOTHING_DONE);
     for task in 0..6 {
         assert_eq!(trial.perform(task, 4), Err(Refusal::AlreadyMarked));
     }
-    set_mark(&mut trial, 4, NOTHING_DONE);
+    trial.set_mark(4, NOTHING_DONE);
     for task in 1..6 {
         assert_eq!(trial.perform(task, 4), Err(Refusal::NeedUnmarked));
     }
     // A border block has no link over the border, whatever its mark.
-    set_mark(&mut trial, 0, 0);
+    trial.set_mark(0, 0);
     assert_eq!(trial.perform(2, 0), Err(Refusal::NoSuchTask));
     assert_eq!(trial.perform(4, 0), Err(Refusal::NoSuchTask));
     assert_eq!(trial.perform(1, 0), Err(Refusal::MarkBroken(0)));

@@ -205,7 +205,7 @@ fn example_one_block_has_two_tasks() {
 #[test]
 fn example_2_by_3_with_side_2_has_six_tasks() {
     let sizes = plan::sizes(&Plan::summed(2, 3, 2)).unwrap();
-    let expected = Sizes { words: 13, block_rows: 1, block_columns: 2, marks: 2, strips: 8, pixels: 6, tasks: 6 };
+    let expected = Sizes { words: 13, block_rows: 1, block_columns: 2, marks: 2, strips: 16, pixels: 6, tasks: 6 };
     assert_eq!(sizes, expected);
 }
 
@@ -476,15 +476,15 @@ fn sizes_follow_their_formulas() {
         let orders: u64 = record.passes.iter().map(|pass| pass.order as u64).sum();
         let (m, n) = (rows.div_ceil(side), columns.div_ceil(side));
         assert_eq!((sizes.block_rows, sizes.block_columns, sizes.marks), (m, n, m * n));
-        assert_eq!(sizes.strips, m * n * side * orders);
+        assert_eq!(sizes.strips, 2 * m * n * side * orders);
         assert_eq!(sizes.pixels, rows * columns);
         assert_eq!(sizes.words, 11 + orders);
         assert_eq!(sizes.tasks, 6 * m * n - 2 * m - 2 * n);
     }
     reached.expect_all_orders();
-    // Order 8 in all passes: slots of 8 x 32 and 32 x 32 words.
+    // Order 8 in all passes: slots of two halves, of 8 x 32 and 32 x 32 words.
     for (rows, columns, side, strips) in
-        [(17, 33, 8, 3 * 5 * 256), (4096, 4096, 8, 67_108_864), (33, 1, 32, 2 * 1024), (4096, 4096, 32, 16_777_216)]
+        [(17, 33, 8, 3 * 5 * 512), (4096, 4096, 8, 134_217_728), (33, 1, 32, 2 * 2048), (4096, 4096, 32, 33_554_432)]
     {
         let sizes = plan::sizes(&random.plan(rows, columns, side, [8; 4])).unwrap();
         assert_eq!((sizes.words, sizes.strips), (43, strips), "{rows} rows, {columns} columns, side {side}");

@@ -6,7 +6,7 @@ use mulzhegat::{job, plan, Plan, Refusal, DOWN};
 use std::collections::BTreeMap;
 
 #[test]
-fn every_refusal_number_from_1_to_12_and_14_to_16_is_seen() {
+fn every_refusal_number_from_1_to_12_and_14_to_17_is_seen() {
     let mut seen = BTreeMap::new();
     let mut note = |refusal: Refusal| {
         assert_eq!(seen.insert(refusal.number(), refusal.place()), None, "{refusal} is seen once");
@@ -26,11 +26,11 @@ fn every_refusal_number_from_1_to_12_and_14_to_16_is_seen() {
     note(plan::read(&[words.clone(), vec![0]].concat()).unwrap_err());
     note(plan::sizes(&Plan { side: 1, ..valid }).unwrap_err());
     note(job::report(&valid, &[0; 8]).unwrap_err());
-    note(job::start(&valid, &mut [0; 9], &mut [0; 35]).unwrap_err());
+    note(job::start(&valid, &mut [0; 9], &mut [0; 71]).unwrap_err());
     note(serial::run(&valid, &[0; 35], &mut [0; 36]).unwrap_err());
     note(serial::run(&valid, &[0; 36], &mut [0; 35]).unwrap_err());
 
-    let (map, mut marks, mut strips, mut output) = ([1; 36], [0; 9], [0; 9 * 2 * 2], [0; 36]);
+    let (map, mut marks, mut strips, mut output) = ([1; 36], [0; 9], [0; 9 * 2 * 2 * 2], [0; 36]);
     job::start(&valid, &mut marks, &mut strips).unwrap();
     let mut perform =
         |task, block, marks: &mut [u32]| job::perform(&valid, task, block, &map, marks, &mut strips, &mut output);
@@ -42,8 +42,10 @@ fn every_refusal_number_from_1_to_12_and_14_to_16_is_seen() {
     note(perform(0, 4, &mut marks).unwrap_err());
     note(perform(5, 4, &mut marks).unwrap_err());
     note(serial::rectangle(&valid, Rectangle::new(2, 0, 1, 1), &output).unwrap_err());
+    job::recall(&valid, 4, &mut marks).unwrap();
+    note(job::recall(&valid, 4, &mut marks).unwrap_err());
 
-    let mut expected = BTreeMap::from([6, 7, 8, 10, 11, 12, 14, 15, 16].map(|number| (number, 0)));
+    let mut expected = BTreeMap::from([6, 7, 8, 10, 11, 12, 14, 15, 16, 17].map(|number| (number, 0)));
     expected.extend([(1, 9), (2, 4), (3, 6), (4, 1), (5, 13), (9, 5)]);
     assert_eq!(seen, expected);
 }

@@ -8,51 +8,13 @@
 
 mod baseline;
 mod chart;
-mod tasks;
 
 use chart::Group;
+use checks::block_job::BlockJob;
+use checks::measured::{map_of, milliseconds, plans, processor, Options};
 use checks::random::Random;
 use mulzhegat::{serial, Plan, Task};
 use std::time::{Duration, Instant};
-
-/// What the command line asks for.
-struct Options {
-    quick: bool,
-    size: Option<usize>,
-    side: Option<usize>,
-    svg: Option<String>,
-    repetitions: Option<usize>,
-}
-
-fn options() -> Options {
-    let mut options = Options { quick: false, size: None, side: None, svg: None, repetitions: None };
-    let mut arguments = std::env::args().skip(1);
-    let number = |text: Option<String>| text.and_then(|text| text.parse().ok()).filter(|&number| number > 0);
-    while let Some(argument) = arguments.next() {
-        match argument.as_str() {
-            "--quick" => options.quick = true,
-            "--size" => options.size = Some(number(arguments.next()).unwrap_or_else(|| usage())),
-            "--side" => options.side = Some(number(arguments.next()).unwrap_or_else(|| usage())),
-            "--svg" => options.svg = Some(arguments.next().unwrap_or_else(|| usage())),
-            "--repetitions" => options.repetitions = Some(number(arguments.next()).unwrap_or_else(|| usage())),
-            _ => usage(),
-        }
-    }
-    options
-}
-
-fn usage() -> ! {
-    eprintln!("usage: bench [--quick] [--size N] [--side N] [--svg FILE] [--repetitions N]");
-    std::process::exit(2)
-}
-
-/// The model of the processor, from /proc/cpuinfo.
-fn processor() -> String {
-    let text = std::fs::read_to_string("/proc/cpuinfo").unwrap_or_default();
-    let named = text.lines().find_map(|line| line.strip_prefix("model name")?.split_once(": "));
-    let count = text.lines().filter(|line| line.starts_with("processor")).count();
-    format!("{}, {count} processors", named.map_or("unknown", |(_, model)| model.trim()))
-}
 
 /// Runs the four passes over a map into an output.
 type Run<'a> = Box<dyn FnMut(&[i32], &mut [u64]) + 'a>;
@@ -92,32 +54,8 @@ fn measure(ways: &mut [Way], map: &[i32], output: &mut [u64], repetitions: usize
     }
 }
 
-/// The plans measured: the summed table, and all passes of one order with numbers of full width.
-fn plans(size: usize, side: usize, random: &mut Random) -> Vec<(&'static str, Plan)> {
-    let mut full_width = |order: usize| {
-        let mut plan = random.plan(size, size, side, [order; 4]);
-        let numbers = plan
-            .passes
-            .iter_mut()
-            .flat_map(|pass| std::iter::once(&mut pass.gain).chain(&mut pass.coefficients[..order]));
-        numbers.for_each(|number| *number = (random.word() >> 36) as i64 - 134217728);
-        plan
-    };
-    vec![
-        ("summed table", Plan::summed(size, size, side)),
-        ("order 1", full_width(1)),
-        ("order 2", full_width(2)),
-        ("order 4", full_width(4)),
-        ("order 8", full_width(8)),
-    ]
-}
-
-fn milliseconds(time: Duration) -> f64 {
-    time.as_secs_f64() * 1e3
-}
-
 /// The rows of the table of task kinds.
-fn kind_rows(label: &str, side: usize, job: &tasks::BlockJob, best: &[Duration; 6]) -> Vec<String> {
+fn kind_rows(label: &str, side: usize, job: &BlockJob, best: &[Duration; 6]) -> Vec<String> {
     let each = Task::ALL.map(|task| best[task.number()].as_secs_f64() * 1e6 / job.count(task).max(1) as f64);
     let row = |task: Task| {
         let (count, time) = (job.count(task), each[task.number()]);
@@ -138,7 +76,7 @@ fn measure_plan(
     let size = plan.rows as usize;
     let filters = baseline::filters(plan);
     let jobs = Vec::from_iter(sides.iter().map(|&side| {
-        let job = tasks::BlockJob::new(&Plan { side: side as i64, ..*plan });
+        let job = BlockJob::new(&Plan { side: side as i64, ..*plan });
         (side, std::cell::RefCell::new(job), std::cell::Cell::new([Duration::MAX; 6]))
     }));
     let mut ways = vec![
@@ -177,22 +115,18 @@ fn measure_plan(
 }
 
 fn main() {
-    let options = options();
+    let options = Options::of_command_line();
     println!("Processor: {}.", processor());
-    let usual: &[(usize, usize)] = if options.quick { &[(1024, 3)] } else { &[(1024, 25), (4096, 11)] };
-    let sizes = options.size.map_or(usual.to_vec(), |size| vec![(size, 11)]);
-    let sides = options.side.map_or(vec![32, 8], |side| vec![side]);
     println!("\n| map | way | best ms | ns a pixel | times plain | times strong |\n|---|---|--:|--:|--:|--:|");
     let (mut kinds, mut groups) = (Vec::new(), Vec::new());
-    for (size, usual_repetitions) in sizes {
+    for (size, repetitions) in options.sizes() {
         let mut random = Random::new(size as u64);
-        // No dropout: the two Rust programs take every height as it is.
-        let map: Vec<i32> = (0..size * size).map(|_| (random.word() as i32).max(-i32::MAX)).collect();
+        let map = map_of(size, &mut random);
         let mut output = vec![0; size * size];
         for (name, plan) in plans(size, 32, &mut random) {
-            let repetitions = options.repetitions.unwrap_or(usual_repetitions);
             let label = format!("{size} x {size}, {name}");
-            let (rows, more_kinds, group) = measure_plan(&label, &plan, &sides, &map, &mut output, repetitions);
+            let (rows, more_kinds, group) =
+                measure_plan(&label, &plan, &options.sides(), &map, &mut output, repetitions);
             println!("{}", rows.join("\n"));
             kinds.extend(more_kinds);
             groups.push(group);

@@ -1,11 +1,22 @@
-//! Whole block jobs by the library, in natural and in shuffled order.
+//! Whole block jobs by the library, in natural and in shuffled order, and one block of them rescanned: for benchmarks.
 
-use checks::random::Random;
+use crate::model::is_marked;
+use crate::random::Random;
 use mulzhegat::{job, plan, Plan, Task};
 use std::time::{Duration, Instant};
 
 /// A task and its block.
 type Step = (u8, u32);
+
+/// How long it took to finish a job again after a recall.
+pub struct Rescan {
+    /// The recall alone.
+    pub recall: Duration,
+    /// The recall, and all tasks that it cleared done again.
+    pub all: Duration,
+    /// How many tasks that were.
+    pub tasks: usize,
+}
 
 /// The buffers of a job and its two orders.
 pub struct BlockJob {
@@ -53,6 +64,30 @@ impl BlockJob {
     pub fn run_shuffled(&mut self, map: &[i32], output: &mut [u64]) {
         job::start(&self.plan, &mut self.marks, &mut self.strips).expect("start is accepted");
         perform(&self.plan, &self.shuffled, map, &mut self.marks, &mut self.strips, output);
+    }
+}
+
+impl BlockJob {
+    /// The block in the middle of the map.
+    pub fn middle(&self) -> usize {
+        let sizes = plan::sizes(&self.plan).expect("the plan keeps the rules");
+        (sizes.block_rows / 2 * sizes.block_columns + sizes.block_columns / 2) as usize
+    }
+
+    /// Recalls a block of a job that is done, and performs all tasks again that are no longer marked, in natural order.
+    /// The map may have other heights in that block.
+    pub fn rescan(&mut self, block: usize, map: &[i32], output: &mut [u64]) -> Rescan {
+        let began = Instant::now();
+        job::recall(&self.plan, block, &mut self.marks).expect("the block is collected");
+        let recall = began.elapsed();
+        let mut tasks = 0;
+        for step in &self.natural {
+            if !is_marked(self.marks[step.1 as usize], usize::from(step.0)) {
+                perform(&self.plan, &[*step], map, &mut self.marks, &mut self.strips, output);
+                tasks += 1;
+            }
+        }
+        Rescan { recall, all: began.elapsed(), tasks }
     }
 }
 
