@@ -30,7 +30,18 @@ module _ (grid : Grid) (k : ℕ) (marks : List ℕ) (valid : Valid grid marks) (
   abbrev first : ℕ
   first = firstReached (positionOf grid k) (positionOf grid j)
 
-  -- A task before the first that is reached stays marked,
+  -- From the first task that is reached on none is marked,
+  cleared : (t : ℕ) → first ≤ t → t < 6 → doneWithout grid (isMarked marks) k t j ≡ false
+  unfolding doneWithout clears
+  cleared t l b =
+      rw (reached-reaches grid k t j (reached-later grid k first t j l (reached-from grid k j .reached)))
+      (by (isMarked marks t j) (exists grid t j) (valid-only grid marks valid t j b h))
+    where
+      by : (marked exist : Bool) → (marked ≡ true → exist ≡ true) → (marked && not (exist && true)) ≡ false
+      by true exist f = rw (f refl)
+      by false exist f = refl
+
+  -- and before it each task stays as it was.
   stays : (t : ℕ) → t < first → doneWithout grid (isMarked marks) k t j ≡ isMarked marks t j
   unfolding doneWithout clears
   stays t l =
@@ -41,17 +52,6 @@ module _ (grid : Grid) (k : ℕ) (marks : List ℕ) (valid : Valid grid marks) (
       by exist true u = absurd (u refl)
       by true false u = and-true (isMarked marks t j)
       by false false u = and-true (isMarked marks t j)
-
-  -- and from there on none is marked.
-  cleared : (t : ℕ) → first ≤ t → t < 6 → doneWithout grid (isMarked marks) k t j ≡ false
-  unfolding doneWithout clears
-  cleared t l b =
-      rw (reached-reaches grid k t j (reached-later grid k first t j l (reached-from grid k j .reached)))
-      (by (isMarked marks t j) (exists grid t j) (valid-only grid marks valid t j b h))
-    where
-      by : (marked exist : Bool) → (marked ≡ true → exist ≡ true) → (marked && not (exist && true)) ≡ false
-      by true exist f = rw (f refl)
-      by false exist f = refl
 
   pub spared-mark : wordOf markKind (wordAt marks j % 2 ^ first) ≡ markOf (doneWithout grid (isMarked marks) k) j
   unfolding markOf isMarked
