@@ -13,4 +13,5 @@ pub mod Rescan
 pub mod Accepted
 pub mod Demand3
 pub mod AllRefused
+pub mod ShortOutput
 pub mod Replaced

@@ -11,7 +11,8 @@ use Rattle.plan.specs.declared.Plan.{Plan}
 use Rattle.serial.specs.Serial.{serialWords, serialOutput}
 use Rattle.tasks.specs.Tasks.{BlockTask}
 use Rattle.job_spec.specs.Calls.{Buffers, taskAnswer, stripsAfter, outputAfter, performed, afterTask, afterCalls, answersOf}
-use Rattle.job_spec.specs.Replaced.{SameReplaced}
+use Rattle.job_spec.specs.Steps.{Step, perform, recall, afterStep, afterSteps, stepAnswer, stepAnswers}
+use Rattle.job_spec.specs.Replaced.{replaced, SameReplaced}
 
 module _ (plan : Plan) (heights : List ℤ) where
   same-map : mapOf plan (map reading heights) ≡ mapOf plan heights
@@ -54,5 +55,38 @@ module _ (plan : Plan) (heights : List ℤ) where
       (ap (answersOf plan (map reading heights) calls) (after-task (call .task) (call .block) buffers)
       ∙ task-answers calls (afterTask plan heights (call .task) (call .block) buffers))
 
+module _ (plan : Plan) where
+  step-after : (step : Step) (buffers : Buffers) → afterStep plan (replaced step) buffers ≡ afterStep plan step buffers
+  unfolding afterStep
+  step-after (perform heights t k) buffers = after-task plan heights t k buffers
+  step-after (recall k) buffers = refl
+
+  step-said : (step : Step) (buffers : Buffers) → stepAnswer plan (replaced step) buffers ≡ stepAnswer plan step buffers
+  unfolding stepAnswer
+  step-said (perform heights t k) buffers = task-answer plan heights buffers t k
+  step-said (recall k) buffers = refl
+
+  step-buffers : (steps : List Step) (buffers : Buffers)
+      → afterSteps plan (map replaced steps) buffers ≡ afterSteps plan steps buffers
+  unfolding afterSteps
+  step-buffers [] buffers = refl
+  step-buffers (step ∷ steps) buffers =
+      ap (afterSteps plan (map replaced steps)) (step-after step buffers) ∙ step-buffers steps (afterStep plan step buffers)
+
+  step-answers : (steps : List Step) (buffers : Buffers)
+      → stepAnswers plan (map replaced steps) buffers ≡ stepAnswers plan steps buffers
+  unfolding stepAnswers
+  step-answers [] buffers = refl
+  step-answers (step ∷ steps) buffers =
+      ap₂ _∷_ (step-said step buffers)
+      (ap (stepAnswers plan (map replaced steps)) (step-after step buffers) ∙ step-answers steps (afterStep plan step buffers))
+
 pub same-replaced : SameReplaced
-same-replaced = record { serial-output = serial-output; task-answers = task-answers; task-buffers = task-buffers }
+same-replaced =
+    record {
+      serial-output = serial-output;
+      task-answers = task-answers;
+      task-buffers = task-buffers;
+      step-answers = step-answers;
+      step-buffers = step-buffers;
+    }

@@ -1,6 +1,6 @@
 -- Demand 3 with recalls: the claim holds of every list of steps. Assumes nothing.
 use mathlib.Core.Path.{_≡_, refl, ap, ap₂, sym, _∙_}
-use mathlib.Core.Bool.{Bool, true, false, not, _&&_, cond, and-false}
+use mathlib.Core.Bool.{Bool, true, false, not, _&&_, _||_, cond, and-false}
 use mathlib.Core.List.{List, [], _∷_}
 use mathlib.Core.Logic.{⊎-elim}
 use Prim.Native.Nat.{ℕ, suc, _≤_, _<_}
@@ -14,20 +14,21 @@ use borrow.Author.Tests.{le-ltb, ltb-true, eq-eqb}
 use Rattle.number.proofs.Tests.{lt-or-ge, and-left, and-right}
 use Rattle.refusal.specs.Refusals.{Answer, accepted, refused}
 use Rattle.refusal.specs.Table.{ifAccepted}
+use Rattle.grid.specs.declared.Grid.{Grid}
 use Rattle.grid.specs.Grid.{blockTotal, rowsOf, columnsOf, blockPixelPlace}
 use Rattle.plan.specs.declared.Plan.{Plan}
 use Rattle.plan.specs.Rules.{keepsRules}
 use Rattle.plan.specs.Sizes.{neededMarks, neededStrips, neededPixels, taskCount, orderOf}
 use Rattle.plan.proofs.Needed.{bounds}
 use Rattle.buffer.specs.Lists.{wordAt}
-use Rattle.tasks.specs.Tasks.{BlockTask, hasTask, ready, nothingDone}
+use Rattle.tasks.specs.Tasks.{BlockTask, hasTask, exists, ready, nothingDone}
 use Rattle.tasks.specs.Counts.{doneCount}
 use Rattle.tasks.proofs.Existence.{has-exists}
-use Rattle.tasks.proofs.Needs.{needs-none}
+use Rattle.tasks.proofs.Needs.{needs-none, ready-undone}
 use Rattle.tasks.proofs.Counting.{task-count, all-of-count}
 use Rattle.tasks.proofs.Marking.{mark-same}
 use Rattle.tasks.proofs.Verdicts.{ready-accepted}
-use Rattle.tasks.proofs.Progress.{Sound}
+use Rattle.tasks.proofs.Progress.{also-new, Sound}
 use Rattle.report.specs.Report.{progressOf, report}
 use Rattle.report.specs.Values.{valuesOf}
 use Rattle.report.proofs.Claims.{told, reported}
@@ -38,12 +39,12 @@ use Rattle.serial.proofs.FirstWords.{first-words}
 use Rattle.task_words.specs.declared.Half.the-variants.{Lone, Linked}
 use Rattle.task_words.specs.Strips.{stripPlace}
 use Rattle.task_words.proofs.Places.{side-fits}
-use Rattle.recall.specs.Recall.{reaches, clears, doneWithout}
+use Rattle.recall.specs.Recall.{NeedsBlock, its-own, through, reaches, clears, doneWithout}
 use Rattle.recall.proofs.Closure.{clears-what-needs-it}
 use Rattle.job_spec.specs.Calls.{Buffers, startAnswer, started, taskAnswer, afterCalls}
 use Rattle.job_spec.specs.Demand3.{Finished, doneAfter}
-use Rattle.job_spec.specs.Steps.{Step, perform, recall, afterStep, afterSteps, stepAnswer, stepAnswers, isLong, accepts, doneByStep, doneNow, dueToStep, wasMade, ClearedDoneAgain, onMap}
-use Rattle.job_spec.specs.Rescan.{Unchanged, RightFor, KeptFrom, RescanClaim, Rescan, AcceptedStep, ClearedAgain}
+use Rattle.job_spec.specs.Steps.{Step, perform, recall, afterStep, afterSteps, stepAnswer, stepAnswers, isLong, accepts, doneByStep, doneBySteps, doneNow, dueToStep, wasMade, wasCleared, ClearedDoneAgain, onMap}
+use Rattle.job_spec.specs.Rescan.{Unchanged, RightFor, KeptFrom, RescanClaim, Rescan, AcceptedStep, RecallClears, AcceptedTwice}
 use Rattle.job_spec.proofs.Cover.{pixel-of}
 use Rattle.job_spec.proofs.Done.{clash, made-is-done, fresh-done}
 use Rattle.job_spec.proofs.Invariant.{Kept, only-sound, by-accepts, step-answered, kept-steps, steps-answered}
@@ -288,11 +289,48 @@ rescan plan lent start-accepted output-long steps = claim plan lent start-accept
 
 -- ---- cleared tasks
 
-pub cleared-again : ClearedAgain
+-- What needs a block exists.
+needs-exists : (grid : Grid) (k t j : ℕ) → NeedsBlock grid k t j → exists grid t j ≡ true
+needs-exists grid k t j (its-own _ there) = there
+needs-exists grid k t j (through _ _ there need member needs) = there
+
+pub recall-clears : RecallClears
 unfolding accepts doneByStep doneWithout ready clears reaches hasTask
-cleared-again plan done k e =
-    let here = ltb-true k (blockTotal (plan .grid)) (and-left (ltb k (blockTotal (plan .grid))) (done 0 k) e) in (
-      λ t j needs. rw (e, clears-what-needs-it (plan .grid) k t j here .0 needs) (and-false (done t j)),
-      rw (e, has-exists (plan .grid) k here 0 refl, and-right (ltb k (blockTotal (plan .grid))) (done 0 k) e, eq-eqb k k refl)
-          (needs-none (doneWithout (plan .grid) done k) (plan .grid) k),
-    )
+recall-clears plan done k e =
+    let here = ltb-true k (blockTotal (plan .grid)) (and-left (ltb k (blockTotal (plan .grid))) (done 0 k) e) in
+    record {
+      no-longer-done = λ t j needs. rw (e, clears-what-needs-it (plan .grid) k t j here .0 needs) (and-false (done t j));
+      others-stay = λ t j needless. rw e (by (clears (plan .grid) k t j) (done t j) (λ c. needless (clears-what-needs-it (plan .grid) k t j here .1 c)));
+      collect-ready =
+          rw (e, has-exists (plan .grid) k here 0 refl, and-right (ltb k (blockTotal (plan .grid))) (done 0 k) e, eq-eqb k k refl)
+          (needs-none (doneWithout (plan .grid) done k) (plan .grid) k);
+      ready-again = λ t j needs later undone met. rw (needs-exists (plan .grid) k t j needs, undone, met);
+    }
+  where
+    by : (c d : Bool) → (c ≡ true → ⊥) → (d && not c) ≡ d
+    by true d f = absurd (f refl)
+    by false true f = refl
+    by false false f = refl
+
+-- ---- accepted twice
+
+stays-or-cleared : (plan : Plan) (done : ℕ → ℕ → Bool) (steps : List Step) (t k : ℕ) → done t k ≡ true
+    → doneBySteps plan done steps t k ≡ false → wasCleared plan done steps t k ≡ true
+unfolding doneBySteps wasCleared
+stays-or-cleared plan done [] t k e f = clash e f
+stays-or-cleared plan done (step ∷ steps) t k e f =
+    rw e
+    (by (doneByStep plan done step t k) (wasCleared plan (doneByStep plan done step) steps t k)
+    (λ i. stays-or-cleared plan (doneByStep plan done step) steps t k i f))
+  where
+    by : (then cleared : Bool) → (then ≡ true → cleared ≡ true) → (not then || cleared) ≡ true
+    by true cleared later = later refl
+    by false cleared later = refl
+
+pub accepted-twice : AcceptedTwice
+unfolding accepts doneByStep
+accepted-twice plan done first second t k steps e f =
+    let new : doneByStep plan done (perform first t k) t k ≡ true = rw e (also-new done t k) in
+    let again = doneBySteps plan (doneByStep plan done (perform first t k)) steps in
+    stays-or-cleared plan (doneByStep plan done (perform first t k)) steps t k new
+    (ready-undone (plan .grid) again t k (and-right (isLong plan second) (ready (plan .grid) again t k) f))

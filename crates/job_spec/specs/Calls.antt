@@ -1,5 +1,5 @@
 -- Start, the task call and a list of task calls: the exact answer, and the marks, strips and output after it.
--- Document 01, 'Blocks, marks and strips' and 'Refused calls'; document 02, CR 4, and CR 7 through `mapOf`.
+-- Document 01, 'Blocks, marks and strips' and 'Refused calls'; document 02, CR 4, CR 8, and CR 7 through `mapOf`.
 use mathlib.Core.Bool.{cond}
 use mathlib.Core.List.{List, [], _∷_, _++_}
 use Prim.Native.Nat.{ℕ, zero, suc, _+_, min}
@@ -82,7 +82,8 @@ unfoldable pub taskAnswer : Plan → List ℤ → Buffers → ℕ → ℕ → An
 taskAnswer plan heights buffers t k =
     firstDue (lentRows plan (lentToTask heights buffers) ++ verdictRows (plan .grid) (buffers .marks) t k)
 
--- The strips after an accepted task: collect writes the block's slot, a link the strip of its pass, finish none.
+-- The strips after an accepted task: collect writes the lone half of the block's slot, a link the strip of its pass in the
+-- linked half, finish none.
 unfoldable pub stripsAfter : Plan → List ℤ → ℕ → ℕ → List ℕ → List ℕ
 stripsAfter plan heights zero k strips = collected plan (mapOf plan heights) k strips
 stripsAfter plan heights (suc pass) k strips = cond (ltb pass 4) (linked plan k pass strips) strips

@@ -2,7 +2,7 @@
 -- Document 01, the paragraph on the words of demand 3; document 02, CR 4, CR 7 through `mapOf`, and CR 8 for the two halves of
 -- a slot. With recalls, and maps that change, demand 3 is `Rescan`; this follows from it.
 use mathlib.Core.Path.{_≡_}
-use mathlib.Core.Bool.{Bool, true, false, cond}
+use mathlib.Core.Bool.{Bool, true, cond}
 use mathlib.Core.Logic.{_≢_}
 use mathlib.Core.List.{List, [], _∷_, map}
 use Prim.Native.Nat.{ℕ, suc, _≤_, _<_}

@@ -43,7 +43,7 @@ use Rattle.report.specs.declared.ReportAnswer.{ReportAnswer}
 use Rattle.report.specs.declared.ReportAnswer.the-variants as reported
 use Rattle.report.specs.Values.{reportGiven}
 use Rattle.report.specs.Report.{marksRows, lentToReport, report}
-use Rattle.recall.specs.RecallCall.{recallAnswer}
+use Rattle.recall.specs.RecallCall.{lentToRecall, recallAnswer}
 use Rattle.mulzhegat.specs.Places.{PlacesFit}
 use Rattle.buffer.specs.Lists.{joined}
 
@@ -183,7 +183,7 @@ module _ (plan : Plan) where
   pub recall-place : (marks : List ℕ) (k : ℕ) → placeIn (recallAnswer plan marks k) < half
   unfolding recallAnswer
   recall-place marks k =
-      after-lent (lentToReport marks) _ (λ kept. (at-0, λ n. (block-place _ kept, λ n. (at-0, λ n. tt))))
+      after-lent (lentToRecall marks) _ (λ kept. (at-0, λ n. (block-place _ kept, λ n. (at-0, λ n. tt))))
 
   -- ---- the other calls: their refusals have place 0
 

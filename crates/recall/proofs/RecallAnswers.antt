@@ -24,8 +24,8 @@ use Rattle.plan.proofs.Known.{sizes-known, sizes-refused}
 use Rattle.plan.proofs.Record.{rules}
 use Rattle.tasks.specs.Marks.{isMarked}
 use Rattle.tasks.proofs.Verdicts.{none-broken-valid}
-use Rattle.report.specs.Report.{firstBroken, marksRows, lentToReport}
-use Rattle.recall.specs.RecallCall.{recallRows, recallAnswer, marksRecalled, marksAfterRecall}
+use Rattle.report.specs.Report.{firstBroken, marksRows}
+use Rattle.recall.specs.RecallCall.{lentToRecall, recallRows, recallAnswer, marksRecalled, marksAfterRecall}
 use Rattle.recall.specs.Clearing.{Clearable}
 
 -- What a recall tests of its own.
@@ -52,28 +52,28 @@ module _ (grid : Grid) (marks : List ℕ) (k : ℕ) where
 -- ---- after the tests of the record and of the length
 
 module _ (plan : Plan) (marks : List ℕ) (k : ℕ) (known : PlanSizes)
-    (is : sizesGiven known ≡ sizesFor plan (lentToReport marks)) where
+    (is : sizesGiven known ≡ sizesFor plan (lentToRecall marks)) where
   pub answer-lent : (refusal : Refusal) → known ≡ sizing.Refused refusal → refusedFor refusal ≡ recallAnswer plan marks k
   unfolding recallAnswer
   answer-lent refusal e =
-      refused-before (lentRows plan (lentToReport marks)) (ownRows (plan .grid) marks k)
-      (sizes-refused plan (lentToReport marks) known is refusal e)
+      refused-before (lentRows plan (lentToRecall marks)) (ownRows (plan .grid) marks k)
+      (sizes-refused plan (lentToRecall marks) known is refusal e)
 
   pub answer-marks : (sizes : Sizes) → known ≡ sizing.Known sizes → {answer : Answer}
       → answer ≡ firstDue (ownRows (plan .grid) marks k) → answer ≡ recallAnswer plan marks k
   unfolding recallAnswer
   answer-marks sizes e own =
       own
-      ∙ sym (accepted-before (lentRows plan (lentToReport marks)) (ownRows (plan .grid) marks k)
-      (sym (sizes-known plan (lentToReport marks) known is sizes e .0)))
+      ∙ sym (accepted-before (lentRows plan (lentToRecall marks)) (ownRows (plan .grid) marks k)
+      (sym (sizes-known plan (lentToRecall marks) known is sizes e .0)))
 
 -- ---- an accepted recall
 
 clearable : (plan : Plan) (marks : List ℕ) (k : ℕ) → accepted ≡ recallAnswer plan marks k → Clearable (plan .grid) marks k
 unfolding recallAnswer firstBroken
 clearable plan marks k e =
-    let (lent, own) = rows-accepted (lentRows plan (lentToReport marks)) (ownRows (plan .grid) marks k) (sym e) in
-    let enough = suffices plan (lentToReport marks) lent in
+    let (lent, own) = rows-accepted (lentRows plan (lentToRecall marks)) (ownRows (plan .grid) marks k) (sym e) in
+    let enough = suffices plan (lentToRecall marks) lent in
     let there = not-due _ _ _ _ own in
     let whole = not-due _ _ _ _ (there .others) in
     record {

@@ -1,13 +1,13 @@
 -- A recall on marks that show what is done: its answer, and the marks after it. Assumes nothing.
 use mathlib.Core.Path.{_≡_, refl, sym, ap, _∙_}
-use mathlib.Core.Bool.{Bool, true, false, not, _&&_, and-true, and-false, true≢false}
+use mathlib.Core.Bool.{Bool, true, false, not, _&&_, and-true, and-false}
 use mathlib.Core.List.{List, [], _∷_}
 use Prim.Native.Nat.{ℕ, _≤_, _<_}
 use native.Mathlib.Omega.{arith}
 use lib.Dec.{ltb}
 use lib.ListN.{length}
 use borrow.Author.Tests.{ltb-true, le-ltb}
-use Rattle.refusal.specs.Refusals.{accepted}
+use Rattle.number.proofs.Tests.{and-left}
 use Rattle.refusal.specs.Table.{_at_when_, firstDue}
 use Rattle.refusal.proofs.Table.{accepted-before}
 use Rattle.buffer.specs.Lists.{wordAt}
@@ -22,11 +22,11 @@ use Rattle.plan.specs.FirstTests.{lentRows}
 use Rattle.plan.proofs.FirstTests.{only-accepted}
 use Rattle.tasks.specs.Marks.{isMarked, markOf, Shows}
 use Rattle.tasks.proofs.Counting.{Only}
-use Rattle.tasks.proofs.Marking.{Valid, mark-same, shows-marked, shows-valid, valid-shows}
+use Rattle.tasks.proofs.Marking.{Valid, mark-same, shows-marked, shows-valid, valid-shows, valid-only}
 use Rattle.tasks.proofs.Verdicts.{below-whole, all-valid, first-least}
-use Rattle.report.specs.Report.{firstBroken, lentToReport}
+use Rattle.report.specs.Report.{firstBroken}
 use Rattle.recall.specs.Recall.{clears, doneWithout}
-use Rattle.recall.specs.RecallCall.{recallRows, recallAnswer, marksRecalled, RefusedInOrder, ClearsMarksOfWhatNeedsIt, OtherMarksStay}
+use Rattle.recall.specs.RecallCall.{recallRows, recallAnswer, marksRecalled, lentToRecall, MarksDecideRecall, ClearsMarksOfWhatNeedsIt, OtherMarksStay, RecalledMarksWhole}
 use Rattle.recall.proofs.Closure.{clears-what-needs-it}
 use Rattle.recall.proofs.RecallAnswers.{ownRows, no-block, mark-broken, not-collected, collected}
 
@@ -37,16 +37,16 @@ own-tests : (plan : Plan) (marks : List ℕ) (k : ℕ) → keepsRules plan ≡ t
     → recallAnswer plan marks k ≡ firstDue (ownRows (plan .grid) marks k)
 unfolding recallAnswer
 own-tests plan marks k kept enough =
-    accepted-before (lentRows plan (lentToReport marks)) (ownRows (plan .grid) marks k)
+    accepted-before (lentRows plan (lentToRecall marks)) (ownRows (plan .grid) marks k)
     (sym (only-accepted plan (Marks (length marks)) kept enough))
 
 none-broken : (grid : Grid) (marks : List ℕ) → Valid grid marks → blockTotal grid ≤ firstBroken grid marks
 unfolding firstBroken
 none-broken grid marks valid = omega (arith, all-valid grid marks valid)
 
-pub refused-in-order : RefusedInOrder
+pub marks-decide-recall : MarksDecideRecall
 unfolding firstBroken
-refused-in-order plan marks k kept enough =
+marks-decide-recall plan marks k kept enough =
     let grid = plan .grid in
     let tested = own-tests plan marks k kept enough in
     record {
@@ -55,7 +55,7 @@ refused-in-order plan marks k kept enough =
           let least = first-least grid marks j l (below-whole grid marks j (omega arith) before) broken in
           tested ∙ sym (mark-broken grid marks k h j least l);
       not-collected = λ h valid e. tested ∙ sym (not-collected grid marks k h _ refl (none-broken grid marks valid) e);
-      collected = λ h valid e. tested ∙ sym (collected grid marks k h _ refl (none-broken grid marks valid) e);
+      block-collected = λ h valid e. tested ∙ sym (collected grid marks k h _ refl (none-broken grid marks valid) e);
     }
 
 -- Enough marks that show what is done are answered by what is done.
@@ -125,3 +125,9 @@ other-marks-stay grid marks enough valid k j h free =
     by : (marked cleared : Bool) → (marked ≡ true → cleared ≡ false) → (marked && not cleared) ≡ marked
     by true cleared f = ap not (f refl)
     by false cleared f = refl
+
+pub recalled-marks-whole : RecalledMarksWhole
+unfolding doneWithout
+recalled-marks-whole grid marks enough valid k j h =
+    shows-valid grid (doneWithout grid (isMarked marks) k) (marksRecalled grid k marks) (recalled-at grid k marks enough)
+    (λ t i l b e. valid-only grid marks valid t i l b (and-left (isMarked marks t i) (not (clears grid k t i)) e)) j h

@@ -13,9 +13,11 @@ use Rattle.grid.specs.declared.Grid.{Grid}
 use Rattle.grid.specs.Grid.{blockTotal}
 use Rattle.plan.specs.declared.Plan.{Plan}
 use Rattle.plan.specs.Rules.{keepsRules}
-use Rattle.plan.specs.FirstTests.{lentRows}
+use Rattle.plan.specs.declared.BufferOf7.the-variants.{Marks}
+use Rattle.plan.specs.declared.Lengths.{Lengths}
+use Rattle.plan.specs.FirstTests.{lentRows, onlyOf7}
 use Rattle.tasks.specs.Marks.{isMarked, markValidAt, markOf}
-use Rattle.report.specs.Report.{lentToReport, marksRows}
+use Rattle.report.specs.Report.{marksRows}
 use Rattle.recall.specs.Recall.{NeedsBlock, clears, doneWithout}
 
 -- What a recall of block k is refused by: 8 where there is no such block, 17 where it is not collected. The tests of marks, if
@@ -24,10 +26,14 @@ abbrev pub recallRows : Grid → (done : ℕ → ℕ → Bool) → (broken : Lis
 recallRows grid done broken k =
     8 at 0 when not (ltb k (blockTotal grid)) ∷ (broken ++ (17 at 0 when not (done 0 k) ∷ []))
 
+-- Recall is lent marks.
+abbrev pub lentToRecall : List ℕ → Lengths
+lentToRecall marks = onlyOf7 (Marks (length marks))
+
 -- What a recall of block k answers: 6, 7 for the marks, which are all that it is lent, 8, 9 at the least broken mark of all, 17.
 unfoldable pub recallAnswer : Plan → List ℕ → ℕ → Answer
 recallAnswer plan marks k =
-    firstDue (lentRows plan (lentToReport marks) ++ recallRows (plan .grid) (isMarked marks) (marksRows (plan .grid) marks) k)
+    firstDue (lentRows plan (lentToRecall marks) ++ recallRows (plan .grid) (isMarked marks) (marksRows (plan .grid) marks) k)
 
 -- The marks after an accepted recall of block k: the bits of the tasks that it clears are gone.
 unfoldable pub marksRecalled : Grid → ℕ → List ℕ → List ℕ
@@ -39,8 +45,8 @@ marksAfterRecall plan k marks = ifAccepted (recallAnswer plan marks k) (marksRec
 
 -- ---- what is claimed of it
 
--- What a recall is answered beside a record that keeps the rules and enough marks.
-pub record RecallRefusals (plan : Plan) (marks : List ℕ) (k : ℕ) : Type 0 where
+-- What the marks answer a recall, beside a record that keeps the rules and enough of them.
+pub record AnsweredByMarks (plan : Plan) (marks : List ℕ) (k : ℕ) : Type 0 where
   -- Where there is no such block it is refused by 8, whatever the marks are.
   pub no-block : blockTotal (plan .grid) ≤ k → recallAnswer plan marks k ≡ refused 8 0
   -- At a block of the map it is refused by 9 at the least broken mark of all, collected or not.
@@ -52,15 +58,15 @@ pub record RecallRefusals (plan : Plan) (marks : List ℕ) (k : ℕ) : Type 0 wh
       → ((j : ℕ) → j < blockTotal (plan .grid) → markValidAt (plan .grid) marks j ≡ true)
       → isMarked marks 0 k ≡ false → recallAnswer plan marks k ≡ refused 17 0
   -- and one that is collected is accepted.
-  pub collected : k < blockTotal (plan .grid)
+  pub block-collected : k < blockTotal (plan .grid)
       → ((j : ℕ) → j < blockTotal (plan .grid) → markValidAt (plan .grid) marks j ≡ true)
       → isMarked marks 0 k ≡ true → recallAnswer plan marks k ≡ accepted
 
 -- So it is for every such record, marks and block.
-abbrev pub RefusedInOrder : Type 0
-RefusedInOrder =
+abbrev pub MarksDecideRecall : Type 0
+MarksDecideRecall =
     (plan : Plan) (marks : List ℕ) (k : ℕ) → keepsRules plan ≡ true → blockTotal (plan .grid) ≤ length marks
-    → RecallRefusals plan marks k
+    → AnsweredByMarks plan marks k
 
 -- An accepted recall clears the marks of the block's tasks and of every task that needs it, directly or through others,
 -- whatever is marked between; and no further mark.
@@ -71,10 +77,17 @@ ClearsMarksOfWhatNeedsIt =
     → (NeedsBlock grid k t j → isMarked (marksRecalled grid k marks) t j ≡ false)
     × ((NeedsBlock grid k t j → ⊥) → isMarked (marksRecalled grid k marks) t j ≡ isMarked marks t j)
 
--- On any marks that refusal 9 lets through, a mark that has none of the bits that a recall clears stays as it was.
+-- On any marks that refusal 9 lets through, a mark that has none of the bits that a recall clears stays as it was,
 abbrev pub OtherMarksStay : Type 0
 OtherMarksStay =
     (grid : Grid) (marks : List ℕ) → blockTotal grid ≤ length marks
     → ((j : ℕ) → j < blockTotal grid → markValidAt grid marks j ≡ true) → (k j : ℕ) → j < blockTotal grid
     → ((t : ℕ) → t < 6 → isMarked marks t j ≡ true → clears grid k t j ≡ false)
     → wordAt (marksRecalled grid k marks) j ≡ wordAt marks j
+
+-- and a mark that loses bits keeps its kind and has no spare bit.
+abbrev pub RecalledMarksWhole : Type 0
+RecalledMarksWhole =
+    (grid : Grid) (marks : List ℕ) → blockTotal grid ≤ length marks
+    → ((j : ℕ) → j < blockTotal grid → markValidAt grid marks j ≡ true) → (k j : ℕ) → j < blockTotal grid
+    → markValidAt grid (marksRecalled grid k marks) j ≡ true

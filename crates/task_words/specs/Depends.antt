@@ -8,15 +8,12 @@ use Prim.Native.Nat.{ℕ, suc, _<_}
 use Rattle.plan.specs.declared.Plan.{Plan}
 use Rattle.plan.specs.Sizes.{neededMarks, orderOf}
 use Rattle.buffer.specs.Lists.{wordAt}
-use Rattle.grid.specs.Grid.{rowsOf, columnsOf, partOf, neighbour, goesOn}
+use Rattle.grid.specs.Grid.{rowsOf, columnsOf, neighbour, goesOn}
 use Rattle.task_words.specs.declared.Half.{Half}
 use Rattle.task_words.specs.declared.Half.the-variants.{Lone, Linked}
 use Rattle.task_words.specs.Strips.{stripPlace, insideBlock}
 use Rattle.task_words.specs.Writes.{aloneWord, linkWord, finishWord}
-
--- Two maps have the same pixels in block k.
-abbrev pub SameBlock : Plan → ℕ → (X Y : ℕ → ℕ → ℕ) → Type 0
-SameBlock plan k X Y = (y x : ℕ) → y < rowsOf (plan .grid) k → x < columnsOf (plan .grid) k → partOf (plan .grid) k X y x ≡ partOf (plan .grid) k Y y x
+use Rattle.task_words.specs.Matching.{SameBlock}
 
 -- Two lists have the same words in block k's strip of a pass, in a half, at the places that lie in the block: those outside
 -- are read as 0, whatever a lent buffer holds there.

@@ -1,4 +1,4 @@
--- Three jobs of our own, worked by hand by the rules of document 01 and of CR 8 in document 02, word by word: the strips once all blocks are collected, the strips
+-- Four jobs of our own, worked by hand by the rules of document 01 and of CR 8 in document 02, word by word: the strips once all blocks are collected, the strips
 -- once all links are done, and the output. A last block is short in the first two, and down and right meet in the third.
 use mathlib.Core.List.{List, [], _∷_, _++_, map}
 use Prim.Native.Nat.{ℕ, zero, suc}
@@ -9,7 +9,7 @@ use Rattle.plan.specs.declared.Pass.{Pass}
 use Rattle.plan.specs.declared.Plan.{Plan}
 use Rattle.plan.specs.Sizes.{neededMarks, neededStrips, neededPixels}
 use Rattle.passes.specs.Examples.{Example, minus}
-use Rattle.filter.specs.PlanFilters.{passOf, unchangedPass, summedAreaPasses, mapOf}
+use Rattle.filter.specs.PlanFilters.{passOf, unchangedPass, runningSumPass, summedAreaPasses, mapOf}
 use Rattle.task_words.specs.Writes.{collected, linked, finished}
 
 -- ---- a job
@@ -179,6 +179,24 @@ tableJob =
       outputFinished = pos 1 ∷ pos 3 ∷ pos 4 ∷ pos 10 ∷ [];
     }
 
+-- Running sums down a column of four blocks, b = 1: the link of block 2 takes in the linked strip of block 1, which is not its
+-- lone one.
+abbrev pub sumsJob : WorkedJob
+sumsJob =
+    record {
+      plan =
+          record {
+            grid = record { rows = 4; columns = 1; side = 1 };
+            passes = runningSumPass ∷ unchangedPass ∷ unchangedPass ∷ unchangedPass ∷ [];
+          };
+      heights = pos 1 ∷ pos 2 ∷ pos 3 ∷ pos 4 ∷ [];
+      links = record { block = 0; pass = 0 } ∷ record { block = 1; pass = 0 } ∷ record { block = 2; pass = 0 } ∷ [];
+      stripsCollected = λ unwritten.
+          pos 1 ∷ unwritten ∷ pos 2 ∷ unwritten ∷ pos 3 ∷ unwritten ∷ pos 0 ∷ unwritten ∷ [];
+      stripsLinked = λ unwritten. pos 1 ∷ pos 1 ∷ pos 2 ∷ pos 3 ∷ pos 3 ∷ pos 6 ∷ pos 0 ∷ unwritten ∷ [];
+      outputFinished = pos 1 ∷ pos 3 ∷ pos 6 ∷ pos 10 ∷ [];
+    }
+
 -- All of them.
 unfoldable pub blocksExamples : List (Example (List ℕ))
-blocksExamples = jobExamples columnJob ++ (jobExamples rowJob ++ jobExamples tableJob)
+blocksExamples = jobExamples columnJob ++ (jobExamples rowJob ++ (jobExamples tableJob ++ jobExamples sumsJob))

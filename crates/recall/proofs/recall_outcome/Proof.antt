@@ -2,7 +2,7 @@
 use mathlib.Core.Path.{_≡_}
 use borrow.Author.Needs.{needs}
 use Rattle.plan.specs.FirstTests.{sizesFor, sizesGiven}
-use Rattle.report.specs.Report.{lentToReport}
+use Rattle.recall.specs.RecallCall.{lentToRecall}
 use Rattle.report.proofs.ReportAnswers.{marks-lent}
 use Rattle.recall.proofs.RecallAnswers.{answer-lent, answer-marks}
 use Rattle.recall.proofs.recall_outcome.Statement.{statement}
@@ -14,7 +14,7 @@ at-start c = c .before .before .before
 -- The record and the length of the marks were tested.
 tested : (c : tie.After-sizes-for)
     → sizesGiven (c .sizes-for .result)
-    ≡ sizesFor (at-start c .args .plan) (lentToReport (at-start c .args .marks .now))
+    ≡ sizesFor (at-start c .args .plan) (lentToRecall (at-start c .args .marks .now))
 tested c = rw (c .before .only-of-7 .ensures) at (c .sizes-for .ensures)
 
 only-of-7-requires : tie.Need-only-of-7-requires
