@@ -44,7 +44,7 @@
  * nothing.
  *
  * The functions keep no state between calls. Calls that share no buffer that one of them writes may run at the same
- * time; two mzg_task calls of one job must not. A job may be broken off between any two calls: keep plan, map, marks,
+ * time; two mzg_task calls of one job must not, nor mzg_recall or mzg_report beside an mzg_task or mzg_recall of it. A job may be broken off between any two calls: keep plan, map, marks,
  * strips and output. Of a job that is taken up again only the kind and the spare bits of its marks are tested, not that
  * its buffers belong together: put a checksum over what you save. mzg_task takes less than 26 KiB of stack, every other
  * call less than 4 KiB (the C library may take some 3 KiB more where it binds memcpy or memset at their first call).
@@ -165,11 +165,12 @@ uint64_t mzg_start(const mzg_plan *plan, uint32_t *marks, size_t marks_len, uint
  * A need on a neighbour beyond the map falls away. Collect and finish read dropouts as 0. Collect and the links write
  * in the block's slot of the strips, its part of 2 * side * (sum of the four orders) words: collect the first half, the
  * links the second (no caller needs more of its layout). Finish writes the block's output words, which are those of
- * mzg_serial from then on; an accepted task also sets bit `task` of the block's mark, and nothing else changes. The
- * output need not be set before. Lend the same map to every call of a job; the heights of a block may change only while
- * it is not collected, and mzg_recall is the way back there. Calls may come in any order: one that comes too early is
- * refused by 11 and may be repeated. An order without any 11: the tasks 0 to 5 one after another, each over the blocks
- * by their number, 2 and 4 from the last block to the first (links that a block does not have are refused by 8).
+ * mzg_serial as long as the finish stays done; an accepted task also sets bit `task` of the block's mark, and nothing
+ * else changes. The output need not be set before. Lend the same map to every call of a job; where heights of a block
+ * change after its collect, the block has to be recalled (mzg_recall). Calls may come in any order: one that comes too
+ * early is refused by 11 and may be repeated. An order without any 11: the tasks 0 to 5 one after another, each over
+ * the blocks by their number, 2 and 4 from the last block to the first (links that a block does not have are refused by
+ * 8).
  * Needs, for every task, also one that does not read or write them: sizes.marks marks, sizes.strips strip words,
  * sizes.pixels map and output words.
  * Refused: 6, 7 (marks), 14 (strips), 15 (map), 16 (output), 8, 9 (the marks of the block and of the neighbours in its
@@ -183,18 +184,19 @@ uint64_t mzg_task(const mzg_plan *plan, size_t task, size_t block, const int32_t
  * Refused: 6, 7 (marks), 9; the progress is then all zeros. */
 uint64_t mzg_report(const mzg_plan *plan, const uint32_t *marks, size_t marks_len, mzg_progress *progress);
 
-/* Recalls a block that is to be scanned again: its marks, and those of every task that needs it, directly or through
- * others, lose their bits, whatever is marked between; no other bit changes, and strips and output are not touched.
- * Recalling block (m, n) clears its collect, the down links of column n from row m on, all up links of column n, all
- * right links from column n on, all left links and all finishes; the collects of all other blocks stay done. A chip lay
- * on a block, the operator has blown it off:
+/* Recalls a block that is scanned again: clears the bits of all its tasks and of every task that needs one of them,
+ * directly or through others, also where a task in between is not marked. No other bit changes, and strips and output
+ * are not touched. Recalling block (m, n) clears its collect, the down links of column n from row m on, all up links of
+ * column n, all right links from column n on, all left links and all finishes; the collects of other blocks stay as
+ * they are. On a large map that is a little less than half of all tasks, and about half of the work. A chip lay on a
+ * block, the operator has blown it off:
  *
  *     mzg_progress next;
  *     uint64_t answer = mzg_recall(&plan, block, marks, marks_len);
  *     if (MZG_NUMBER(answer) == MZG_BLOCK_NOT_COLLECTED)
- *         answer = MZG_ACCEPTED; // there is nothing to clear
+ *         answer = MZG_ACCEPTED; // nothing was made of its heights yet
  *     if (answer == MZG_ACCEPTED)
- *         scan_again(map, block); // its heights alone, and not before: of a collected block they must not change
+ *         scan_again(map, block); // the heights of this block alone
  *     while (answer == MZG_ACCEPTED
  *            && (answer = mzg_report(&plan, marks, marks_len, &next)) == MZG_ACCEPTED && next.ready)
  *         answer = mzg_task(&plan, next.task, next.block, map, map_len, marks, marks_len, strips, strips_len,
@@ -202,13 +204,21 @@ uint64_t mzg_report(const mzg_plan *plan, const uint32_t *marks, size_t marks_le
  *     if (answer != MZG_ACCEPTED)
  *         stop_for_the_operator();
  *
- * Then marks, strips and output are, word for word, those of a fresh job on the new map. On a large map call the tasks
- * in the order of mzg_task instead of asking for a report before each: those that are still done are refused by 10, and
- * nothing is done twice. A job need not be whole: once the cleared tasks are done again it is as a fresh job, begun on
- * the same lent words, with the same tasks done. Several blocks may be recalled before they are scanned, each by a call
- * of its own. Until its task is done again, a strip or a block of the output keeps its old words: a total read
- * meanwhile mixes both maps. Where a height was changed, even for a time, while its block was collected, no call
- * notices, and nothing is promised of the tasks that need the block: recall it.
+ * Then marks, strips and output are, word for word, those of a fresh job on the new map. A job need not be whole: once
+ * the cleared tasks are done again it is as a fresh job, begun on the same lent words, with the same tasks done.
+ *
+ * A report looks at all marks: with more than some hundred blocks call the tasks in the order of mzg_task instead,
+ * where those that are still done are refused by 10 (4,096 x 4,096 heights, side 32, the summed table: some 0.07 s,
+ * where the loop above takes 7 s).
+ *
+ * Several blocks may be recalled, each by a call of its own; scan all of them before you perform a task. The marks do
+ * not know that a scan is due: the report names the collect of a recalled block at once, and a collect of old heights
+ * is not refused. Where a job may be broken off between recall and scan, keep which blocks wait. A block may be scanned
+ * before it is recalled too, as long as it is recalled: where a height has changed since the last collect of its block,
+ * even for a time, no call notices, and nothing is promised of the tasks that need the block.
+ *
+ * Until its task is done again, a strip or a block of the output keeps its old words: a total read meanwhile mixes both
+ * maps. A job that a version before recalls began has strips of another layout, which nothing tests: start it anew.
  * Needs sizes.marks marks and looks at all of them.
  * Refused: 6, 7 (marks), 8 (no such block), 9, 17 (the block is not collected). */
 uint64_t mzg_recall(const mzg_plan *plan, size_t block, uint32_t *marks, size_t marks_len);

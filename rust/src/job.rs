@@ -107,17 +107,21 @@ pub fn report_into(plan: &Plan, marks: &[u32], progress: &mut Progress) -> Resul
     Refusal::check(unsafe { mzg_report(plan, marks.as_ptr(), marks.len(), progress) })
 }
 
-/// Recalls a block that is scanned again: clears its marks and those of every task that needs it, directly or through
-/// others, and no further mark. Strips and output are not lent: what a cleared task wrote stays until it is done again.
-/// Needs [`Sizes::marks`] marks, and looks at all of them.
+/// Recalls a block that is scanned again: clears the bits of its tasks and of every task that needs one of them,
+/// directly or through others, and no other bit. Of block (m, n) these are its collect, the down links of column n from
+/// row m on, all up links of column n, all right links from column n on, all left links and all finishes. Strips and
+/// output are not lent: what a cleared task wrote stays until it is done again. Needs [`Sizes::marks`] marks, and looks
+/// at all of them.
 ///
 /// # Errors
-/// 6, 7 (marks), 8 (no such block), 9, 17 (the block is not collected).
+/// 6, 7 (marks), 8 (no such block), 9, 17 (the block is not collected: nothing was made of its heights yet, and it may
+/// be scanned all the same).
 ///
 /// # One block rescanned
 /// Recall the block, scan it again, and perform what the report names until it names none. Marks, strips and output are
-/// then those of a job that was started on the new map. The heights of the other blocks must not have changed since they
-/// were collected, even for a time: what was worked out from them would stay.
+/// then those of a job that was started on the new map. Recall several blocks by a call each, and scan all of them
+/// before a task is performed: the marks do not know that a scan is due. Where heights of a block have changed since its
+/// last collect, even for a time, no call notices: recall it.
 ///
 /// ```
 /// use mulzhegat::{job, plan, Plan};

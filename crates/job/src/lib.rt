@@ -114,7 +114,8 @@ fn perform(
     write_block(plan, task, block, map, strips, output);
 }
 
-// Writes what a task writes: collect the block's slot, a link its strip, finish the block's output words.
+// Writes what a task writes: collect the lone half of the block's slot, a link its strip in the linked half, finish the
+// block's output words.
 fn write_block(
     plan: Plan,
     task: usize,

@@ -1,5 +1,6 @@
--- Four jobs of our own, worked by hand by the rules of document 01 and of CR 8 in document 02, word by word: the strips once all blocks are collected, the strips
--- once all links are done, and the output. A last block is short in the first two, and down and right meet in the third.
+-- Four jobs of our own, worked by hand by the rules of document 01 and of document 02, CR 8, word by word: the strips once all
+-- blocks are collected, the strips once all links are done, and the output. A last block is short in the first two, down and
+-- right meet in the third, and links follow links in the fourth.
 use mathlib.Core.List.{List, [], _∷_, _++_, map}
 use Prim.Native.Nat.{ℕ, zero, suc}
 use lib.IntN.{ℤ, pos}
