@@ -44,10 +44,11 @@
  * nothing.
  *
  * The functions keep no state between calls. Calls that share no buffer that one of them writes may run at the same
- * time; two mzg_task calls of one job must not, nor mzg_recall or mzg_report beside an mzg_task or mzg_recall of it. A job may be broken off between any two calls: keep plan, map, marks,
- * strips and output. Of a job that is taken up again only the kind and the spare bits of its marks are tested, not that
- * its buffers belong together: put a checksum over what you save. mzg_task takes less than 26 KiB of stack, every other
- * call less than 4 KiB (the C library may take some 3 KiB more where it binds memcpy or memset at their first call).
+ * time; two mzg_task calls of one job must not, nor mzg_recall or mzg_report beside an mzg_task or mzg_recall of it. A
+ * job may be broken off between any two calls: keep plan, map, marks, strips and output. Of a job that is taken up
+ * again only the kind and the spare bits of its marks are tested, not that its buffers belong together: put a checksum
+ * over what you save. mzg_task takes less than 26 KiB of stack, every other call less than 4 KiB (the C library may
+ * take some 3 KiB more where it binds memcpy or memset at their first call).
  */
 #ifndef MULZHEGAT_H
 #define MULZHEGAT_H
