@@ -120,8 +120,8 @@ pub fn report_into(plan: &Plan, marks: &[u32], progress: &mut Progress) -> Resul
 /// # One block rescanned
 /// Recall the block, scan it again, and perform what the report names until it names none. Marks, strips and output are
 /// then those of a job that was started on the new map. Recall several blocks by a call each, and scan all of them
-/// before a task is performed: the marks do not know that a scan is due. Where heights of a block have changed since its
-/// last collect, even for a time, no call notices: recall it.
+/// before a task is performed: the marks do not know that a scan is due. Where heights of a block have changed since
+/// its last collect, even for a time, no call notices: recall it.
 ///
 /// ```
 /// use mulzhegat::{job, plan, Plan};
