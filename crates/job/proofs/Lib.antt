@@ -1,4 +1,4 @@
 pub mod Starting
 pub mod Tasking
+pub mod Stepping
 pub mod Running
-pub mod CalledInTurn

@@ -1,3 +1,3 @@
 pub mod Fits
 pub mod RunCalls
-pub mod CalledInTurn
+pub mod RunSteps

@@ -1,4 +1,4 @@
-// The calls of a job: the start, one task, and a list of tasks one after another.
+// The calls of a job: the start, one task, and a list of tasks, or of tasks and recalls, one after another.
 use plan::BufferOf7;
 use plan::Length;
 use plan::Lengths;
@@ -11,8 +11,13 @@ ghost use lib.ListN.{length};
 ghost use Rattle.refusal.specs.Refusals.{accepted};
 ghost use Rattle.refusal.specs.Table.{answerOf, ifAccepted};
 ghost use Rattle.job_spec.specs.Calls.{lists, startAnswer, unmarked, marksAfterStart, stripsAfterStart, taskAnswer, stripsAfter, outputAfter, performed, afterTask, callsOf};
+ghost use Rattle.job_spec.specs.Steps.{afterStep, stepAnswer};
 ghost use Rattle.job.specs.Fits.{Fits};
 ghost use Rattle.job.specs.RunCalls.{Ran};
+ghost use Rattle.job.specs.RunSteps.{RanSteps, stepAt, stepsOf};
+
+// The number that stands for a recall in a list of steps: tasks are 0 to 5.
+pub const RECALL: usize = 6;
 
 // Starts a job: no task is marked, and all needed strip words are 0.
 pub fn start(plan: Plan, marks: &mut [u32], strips: &mut [u64]) -> Outcome
@@ -159,6 +164,52 @@ pub fn run_calls(
         i += 1;
     }
     accepted
+}
+
+// Steps, one after another: step number i is a recall of block blocks[i] where tasks[i] is `RECALL`, else a call of task tasks[i]
+// at block blocks[i], as many as the shorter list has. The answer is how many were accepted. Demand 3 with recalls is part of
+// its contract.
+pub fn run_steps(
+    plan: Plan,
+    tasks: &[usize],
+    blocks: &[usize],
+    map: &[i32],
+    marks: &mut [u32],
+    strips: &mut [u64],
+    output: &mut [u64],
+) -> usize
+    ensures { λ r. ⌜ RanSteps plan (stepsOf (now (map .entry)) (now (tasks .entry)) (now (blocks .entry))) (lists (now (marks .entry)) (now (strips .entry)) (now (output .entry))) (lists (now (marks .exit)) (now (strips .exit)) (now (output .exit))) r ⌝ }
+{
+    let count = number::lesser(tasks.len(), blocks.len());
+    let mut accepted = 0;
+    let mut i = 0;
+    while i < count {
+        let number = tasks[i];
+        let block = blocks[i];
+        let outcome = step(plan, number, block, map, marks, strips, output);
+        accepted += one_if_accepted(outcome);
+        i += 1;
+    }
+    accepted
+}
+
+// One step: a recall, which is lent the marks alone, or a call of a task.
+fn step(
+    plan: Plan,
+    number: usize,
+    block: usize,
+    map: &[i32],
+    marks: &mut [u32],
+    strips: &mut [u64],
+    output: &mut [u64],
+) -> Outcome
+    ensures answer { λ r. ⌜ answerOf r ≡ stepAnswer plan (stepAt (now (map .entry)) number block) (lists (now (marks .entry)) (now (strips .entry)) (now (output .entry))) ⌝ }
+    ensures written { λ _. ⌜ lists (now (marks .exit)) (now (strips .exit)) (now (output .exit)) ≡ afterStep plan (stepAt (now (map .entry)) number block) (lists (now (marks .entry)) (now (strips .entry)) (now (output .entry))) ⌝ }
+{
+    if number == RECALL {
+        return recall::recall(plan, block, marks);
+    }
+    task(plan, number, block, map, marks, strips, output)
 }
 
 fn one_if_accepted(outcome: Outcome) -> usize

@@ -1,5 +1,6 @@
 pub mod CallAnswers
 pub mod Done
+pub mod InTurn
 pub mod Wrote
 pub mod Judged
 pub mod Invariant

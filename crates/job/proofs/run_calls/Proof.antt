@@ -1,17 +1,17 @@
--- The loop keeps `Running`: what is left of the list gives what the whole list gives.
+-- The loop keeps `RunningCalls`: what is left of the list gives what the whole list gives.
 use native.Mathlib.Omega.{arith}
 use Prim.Native.Nat.{_-_}
 use mathlib.Core.Path.{_≡_, refl, _∙_}
 use lib.ListN.{length}
 use Rattle.job_spec.specs.Calls.{lists}
-use Rattle.job.proofs.Running.{Running, running-start, running-next, running-end, one-most}
+use Rattle.job.proofs.Running.{RunningCalls, running-start, calls-next, calls-end, one-most}
 use borrow.Author.Needs.{needs}
 use Rattle.job.proofs.run_calls.Statement.{statement}
 use Rattle.job.proofs.run_calls.Tie as tie
 
 abbrev Inv-loop : tie.InvT-loop
 Inv-loop plan tasks blocks map marks₀ strips₀ output₀ count accepted₀ i₀ marks strips output accepted i =
-    Running plan map tasks blocks count (lists marks₀ strips₀ output₀) i accepted (lists marks strips output)
+    RunningCalls plan map tasks blocks count (lists marks₀ strips₀ output₀) i accepted (lists marks strips output)
     × (length marks ≡ length marks₀)
     × (length strips ≡ length strips₀)
     × (length output ≡ length output₀)
@@ -34,7 +34,7 @@ lesser-requires : tie.Need-lesser-requires Inv-loop μ-loop
 lesser-requires c κs = search needs
 
 loop-holds : tie.Need-loop-holds Inv-loop μ-loop
-loop-holds c = (running-start _ _ _ _ _ _, refl, refl, refl)
+loop-holds c = (running-start _ _ _ _, refl, refl, refl)
 
 mul-number : tie.Need-mul-number Inv-loop μ-loop
 mul-number c = search needs
@@ -71,7 +71,7 @@ loop-again c =
     let task = at-task c in
     let inv = at-loop task .loop .inv in
     let called = task .task .ensures in (
-      running-next _ _ _ _ _ _ _ _ _ (inv .0) (omega arith) (task .task .result) (called .0) _ (c .one-if-accepted .ensures) _
+      calls-next _ _ _ _ _ _ _ _ _ (inv .0) (omega arith) (task .task .result) (called .0) _ (c .one-if-accepted .ensures) _
           (called .1),
       c .before .before .before .before .before .before .marks .given ∙ inv .1,
       c .before .before .before .before .strips .given ∙ inv .2,
@@ -89,7 +89,7 @@ same-length-3 c = c .before .loop .inv .3
 
 returns : tie.Need-returns Inv-loop μ-loop
 returns c =
-    rw (← c .before .before .lesser .ensures) (running-end _ _ _ _ _ _ _ _ _ (c .before .loop .inv .0) (omega arith))
+    rw (← c .before .before .lesser .ensures) (calls-end _ _ _ _ _ _ _ _ _ (c .before .loop .inv .0) (omega arith))
 
 pub run-calls-spec : {M : Type 1} → statement M
 run-calls-spec =
