@@ -1,10 +1,11 @@
-// A test program: it performs a list of calls from standard input with `job::run_calls`, broken off in its middle, and prints all
-// that is left of the job.
+// A test program: it performs a list of calls from standard input, the first half with `job::run_calls` and the rest with
+// `job::run_steps`, and prints all that is left of the job.
 //
 // The input has little-endian words of 32 bits: the plan up to its first word of kind 6, the heights, and pairs of a task and a
-// block. What is past the limits below is not looked at. A job that needs more marks or strips than there is room for is
-// refused by 7 or 14 at its start; with too many pixels, or heights missing, each call is refused by 15 and none is
-// accepted.
+// block. The task number 6 is a recall of the block in the second half, and a task that does not exist in the first. What is
+// past the limits below is not looked at. A job that needs more marks or strips than there is room for is refused by 7 or 14 at
+// its start; with too many pixels, or heights missing, each call of a task is refused by 15 and none is accepted, so that no
+// block is collected and each recall is refused too.
 use libc::STDIN_FILENO;
 use libc::STDOUT_FILENO;
 use plan::Plan;
@@ -90,7 +91,7 @@ fn run_job(
     }
 }
 
-// The first half of the calls, and then the rest. Both times more blocks than tasks are lent.
+// The first half of the calls, and then the rest, with recalls among it. Both times more blocks than tasks are lent.
 fn run_list(
     plan: Plan,
     tasks: &[usize],
@@ -104,7 +105,7 @@ fn run_list(
 {
     let half = tasks.len() / 2;
     let first = job::run_calls(plan, &tasks[..half], blocks, map, marks, strips, output);
-    let rest = job::run_calls(
+    let rest = job::run_steps(
         plan,
         &tasks[half..],
         &blocks[half..],

@@ -12,32 +12,32 @@ slice-aggregate-run-calls c = sym (length-take-le _ _ (omega arith))
 run-calls-requires : tie.Need-run-calls-requires
 run-calls-requires c κs = search needs
 
-mul-run-calls : tie.Need-mul-run-calls
-mul-run-calls c = search needs
+mul-run-steps : tie.Need-mul-run-steps
+mul-run-steps c = search needs
 
-sub-run-calls : tie.Need-sub-run-calls
-sub-run-calls c = search needs
+sub-run-steps : tie.Need-sub-run-steps
+sub-run-steps c = search needs
 
-part-run-calls-start : tie.Need-part-run-calls-start
-part-run-calls-start c = search needs
+part-run-steps-start : tie.Need-part-run-steps-start
+part-run-steps-start c = search needs
 
-part-run-calls-end : tie.Need-part-run-calls-end
-part-run-calls-end c = search needs
+part-run-steps-end : tie.Need-part-run-steps-end
+part-run-steps-end c = search needs
 
-mul-run-calls-2 : tie.Need-mul-run-calls-2
-mul-run-calls-2 c = search needs
+mul-run-steps-2 : tie.Need-mul-run-steps-2
+mul-run-steps-2 c = search needs
 
-sub-run-calls-2 : tie.Need-sub-run-calls-2
-sub-run-calls-2 c = search needs
+sub-run-steps-2 : tie.Need-sub-run-steps-2
+sub-run-steps-2 c = search needs
 
-part-run-calls-start-2 : tie.Need-part-run-calls-start-2
-part-run-calls-start-2 c = search needs
+part-run-steps-start-2 : tie.Need-part-run-steps-start-2
+part-run-steps-start-2 c = search needs
 
-part-run-calls-end-2 : tie.Need-part-run-calls-end-2
-part-run-calls-end-2 c = search needs
+part-run-steps-end-2 : tie.Need-part-run-steps-end-2
+part-run-steps-end-2 c = search needs
 
-run-calls-requires-2 : tie.Need-run-calls-requires-2
-run-calls-requires-2 c κs = search needs
+run-steps-requires : tie.Need-run-steps-requires
+run-steps-requires c κs = search needs
 
 print-job-requires : tie.Need-print-job-requires
 print-job-requires c κs = search needs
@@ -60,15 +60,15 @@ run-list-spec =
     (tie.spec
     slice-aggregate-run-calls
     run-calls-requires
-    mul-run-calls
-    sub-run-calls
-    part-run-calls-start
-    part-run-calls-end
-    mul-run-calls-2
-    sub-run-calls-2
-    part-run-calls-start-2
-    part-run-calls-end-2
-    run-calls-requires-2
+    mul-run-steps
+    sub-run-steps
+    part-run-steps-start
+    part-run-steps-end
+    mul-run-steps-2
+    sub-run-steps-2
+    part-run-steps-start-2
+    part-run-steps-end-2
+    run-steps-requires
     print-job-requires
     same-length
     same-length-2
