@@ -96,9 +96,12 @@ module _ (plan : Plan) (heights : List ℤ) (tasks blocks : List ℕ) (count : �
 
   -- ---- task calls on one map
 
+  abbrev calls-as-steps : ℕ → ℕ → List Step
+  calls-as-steps i n = onMap heights (callsFrom tasks blocks i n)
+
   -- After i of them.
   abbrev pub RunningCalls : (i accepted : ℕ) (now : Buffers) → Type 0
-  RunningCalls = Running plan (λ i n. onMap heights (callsFrom tasks blocks i n)) count start
+  RunningCalls = Running plan calls-as-steps count start
 
   pub calls-next : (i accepted : ℕ) (now : Buffers) → RunningCalls i accepted now → i < count → (outcome : Outcome)
       → answerOf outcome ≡ taskAnswer plan heights now (getD tasks i 0) (getD blocks i 0) → (one : ℕ)
@@ -106,8 +109,7 @@ module _ (plan : Plan) (heights : List ℤ) (tasks blocks : List ℕ) (count : �
       → after ≡ afterTask plan heights (getD tasks i 0) (getD blocks i 0) now → RunningCalls (i + 1) (accepted + one) after
   unfolding onMap callsFrom stepAnswer afterStep
   calls-next i accepted now =
-      running-next plan (λ j n. onMap heights (callsFrom tasks blocks j n)) count start
-      (perform heights (getD tasks i 0) (getD blocks i 0)) i accepted now (λ n. refl)
+      running-next plan calls-as-steps count start (perform heights (getD tasks i 0) (getD blocks i 0)) i accepted now (λ n. refl)
 
   -- After all of them: demand 3 is a law of the lists that they leave.
   pub calls-end : (i accepted : ℕ) (now : Buffers) → RunningCalls i accepted now → count ≤ i
@@ -115,8 +117,7 @@ module _ (plan : Plan) (heights : List ℤ) (tasks blocks : List ℕ) (count : �
   unfolding onMap callsFrom
   calls-end i accepted now run h =
       let calls = callsFrom tasks blocks 0 count in
-      let (counted, left) =
-      running-end plan (λ j n. onMap heights (callsFrom tasks blocks j n)) count start i accepted now refl run h in
+      let (counted, left) = running-end plan calls-as-steps count start i accepted now refl run h in
       let now-is = left ∙ after-on-map plan heights calls start in
       record {
         counted = counted ∙ ap acceptedCount (answers-on-map plan heights calls start);

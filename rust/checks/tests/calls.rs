@@ -55,10 +55,12 @@ fn expected(plan: &Plan, map: &[i32], calls: &[(u32, u32)]) -> (String, Vec<Resu
     model::start(plan, &mut marks, &mut strips).unwrap();
     let mut answers = Vec::new();
     for (i, &(task, block)) in calls.iter().enumerate() {
-        let (task, block, recalls) = (task as usize, block as usize, task == RECALL && i >= calls.len() / 2);
-        answers.push(match recalls {
-            true => model::recall(plan, block, &mut marks),
-            false => model::perform(plan, task, block, map, &mut marks, &mut strips, &mut output),
+        let recalls = task == RECALL && i >= calls.len() / 2;
+        let (task, block) = (task as usize, block as usize);
+        answers.push(if recalls {
+            model::recall(plan, block, &mut marks)
+        } else {
+            model::perform(plan, task, block, map, &mut marks, &mut strips, &mut output)
         });
     }
     let whole = model::report(plan, &marks).unwrap().marked == model::sizes(plan).unwrap().tasks;
@@ -165,10 +167,8 @@ fn random_lists_with_early_repeated_and_foreign_calls_and_recalls() {
         let job = Job::of(&plan).unwrap();
         let map = random.heights(job.pixels());
         maps.note(&map);
-        let calls = match random.once_in(4) {
-            true => list_done_again(&job, &mut random),
-            false => list_of_calls(&job, &mut random),
-        };
+        let calls =
+            if random.once_in(4) { list_done_again(&job, &mut random) } else { list_of_calls(&job, &mut random) };
         let (text, answers, whole) = expected(&plan, &map, &calls);
         let mut words = words_of(&plan, &map, &calls);
         if random.once_in(4) {
