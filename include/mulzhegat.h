@@ -44,11 +44,11 @@
  * nothing.
  *
  * The functions keep no state between calls. Calls that share no buffer that one of them writes may run at the same
- * time; two mzg_task calls of one job must not, nor mzg_recall or mzg_report beside an mzg_task or mzg_recall of it. A
- * job may be broken off between any two calls: keep plan, map, marks, strips and output. Of a job that is taken up
- * again only the kind and the spare bits of its marks are tested, not that its buffers belong together: put a checksum
- * over what you save. mzg_task takes less than 26 KiB of stack, every other call less than 4 KiB (the C library may
- * take some 3 KiB more where it binds memcpy or memset at their first call).
+ * time; of one job, no two calls of mzg_task or mzg_recall may, nor mzg_report beside one of them. A job may be broken
+ * off between any two calls: keep plan, map, marks, strips and output. Of a job that is taken up again only the kind
+ * and the spare bits of its marks are tested, not that its buffers belong together: put a checksum over what you save.
+ * mzg_task takes less than 26 KiB of stack, every other call less than 4 KiB (the C library may take some 3 KiB more
+ * where it binds memcpy or memset at their first call).
  */
 #ifndef MULZHEGAT_H
 #define MULZHEGAT_H
@@ -147,7 +147,7 @@ uint64_t mzg_plan_write(const mzg_plan *plan, uint32_t *words, size_t words_len)
 uint64_t mzg_plan_sizes(const mzg_plan *plan, mzg_sizes *sizes);
 
 /* Starts a job: the needed marks become 0x70000000 (kind 7, nothing done) and the needed strip words 0. A mark has its
- * kind, 7, in the top four bits and bit t set once task t is done; bits 6 to 27, and the bits of tasks that the block
+ * kind, 7, in the top four bits and bit t set while task t is done; bits 6 to 27, and the bits of tasks that the block
  * does not have, are spare and 0. Needs sizes.marks marks and sizes.strips strip words.
  * Refused: 6, 7 (marks), 14 (strips). */
 uint64_t mzg_start(const mzg_plan *plan, uint32_t *marks, size_t marks_len, uint64_t *strips, size_t strips_len);
@@ -166,12 +166,12 @@ uint64_t mzg_start(const mzg_plan *plan, uint32_t *marks, size_t marks_len, uint
  * A need on a neighbour beyond the map falls away. Collect and finish read dropouts as 0. Collect and the links write
  * in the block's slot of the strips, its part of 2 * side * (sum of the four orders) words: collect the first half, the
  * links the second (no caller needs more of its layout). Finish writes the block's output words, which are those of
- * mzg_serial as long as the finish stays done; an accepted task also sets bit `task` of the block's mark, and nothing
- * else changes. The output need not be set before. Lend the same map to every call of a job; where heights of a block
- * change after its collect, the block has to be recalled (mzg_recall). Calls may come in any order: one that comes too
- * early is refused by 11 and may be repeated. An order without any 11: the tasks 0 to 5 one after another, each over
- * the blocks by their number, 2 and 4 from the last block to the first (links that a block does not have are refused by
- * 8).
+ * mzg_serial over the map as long as the finish stays done and no height changes; an accepted task also sets bit `task`
+ * of the block's mark, and nothing else changes. The output need not be set before. Lend the same map to every call of
+ * a job; where heights of a block change after its collect, the block has to be recalled (mzg_recall). Calls may come
+ * in any order: one that comes too early is refused by 11 and may be repeated. An order without any 11: the tasks 0 to
+ * 5 one after another, each over the blocks by their number, 2 and 4 from the last block to the first (links that a
+ * block does not have are refused by 8).
  * Needs, for every task, also one that does not read or write them: sizes.marks marks, sizes.strips strip words,
  * sizes.pixels map and output words.
  * Refused: 6, 7 (marks), 14 (strips), 15 (map), 16 (output), 8, 9 (the marks of the block and of the neighbours in its
@@ -189,13 +189,13 @@ uint64_t mzg_report(const mzg_plan *plan, const uint32_t *marks, size_t marks_le
  * directly or through others, also where a task in between is not marked. No other bit changes, and strips and output
  * are not touched. Recalling block (m, n) clears its collect, the down links of column n from row m on, all up links of
  * column n, all right links from column n on, all left links and all finishes; the collects of other blocks stay as
- * they are. On a large map that is a little less than half of all tasks, and about half of the work. A chip lay on a
- * block, the operator has blown it off:
+ * they are. On a large map that is a third of all tasks (last column) to a half (first column), and about half to two
+ * thirds of the work. A chip lay on a block, the operator has blown it off:
  *
  *     mzg_progress next;
  *     uint64_t answer = mzg_recall(&plan, block, marks, marks_len);
  *     if (MZG_NUMBER(answer) == MZG_BLOCK_NOT_COLLECTED)
- *         answer = MZG_ACCEPTED; // nothing was made of its heights yet
+ *         answer = MZG_ACCEPTED; // no done task needs the block
  *     if (answer == MZG_ACCEPTED)
  *         scan_again(map, block); // the heights of this block alone
  *     while (answer == MZG_ACCEPTED
@@ -208,18 +208,19 @@ uint64_t mzg_report(const mzg_plan *plan, const uint32_t *marks, size_t marks_le
  * Then marks, strips and output are, word for word, those of a fresh job on the new map. A job need not be whole: once
  * the cleared tasks are done again it is as a fresh job, begun on the same lent words, with the same tasks done.
  *
- * A report looks at all marks: with more than some hundred blocks call the tasks in the order of mzg_task instead,
- * where those that are still done are refused by 10 (4,096 x 4,096 heights, side 32, the summed table: some 0.07 s,
- * where the loop above takes 7 s).
+ * A report looks at all marks: with more than about a hundred blocks, call the tasks in the order that mzg_task names
+ * instead, where those that are still done are refused by 10 (on the largest maps the loop above takes about a hundred
+ * times as long).
  *
  * Several blocks may be recalled, each by a call of its own; scan all of them before you perform a task. The marks do
- * not know that a scan is due: the report names the collect of a recalled block at once, and a collect of old heights
- * is not refused. Where a job may be broken off between recall and scan, keep which blocks wait. A block may be scanned
- * before it is recalled too, as long as it is recalled: where a height has changed since the last collect of its block,
- * even for a time, no call notices, and nothing is promised of the tasks that need the block.
+ * not know that a scan is due: the collect of a recalled block is ready at once, and one of old heights is not refused.
+ * Where a job may be broken off between recall and scan, keep a note of the blocks that wait for a scan. A block may be
+ * scanned before it is recalled too, as long as it is recalled: where a height has changed since the last collect of
+ * its block, even for a time, no call notices, and nothing is promised of the words of the tasks that need the block.
  *
  * Until its task is done again, a strip or a block of the output keeps its old words: a total read meanwhile mixes both
- * maps. A job that a version before recalls began has strips of another layout, which nothing tests: start it anew.
+ * maps. A job that a version before recalls began has strips of another layout: start it anew (strips of the old length
+ * are refused by 14; in a longer buffer nothing tells them from new ones).
  * Needs sizes.marks marks and looks at all of them.
  * Refused: 6, 7 (marks), 8 (no such block), 9, 17 (the block is not collected). */
 uint64_t mzg_recall(const mzg_plan *plan, size_t block, uint32_t *marks, size_t marks_len);

@@ -35,8 +35,8 @@ pub fn start(plan: &Plan, marks: &mut [u32], strips: &mut [u64]) -> Result<(), R
 }
 
 /// Performs one task on one block; collect and finish read dropouts as 0. Needs the lengths of [`Sizes`]: `pixels` map
-/// and output words, `marks`, `strips`. All calls of a job are lent one map; a block of it may change while it is not
-/// collected, as before its collect or after its [`recall`].
+/// and output words, `marks`, `strips`. All calls of a job are lent one map; a block of it that changes after its
+/// collect has to be recalled ([`recall`]).
 ///
 /// # Errors
 /// 6, then 7 (marks), 14 (strips), 15 (map) and 16 (output), also where the task does not read or write that buffer;
@@ -114,14 +114,14 @@ pub fn report_into(plan: &Plan, marks: &[u32], progress: &mut Progress) -> Resul
 /// at all of them.
 ///
 /// # Errors
-/// 6, 7 (marks), 8 (no such block), 9, 17 (the block is not collected: nothing was made of its heights yet, and it may
-/// be scanned all the same).
+/// 6, 7 (marks), 8 (no such block), 9, 17 (the block is not collected: no done task needs it, and it may be scanned all
+/// the same).
 ///
 /// # One block rescanned
 /// Recall the block, scan it again, and perform what the report names until it names none. Marks, strips and output are
-/// then those of a job that was started on the new map. Recall several blocks by a call each, and scan all of them
-/// before a task is performed: the marks do not know that a scan is due. Where heights of a block have changed since
-/// its last collect, even for a time, no call notices: recall it.
+/// then those of a fresh job on the new map. Several blocks are recalled by one call each; scan all of them before a
+/// task is performed: the marks do not know that a scan is due. Where heights of a block have changed since its last
+/// collect, even for a time, no call notices: recall it.
 ///
 /// ```
 /// use mulzhegat::{job, plan, Plan};

@@ -1,5 +1,5 @@
--- The serial passes and the task calls do the same with a map as with that map, its dropouts replaced by 0: document 02,
--- CR 7.
+-- The serial passes and the task calls, with recalls or without, do the same with a map as with that map, its dropouts
+-- replaced by 0: document 02, CR 7.
 use mathlib.Core.Path.{_≡_}
 use mathlib.Core.List.{List, map}
 use Prim.Native.Nat.{ℕ}

@@ -1,1 +1,2 @@
-// The calls of a job, as definitions (specs/): start, the task call and lists of task calls; and demand 3 of them (proofs/). It has no code.
+// The calls of a job, as definitions (specs/): start, the task call, lists of task calls, and lists of task calls and
+// recalls; and demand 3 of both (proofs/). It has no code.

@@ -5,8 +5,8 @@ ghost use Prim.Native.Nat.{_+_};
 ghost use lib.ListN.{length};
 ghost use Rattle.link.specs.Writing.{responsesAdded, ResponsesFit, linkedWord, StripLaid, PlaceWritten, PlacesWritten};
 
-// Adds the responses of the first lines at a place to words of the strips, from `from` on, and puts the sums to others, from
-// `to` on. Both lie `step` apart.
+// Adds the responses of the first lines at a place to words of the strips, from `from` on, and writes the sums to others,
+// from `to` on. Both lie `step` apart.
 fn add_responses(
     strips: &mut [u64],
     from: usize,

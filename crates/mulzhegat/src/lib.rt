@@ -139,7 +139,7 @@ pub extern "C" fn mzg_report(
     }
 }
 
-// Recalls a block to be scanned again: its marks and those of every task that needs it are cleared.
+// Recalls a block that is scanned again: the bits of its tasks and of every task that needs one of them are cleared.
 #[no_mangle]
 pub extern "C" fn mzg_recall(
     plan: &[i64; plan_record::RECORD_LENGTH],

@@ -45,7 +45,7 @@ marksAfterRecall plan k marks = ifAccepted (recallAnswer plan marks k) (marksRec
 
 -- ---- what is claimed of it
 
--- What the marks answer a recall, beside a record that keeps the rules and enough of them.
+-- What a recall is answered beside a record that keeps the rules and enough marks.
 pub record AnsweredByMarks (plan : Plan) (marks : List ℕ) (k : ℕ) : Type 0 where
   -- Where there is no such block it is refused by 8, whatever the marks are.
   pub no-block : blockTotal (plan .grid) ≤ k → recallAnswer plan marks k ≡ refused 8 0
@@ -68,8 +68,8 @@ MarksDecideRecall =
     (plan : Plan) (marks : List ℕ) (k : ℕ) → keepsRules plan ≡ true → blockTotal (plan .grid) ≤ length marks
     → AnsweredByMarks plan marks k
 
--- An accepted recall clears the marks of the block's tasks and of every task that needs it, directly or through others,
--- whatever is marked between; and no further mark.
+-- An accepted recall unmarks the block's tasks and every task that needs it, directly or through others, whatever is marked
+-- between; and no further task.
 abbrev pub ClearsMarksOfWhatNeedsIt : Type 0
 ClearsMarksOfWhatNeedsIt =
     (grid : Grid) (marks : List ℕ) → blockTotal grid ≤ length marks → (k : ℕ) → k < blockTotal grid → (t j : ℕ) → t < 6

@@ -1,4 +1,4 @@
-// Recall of a block that is scanned again: its marks and those of every task that needs it are cleared.
+// Recall of a block that is scanned again: the bits of its tasks and of every task that needs one of them are cleared.
 use grid::Grid;
 use grid::Position;
 use plan::BufferOf7;
@@ -17,8 +17,8 @@ ghost use Rattle.report.specs.Report.{marksRows};
 ghost use Rattle.recall.specs.RecallCall.{recallRows, recallAnswer, marksRecalled, marksAfterRecall};
 ghost use Rattle.recall.specs.Clearing.{firstReached, Clearable};
 
-// Recalls a block: refused, or the marks of its tasks and of every task that needs it, directly or through others, are
-// cleared, and no other mark.
+// Recalls a block: refused, or the bits of its tasks and of every task that needs one of them, directly or through others,
+// are cleared, and no other bit.
 pub fn recall(plan: Plan, block: usize, marks: &mut [u32]) -> Outcome
     ensures answer { λ r. ⌜ answerOf r ≡ recallAnswer plan (now (marks .entry)) block ⌝ }
     ensures cleared { λ _. ⌜ now (marks .exit) ≡ marksAfterRecall plan block (now (marks .entry)) ⌝ }
@@ -45,7 +45,7 @@ fn recall_outcome(plan: Plan, block: usize, marks: &[u32]) -> Outcome
     }
 }
 
-// What the marks say to a recall: all of them are looked at.
+// Whether there is such a block, and then what all marks say to its recall.
 fn marks_outcome(grid: Grid, block: usize, marks: &[u32]) -> Outcome
     requires { ⌜ Lent grid (length (now marks)) ⌝ }
     ensures { λ r. ⌜ answerOf r ≡ firstDue (recallRows grid (isMarked (now (marks .entry))) (marksRows grid (now (marks .entry))) block) ⌝ }
@@ -64,7 +64,7 @@ fn marks_outcome(grid: Grid, block: usize, marks: &[u32]) -> Outcome
     Outcome::Accepted
 }
 
-// Clears the marks of the tasks that an accepted recall reaches.
+// Clears the bits of the tasks that an accepted recall reaches.
 fn clear_marks(grid: Grid, recalled: usize, marks: &mut [u32])
     requires { ⌜ Clearable grid (now marks) recalled ⌝ }
     ensures { λ _. ⌜ now (marks .exit) ≡ marksRecalled grid recalled (now (marks .entry)) ⌝ }

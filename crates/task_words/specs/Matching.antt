@@ -1,4 +1,4 @@
--- What is true of the whole map: document 01, 'the words of demand 3'.
+-- What is true of the whole map: document 01, 'the words of demand 3'; and when two maps have the same pixels in a block.
 use mathlib.Core.Path.{_≡_}
 use Prim.Native.Nat.{ℕ, suc, _<_}
 use Rattle.plan.specs.declared.Plan.{Plan}

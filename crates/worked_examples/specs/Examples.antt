@@ -278,7 +278,7 @@ rescanExamples =
     ∷ []
 
 -- The starred examples, further rectangles, dropouts, strips and outputs of two jobs of order 2 whose last block is short,
--- and one of them scanned again.
+-- and one of them with that block scanned again.
 abbrev pub examples : List (Example (List ℤ))
 examples =
     starred

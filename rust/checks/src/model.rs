@@ -635,8 +635,8 @@ impl<'a> Job<'a> {
         self.strip_of(Half::Linked, block, pass, word)
     }
 
-    /// The lone strips of a block, by the second serial program over the block as a map of its own; 0 where no neighbour
-    /// needs them.
+    /// The lone strips of a block, by the second serial program over the block as a map of its own; 0 where no
+    /// neighbour needs them.
     pub fn lone_strips(&self, block: &Block, map: &[i32]) -> Vec<(usize, u64)> {
         let alone = Plan { rows: block.height as i64, columns: block.width as i64, ..*self.plan };
         let rows = map.chunks(self.columns).skip(block.top).take(block.height);
@@ -739,8 +739,8 @@ mod tests {
 
     #[test]
     fn recalls_in_a_square_of_nine_blocks_worked_out_by_hand() {
-        // Blocks 0 1 2 / 3 4 5 / 6 7 8, all done. No need leads to a block from collect of the others, down above it, down
-        // and up in the other columns, and right to the left of it. Bits: finish, left, right, up, down, collect.
+        // Blocks 0 1 2 / 3 4 5 / 6 7 8, all done. No need leads to a block from collect of the others, down above it,
+        // down and up in the other columns, and right to the left of it. Bits: finish, left, right, up, down, collect.
         let middle = (4, [0b1011, 0b0011, 0b0011, 0b1111, 0, 0b0111, 0b1101, 0b0001, 0b0101]);
         let edge = (5, [0b1011, 0b1011, 0b0011, 0b1111, 0b1111, 0, 0b1101, 0b1101, 0b0001]);
         let plan = Plan::plain(9, 9, 3);

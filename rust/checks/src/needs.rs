@@ -57,8 +57,8 @@ impl Grid {
         })
     }
 
-    /// The blocks that each task needs, directly or through others, its own block among them: by block and task, one bit
-    /// for each block.
+    /// The blocks that each task needs, directly or through others, its own block among them: by block and task, one
+    /// bit for each block.
     ///
     /// # Panics
     /// If there are more than 128 blocks.

@@ -109,7 +109,8 @@ fn list_of_calls(job: &Job, random: &mut Random) -> Vec<(u32, u32)> {
     calls
 }
 
-/// All tasks in an order of their needs, recalls of any blocks with the middle of the list among them, and all tasks again.
+/// All tasks in an order of their needs, recalls of any blocks with the middle of the list among them, and all tasks
+/// again.
 fn list_done_again(job: &Job, random: &mut Random) -> Vec<(u32, u32)> {
     let blocks = job.marks() as u32;
     let whole = (0..6).flat_map(|task| {
@@ -134,8 +135,8 @@ fn example_map_in_an_order_of_its_needs() {
 
 #[test]
 fn example_map_with_a_block_recalled_and_collected_again() {
-    // In the first half 6 is no task. In the second the recall of block 1 takes its two tasks and the finish of block 0,
-    // whose output stays; the right link of block 0 does not need block 1. A second recall finds it not collected.
+    // In the first half 6 is no task. In the second the recall of block 1 takes its two tasks and the finish of block
+    // 0, whose output stays; the right link of block 0 does not need block 1. A second recall finds it not collected.
     let calls = [(0, 0), (0, 1), (3, 0), (4, 1), (6, 1), (5, 0), (6, 1), (6, 1), (0, 1), (4, 1)];
     let text = "accepted 4 4\nmarks 70000009 70000011\n\
                 strips 0 0 3 12 0 0 3 12 0 0 0 0 0 0 0 0\noutput 1 3 77 5 12 77\n";

@@ -70,9 +70,9 @@ fn perform_in_random_order(
     done
 }
 
-/// What a list of calls promises as a whole: the tasks done give the lone strips, the linked strips and the output of the
-/// serial passes, all other output words are as they were before, and the report counts them. `done` holds the tasks
-/// done, one bit each.
+/// What a list of calls promises as a whole: the tasks done give the lone strips, the linked strips and the output of
+/// the serial passes, all other output words are as they were before, and the report counts them. `done` holds the
+/// tasks done, one bit each.
 fn check_the_list(trial: &mut Trial, done: &[u32], output_before: &Lent<u64>) {
     let results = reference::results(trial.plan, trial.map.get());
     let mut expected_output = output_before.clone();

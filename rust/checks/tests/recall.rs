@@ -1,5 +1,6 @@
 //! Recalls of blocks that are scanned again: the marks that go, by the table of needs told apart from the model; jobs
-//! with recalls on maps that change, against the model, against fresh jobs on the new map and against the serial passes.
+//! with recalls on maps that change, against the model, against fresh jobs on the new map and against the serial
+//! passes.
 
 use checks::lent::Lent;
 use checks::model::{self, Block, Job, NOTHING_DONE};
@@ -258,8 +259,8 @@ fn example_column_with_its_last_block_rescanned() {
 
 #[test]
 fn example_recalls_in_a_square_of_nine_blocks() {
-    // Blocks 0 1 2 / 3 4 5 / 6 7 8, all done. No need leads to a block from collect of the others, down above it, down and
-    // up in the other columns, and right to the left of it.
+    // Blocks 0 1 2 / 3 4 5 / 6 7 8, all done. No need leads to a block from collect of the others, down above it, down
+    // and up in the other columns, and right to the left of it.
     let middle = (4, [0b1011, 0b0011, 0b0011, 0b1111, 0, 0b0111, 0b1101, 0b0001, 0b0101]);
     let edge = (5, [0b1011, 0b1011, 0b0011, 0b1111, 0b1111, 0, 0b1101, 0b1101, 0b0001]);
     let plan = Plan::summed(9, 9, 3);
@@ -561,8 +562,8 @@ fn marks_of(grid: Grid, tasks: impl IntoIterator<Item = Call>) -> Vec<u32> {
     marks
 }
 
-/// Marks to recall a block from: all tasks done; tasks done with their needs; any tasks; all but one; one alone, and with
-/// the block's collect.
+/// Marks to recall a block from: all tasks done; tasks done with their needs; any tasks; all but one; one alone, and
+/// with the block's collect.
 fn patterns(grid: Grid, block: usize, random: &mut Random) -> Vec<Vec<u32>> {
     let tasks = grid.tasks();
     let mut patterns = vec![marks_of(grid, tasks.clone())];

@@ -3,8 +3,8 @@
 //!
 //! `cargo run --release --bin rescan [-- --quick] [--size N] [--side N] [--repetitions N]` prints a Markdown table. The
 //! block in the middle of a job that is done is recalled and gets other heights; then the tasks that are no longer
-//! marked are performed in natural order. Every output is compared with that of the library's serial passes over the new
-//! map; the best times count. It is a program of its own so that `bench` runs with archives from before there were
+//! marked are performed in natural order. Every output is compared with that of the library's serial passes over the
+//! new map; the best times count. It is a program of its own so that `bench` runs with archives from before there were
 //! recalls too.
 
 use checks::block_job::{BlockJob, Rescan};
