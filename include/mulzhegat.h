@@ -209,8 +209,7 @@ uint64_t mzg_report(const mzg_plan *plan, const uint32_t *marks, size_t marks_le
  * the cleared tasks are done again it is as a fresh job, begun on the same lent words, with the same tasks done.
  *
  * A report looks at all marks: with more than about a hundred blocks, call the tasks in the order that mzg_task names
- * instead, where those that are still done are refused by 10 (on the largest maps the loop above takes about a hundred
- * times as long).
+ * instead, where those that are still done are refused by 10.
  *
  * Several blocks may be recalled, each by a call of its own; scan all of them before you perform a task. The marks do
  * not know that a scan is due: the collect of a recalled block is ready at once, and one of old heights is not refused.
