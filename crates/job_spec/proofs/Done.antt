@@ -4,12 +4,11 @@ use mathlib.Core.Path.{_≡_, refl, sym, ap, _∙_}
 use mathlib.Core.Bool.{Bool, true, false, not, _&&_, _||_, cond, or-false, true≢false}
 use mathlib.Core.List.{List, [], _∷_}
 use Prim.Native.Nat.{ℕ}
-use lib.IntN.{ℤ}
 use lib.Dec.{eqb}
 use borrow.Author.Tests.{eqb-true, not-true}
-use Rattle.number.proofs.Tests.{and-left, and-right, and-both}
+use Rattle.number.proofs.Tests.{and-left, and-right}
 use Rattle.plan.specs.declared.Plan.{Plan}
-use Rattle.tasks.specs.Tasks.{exists, BlockTask, needsOf, allDone, ready, nothingDone, alsoDone}
+use Rattle.tasks.specs.Tasks.{exists, needsOf, allDone, ready, nothingDone, alsoDone}
 use Rattle.tasks.proofs.Needs.{ready-exists, ready-needs}
 use Rattle.tasks.proofs.NeedLists.{all-kept, all-and}
 use Rattle.tasks.proofs.Progress.{Sound, sound-also}

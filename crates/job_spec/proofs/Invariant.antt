@@ -3,14 +3,13 @@
 use mathlib.Core.Path.{_≡_, refl, ap₂, _∙_}
 use mathlib.Core.Bool.{Bool, true, false, not, _&&_, cond}
 use mathlib.Core.List.{List, [], _∷_}
-use Prim.Native.Nat.{ℕ, suc, _≤_, _<_}
+use Prim.Native.Nat.{ℕ, _≤_}
 use native.Mathlib.Omega.{arith}
 use lib.IntN.{ℤ}
 use lib.Dec.{ltb}
 use lib.ListN.{length}
-use borrow.Author.Tests.{le-ltb, not-true}
+use borrow.Author.Tests.{le-ltb}
 use Rattle.number.proofs.Tests.{and-right}
-use Rattle.refusal.specs.Refusals.{Answer, accepted}
 use Rattle.refusal.specs.Table.{_at_when_, firstDue, ifAccepted}
 use Rattle.grid.specs.Grid.{blockTotal}
 use Rattle.grid.proofs.Blocks.{pixel-below}
@@ -31,7 +30,7 @@ use Rattle.task_words.specs.declared.Half.the-variants.{Lone, Linked}
 use Rattle.task_words.proofs.Strips.{strip-place-below}
 use Rattle.recall.specs.RecallCall.{marksRecalled, marksAfterRecall}
 use Rattle.recall.proofs.Recalled.{recall-answered, recalled-length, recalled-past, recalled-shows}
-use Rattle.job_spec.specs.Calls.{Buffers, lists, taskAnswer, stripsAfter, outputAfter, performed, afterTask}
+use Rattle.job_spec.specs.Calls.{Buffers, lists, taskAnswer, performed, afterTask}
 use Rattle.job_spec.specs.Steps.{Step, perform, recall, afterStep, afterSteps, stepAnswer, stepAnswers, isLong, accepts, doneWith, doneByStep, doneBySteps, dueToStep, dueToSteps}
 use Rattle.job_spec.proofs.Done.{sound-step}
 use Rattle.job_spec.proofs.Wrote.{strips-wrote, output-wrote}

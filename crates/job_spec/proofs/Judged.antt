@@ -21,7 +21,6 @@ use Rattle.tasks.proofs.Progress.{also-cases}
 use Rattle.filter.specs.PlanFilters.{mapOf, serialResult}
 use Rattle.task_words.specs.declared.Half.the-variants.{Lone, Linked}
 use Rattle.task_words.specs.Strips.{stripPlace}
-use Rattle.task_words.specs.Writes.{aloneWord}
 use Rattle.task_words.specs.Matching.{SameBlock, matchingWord}
 use Rattle.task_words.proofs.Places.{SideFits}
 use Rattle.task_words.proofs.Strips.{lone-not-linked, places-apart}

@@ -20,7 +20,7 @@ use Rattle.tasks.specs.Tasks.{BlockTask, hasTask, exists, needsOf, allDone, rea
 use Rattle.tasks.proofs.Existence.{has-exists, exists-block}
 use Rattle.tasks.proofs.Needs.{ready-exists}
 use Rattle.tasks.proofs.NeedLists.{all-kept, all-and}
-use Rattle.task_words.proofs.Places.{SideFits, side-fits}
+use Rattle.task_words.proofs.Places.{side-fits}
 use Rattle.recall.specs.Recall.{NeedsBlock, reaches, clears, doneWithout}
 use Rattle.recall.proofs.Closure.{spared-needs-spared, clears-what-needs-it}
 use Rattle.job_spec.specs.Calls.{Buffers, performed}

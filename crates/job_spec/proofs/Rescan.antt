@@ -4,17 +4,15 @@ use mathlib.Core.Bool.{Bool, true, false, not, _&&_, _||_, cond, and-false}
 use mathlib.Core.List.{List, [], _∷_}
 use mathlib.Core.Logic.{⊎-elim}
 use Prim.Native.Nat.{ℕ, suc, _≤_, _<_}
-use native.Mathlib.Omega.{arith}
 use native.Mathlib.Decide.{ℕ-discrete}
 use lib.IntN.{ℤ}
-use lib.Dec.{ltb, eqb}
+use lib.Dec.{ltb}
 use lib.ListN.{length}
 use lib.Seq.{ext-getD}
 use borrow.Author.Tests.{le-ltb, ltb-true, eq-eqb}
 use Rattle.number.proofs.Tests.{lt-or-ge, and-left, and-right}
 use Rattle.refusal.specs.Refusals.{Answer, accepted, refused}
 use Rattle.refusal.specs.Table.{ifAccepted}
-use Rattle.grid.specs.declared.Grid.{Grid}
 use Rattle.grid.specs.Grid.{blockTotal, rowsOf, columnsOf, blockPixelPlace}
 use Rattle.plan.specs.declared.Plan.{Plan}
 use Rattle.plan.specs.Rules.{keepsRules}
@@ -39,11 +37,11 @@ use Rattle.serial.proofs.FirstWords.{first-words}
 use Rattle.task_words.specs.declared.Half.the-variants.{Lone, Linked}
 use Rattle.task_words.specs.Strips.{stripPlace}
 use Rattle.task_words.proofs.Places.{side-fits}
-use Rattle.recall.specs.Recall.{NeedsBlock, its-own, through, reaches, clears, doneWithout}
+use Rattle.recall.specs.Recall.{reaches, clears, doneWithout}
 use Rattle.recall.proofs.Closure.{clears-what-needs-it}
 use Rattle.job_spec.specs.Calls.{Buffers, startAnswer, started, taskAnswer, afterCalls}
 use Rattle.job_spec.specs.Demand3.{Finished, doneAfter}
-use Rattle.job_spec.specs.Steps.{Step, perform, recall, afterStep, afterSteps, stepAnswer, stepAnswers, isLong, accepts, doneByStep, doneBySteps, doneNow, dueToStep, wasMade, wasCleared, ClearedDoneAgain, onMap}
+use Rattle.job_spec.specs.Steps.{Step, perform, afterSteps, stepAnswer, stepAnswers, isLong, accepts, doneByStep, doneBySteps, doneNow, dueToStep, wasMade, wasCleared, ClearedDoneAgain, onMap}
 use Rattle.job_spec.specs.Rescan.{Unchanged, RightFor, KeptFrom, RescanClaim, Rescan, AcceptedStep, RecallClears, AcceptedTwice}
 use Rattle.job_spec.proofs.Cover.{pixel-of}
 use Rattle.job_spec.proofs.Done.{clash, made-is-done, fresh-done}
@@ -289,11 +287,6 @@ rescan plan lent start-accepted output-long steps = claim plan lent start-accept
 
 -- ---- cleared tasks
 
--- What needs a block exists.
-needs-exists : (grid : Grid) (k t j : ℕ) → NeedsBlock grid k t j → exists grid t j ≡ true
-needs-exists grid k t j (its-own _ there) = there
-needs-exists grid k t j (through _ _ there need member needs) = there
-
 pub recall-clears : RecallClears
 unfolding accepts doneByStep doneWithout ready clears reaches hasTask
 recall-clears plan done k e =
@@ -304,7 +297,10 @@ recall-clears plan done k e =
       collect-ready =
           rw (e, has-exists (plan .grid) k here 0 refl, and-right (ltb k (blockTotal (plan .grid))) (done 0 k) e, eq-eqb k k refl)
           (needs-none (doneWithout (plan .grid) done k) (plan .grid) k);
-      ready-again = λ t j needs later undone met. rw (needs-exists (plan .grid) k t j needs, undone, met);
+      ready-again = λ t j needs later undone met.
+          let there =
+          and-left (exists (plan .grid) t j) (reaches (plan .grid) k t j) (clears-what-needs-it (plan .grid) k t j here .0 needs) in
+          rw (there, undone, met);
     }
   where
     by : (c d : Bool) → (c ≡ true → ⊥) → (d && not c) ≡ d

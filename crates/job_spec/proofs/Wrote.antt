@@ -1,5 +1,5 @@
 -- An accepted task writes its strips or its block, and no other word. Assumes nothing.
-use mathlib.Core.Path.{_≡_, refl, sym}
+use mathlib.Core.Path.{_≡_, refl}
 use mathlib.Core.Bool.{Bool, true, false, cond}
 use mathlib.Core.List.{List}
 use mathlib.Core.Logic.{_≢_}
@@ -18,7 +18,7 @@ use Rattle.task_words.specs.declared.Half.the-variants.{Lone, Linked}
 use Rattle.task_words.specs.Writes.{aloneWord, linkWord, linked, finishWord, finished}
 use Rattle.task_words.proofs.Strips.{HoldsStrip, OutsideStrip}
 use Rattle.task_words.proofs.Tasks.{collected-length, collected-holds, collected-outside, linked-length, linked-holds, linked-outside, finished-length, finished-holds, finished-outside}
-use Rattle.job_spec.specs.Calls.{Buffers, stripsAfter, outputAfter, performed}
+use Rattle.job_spec.specs.Calls.{stripsAfter, outputAfter}
 
 -- A word of the output is no pixel of block k.
 abbrev pub OutsideBlock : Plan → (k q : ℕ) → Type 0

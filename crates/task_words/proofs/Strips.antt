@@ -11,14 +11,14 @@ use native.Mathlib.Omega.{arith}
 use lib.ListN.{length}
 use Rattle.buffer.specs.Written.{rowWritten}
 use Rattle.plan.specs.declared.Plan.{Plan}
-use Rattle.plan.specs.Sizes.{orderSum, neededMarks, halfWords, slotWords, neededStrips, orderOf}
+use Rattle.plan.specs.Sizes.{orderSum, neededMarks, halfWords, neededStrips, orderOf}
 use Rattle.buffer.specs.Lists.{wordAt}
 use Rattle.number.proofs.Sums.{total-grows}
 use Rattle.number.proofs.Tests.{lt-or-ge}
 use Rattle.axis.specs.Axis.{Axis, columns, rows, axisOf}
 use Rattle.task_words.specs.declared.Half.{Half}
 use Rattle.task_words.specs.declared.Half.the-variants.{Lone, Linked}
-use Rattle.task_words.specs.Strips.{slotStart, wordsBeforeHalf, halfStart, stripWords, stripStart, placeInStrip, stripPlace, laidInRows, stripWrittenTo, stripWritten, halfWritten}
+use Rattle.task_words.specs.Strips.{halfStart, stripWords, stripStart, placeInStrip, stripPlace, laidInRows, stripWrittenTo, stripWritten, halfWritten}
 use Rattle.buffer.proofs.Written.{written-length, written-same, written-other, written-at}
 use Rattle.number.proofs.RowMajor.{row-of, column-of, place-below, row-below, column-below}
 
