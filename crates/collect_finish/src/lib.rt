@@ -333,11 +333,11 @@ fn load_margin(
     requires { ⌜ MarginFits plan k pass shape (length (now strips)) (now work) ⌝ }
     ensures { λ _. ⌜ MarginLoaded plan shape pass gain (stripBefore plan k pass) (now (strips .entry)) (now (work .entry)) (now (work .exit)) ⌝ }
 {
-    let described = plan.passes[pass];
+    let order = plan.order(pass);
     let strip = strips::strip_before(plan, k, pass);
     let first = strip.first;
     let places = strip.past - first;
-    let index = margin_start(pass, described.order, shape.extent(pass)) + first;
+    let index = margin_start(pass, order, shape.extent(pass)) + first;
     let source = Rows {
         start: strip.first_at(first),
         stride: axis::along(pass, strip.place_step, strip.line_step),
@@ -368,8 +368,7 @@ fn write_strip(
     let grid = plan.grid;
     let needed = grid.goes_on(grid.position(k), pass);
     let side = grid.side;
-    let described = plan.passes[pass];
-    let order = described.order;
+    let order = plan.order(pass);
     let start = strips::strip_start(plan, Half::Lone, k, pass);
     if !needed {
         buffer::clear_words(strips, start, 1, side * order);

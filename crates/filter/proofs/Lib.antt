@@ -1,5 +1,6 @@
 pub mod Buffers
 pub mod Filters
+pub mod GainsWithin
 pub mod Turns
 pub mod InPlace
 pub mod TwoPlaces

@@ -1,8 +1,11 @@
 // The kernel of every pass: one recursive filter over the lines of a window of a buffer, in place.
 // An inner crate: what its functions require, their callers in this repository show.
 ghost use mathlib.Core.Path.{_≡_};
+ghost use mathlib.Core.Bool.{cond, _&&_};
+ghost use lib.Dec.{leb, ltb};
 ghost use Prim.Native.Nat.{_+_, _-_, _*_, _^_, _<_, _≤_};
 ghost use lib.ListN.{length};
+ghost use Rattle.word.specs.Word.{residue};
 ghost use Rattle.plan.specs.Rules.{orderLimit};
 ghost use Rattle.axis.specs.Axis.{columns, forward, axisOf, directionOf, along, across};
 ghost use Rattle.passes.specs.Gains.{gainsFrom};
@@ -65,17 +68,30 @@ pub fn filter_with_gain(pass: plan::Pass, gain: u64) -> FilterWords
     words
 }
 
-// The product of the gains of `count` passes of a plan, from pass `first` on.
+// The gain of pass i as a residue, where that is one from `first` to before `past`; else 1.
+fn gain_within(pass: plan::Pass, i: usize, first: usize, past: usize) -> u64
+    ensures { λ r. ⌜ r ≡ cond (leb first i && ltb i past) (residue (pass .gain)) 1 ⌝ }
+{
+    if first <= i {
+        if i < past {
+            return word::residue(pass.gain);
+        }
+    }
+    1
+}
+
+// The product of the gains of `count` passes of a plan, from pass `first` on. The loop goes over all four: the compiler
+// unrolls it, and copies no plan to index into.
 pub fn gains_from(plan: plan::Plan, first: usize, count: usize) -> u64
     requires { ⌜ first + count ≤ 4 ⌝ }
     ensures { λ r. ⌜ r ≡ gainsFrom (filtersOf plan) first count ⌝ }
 {
     let mut product = 1;
-    let mut done = 0;
-    while done < count {
-        let pass = plan.passes[first + done];
-        product = word::mul(product, word::residue(pass.gain));
-        done += 1;
+    let mut i = 0;
+    while i < 4 {
+        let gain = gain_within(plan.passes[i], i, first, first + count);
+        product = word::mul(product, gain);
+        i += 1;
     }
     product
 }

@@ -48,11 +48,11 @@ course-along-is pass n lines order a b c = rw (a, b, c)
 
 -- ---- the course of block k's link
 
-pub course-is : (plan : Plan) (k pass : ℕ) {shape : BlockShape} {n lines : ℕ} {course : Course}
-    → shape ≡ shapeOf (plan .grid) k → n ≡ shapeExtent shape pass → lines ≡ shapeLines shape pass
-    → course ≡ courseAlong pass n lines (orderOf plan pass) → course ≡ courseOf plan k pass
+pub course-is : (plan : Plan) (k pass : ℕ) {shape : BlockShape} {n lines order : ℕ} {course : Course}
+    → shape ≡ shapeOf (plan .grid) k → n ≡ shapeExtent shape pass → lines ≡ shapeLines shape pass → order ≡ orderOf plan pass
+    → course ≡ courseAlong pass n lines order → course ≡ courseOf plan k pass
 unfolding courseOf shapeOf
-course-is plan k pass shaped a b e = e ∙ rw (a, b, shaped)
+course-is plan k pass shaped a b o e = e ∙ rw (a, b, o, shaped)
 
 -- A block's places along a pass and its lines: some, and few.
 record BlockLines (grid : Grid) (k pass : ℕ) : Type 0 where

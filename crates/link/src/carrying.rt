@@ -136,7 +136,7 @@ fn carry_pass(
 {
     let filter = filters[pass];
     let row = squares::rows_before(filters, pass);
-    let square = squares::square_from(lines, row, filter.order, course.from, course.order);
+    let square = squares::square_from(lines, row, filter.order, course.from);
     let past_edge = strips::strip_before(plan, k, pass);
     let gain = filter::gains_after(plan, pass, course.pass);
     add_histories(

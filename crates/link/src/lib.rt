@@ -72,8 +72,12 @@ fn course_of(plan: Plan, k: usize, pass: usize) -> Course
 {
     let grid = plan.grid;
     let shape = grid.block_shape(k);
-    let filter = plan.passes[pass];
-    course_along(pass, shape.extent(pass), shape.lines(pass), filter.order)
+    course_along(
+        pass,
+        shape.extent(pass),
+        shape.lines(pass),
+        plan.order(pass),
+    )
 }
 
 // The words of the four filters of a plan, with gain 1.

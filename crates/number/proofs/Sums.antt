@@ -6,8 +6,8 @@ use Prim.Native.Nat.{ℕ, zero, suc, _+_, _-_, _*_, _<_, _≤_, min}
 use native.Mathlib.Omega.{arith}
 use native.Mathlib.Nat.{eq-or-lt-of-le, add-suc, add-zero, min-eq-left, min-eq-right}
 use native.Mathlib.Numerals.{add-one}
-use lib.Dec.{ltb}
-use borrow.Author.Tests.{lt-ltb, le-ltb, ltb-true, ltb-false}
+use lib.Dec.{ltb, eqb}
+use borrow.Author.Tests.{lt-ltb, le-ltb, ltb-true, ltb-false, eq-eqb, ne-eqb}
 use Rattle.number.specs.Numbers.{allBelow, total, one}
 use Rattle.number.proofs.Tests.{lt-or-ge}
 
@@ -39,6 +39,23 @@ sum-below f i count =
     (λ (g : count ≤ i).
     rw (min-eq-right {n = count} {m = i} g, min-eq-right {n = count} {m = i + 1} (omega arith), le-ltb i count g) (omega arith))
     (lt-or-ge i count)
+
+-- One more turn of a loop that looks for the number at a place.
+pub found-on : (f : ℕ → ℕ) (i place : ℕ)
+    → cond (ltb place i) (f place) 0 + cond (eqb i place) (f i) 0 ≡ cond (ltb place (i + 1)) (f place) 0
+found-on f i place = ⊎-elim before (λ (g : place ≤ i). ⊎-elim here after (eq-or-lt-of-le {n = place} {m = i} g)) (lt-or-ge i place)
+  where
+    turn : Type 0
+    turn = cond (ltb place i) (f place) 0 + cond (eqb i place) (f i) 0 ≡ cond (ltb place (i + 1)) (f place) 0
+
+    before : i < place → turn
+    before l = rw (le-ltb place i (omega arith), ne-eqb i place (λ e. omega (arith, e)), le-ltb place (i + 1) (omega arith)) (omega arith)
+
+    here : place ≡ i → turn
+    here e = rw (le-ltb place i (omega (arith, e)), eq-eqb i place (sym e), lt-ltb place (i + 1) (omega (arith, e)), e) (omega arith)
+
+    after : place < i → turn
+    after l = rw (lt-ltb place i l, ne-eqb i place (λ e. omega (arith, e)), lt-ltb place (i + 1) (omega arith)) (omega arith)
 
 pub total-same : (f g : ℕ → ℕ) (n : ℕ) → ((i : ℕ) → i < n → f i ≡ g i) → total f n ≡ total g n
 unfolding total

@@ -1,8 +1,8 @@
-// Numbers: the lesser of two, yes and no as 1 and 0, a number or 0 by a bound, a range from 1 on, and words of a kind
-// and a payload.
+// Numbers: the lesser of two, yes and no as 1 and 0, a number or 0 by a test, a range from 1 on, and words of a kind and a
+// payload.
 ghost use mathlib.Core.Path.{_≡_};
 ghost use mathlib.Core.Bool.{cond};
-ghost use lib.Dec.{ltb};
+ghost use lib.Dec.{ltb, eqb};
 ghost use Prim.Native.Nat.{_<_, min};
 ghost use Rattle.number.specs.Numbers.{within, one};
 ghost use Rattle.number.specs.KindWords.{payloadLimit, kindOf, payloadOf, wordOf};
@@ -26,6 +26,13 @@ pub fn if_below(i: usize, bound: usize, number: usize) -> usize
     ensures { λ r. ⌜ r ≡ cond (ltb i bound) number 0 ⌝ }
 {
     if i < bound { number } else { 0 }
+}
+
+// A number where i is another, and 0 where not.
+pub fn if_equal(i: usize, other: usize, number: usize) -> usize
+    ensures { λ r. ⌜ r ≡ cond (eqb i other) number 0 ⌝ }
+{
+    if i == other { number } else { 0 }
 }
 
 // From 1 to `most`.

@@ -5,12 +5,12 @@ use refusal::Outcome;
 use refusal::Refusal;
 ghost use mathlib.Core.Path.{_≡_};
 ghost use mathlib.Core.Bool.{true, cond};
-ghost use Prim.Native.Nat.{_≤_};
+ghost use Prim.Native.Nat.{_<_, _≤_};
 ghost use Rattle.refusal.specs.declared.Refusal.the-variants.{BufferTooShort};
 ghost use Rattle.refusal.specs.Refusals.{accepted, refusedFor};
 ghost use Rattle.refusal.specs.Table.{firstDue, answerOf, given};
 ghost use Rattle.plan.specs.Rules.{inSigned28, isZero, coefficientKept, coefficientsKept, passKept, passesKept, keepsRules};
-ghost use Rattle.plan.specs.Sizes.{orderSum, halfWords, sizesOf};
+ghost use Rattle.plan.specs.Sizes.{orderOf, orderSum, halfWords, sizesOf};
 ghost use Rattle.plan.specs.FirstTests.{tooShort, of7TooShort, lengthRows, onlyOf7, zeroSizes, planSizes, sizesFor, sizesGiven};
 
 // The largest order of a pass: `orderLimit` of specs/Rules.antt is the same number.
@@ -157,6 +157,21 @@ impl Plan {
             i += 1;
         }
         sum
+    }
+
+    // The order of a pass, by a loop over all four, as in `order_sum`.
+    pub fn order(self, pass: usize) -> usize
+        requires { ⌜ (keepsRules self ≡ true) × (pass < 4) ⌝ }
+        ensures { λ r. ⌜ r ≡ orderOf self pass ⌝ }
+    {
+        let mut order = 0;
+        let mut i = 0;
+        while i < 4 {
+            let here = self.passes[i];
+            order += number::if_equal(i, pass, here.order);
+            i += 1;
+        }
+        order
     }
 
     fn passes_kept(self) -> bool

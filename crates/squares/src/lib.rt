@@ -115,31 +115,31 @@ pub fn unit_lines(lines: &mut [u64], row: usize, pass: usize, places: usize, ord
     }
 }
 
-// A row of a square: `places` words of a line, from `start` in the buffer on.
-fn square_row(lines: &[u64], start: usize, places: usize) -> [u64; plan::ORDER_LIMIT]
-    requires { ⌜ (places ≤ orderLimit) × (start + places ≤ length (now lines)) ⌝ }
-    ensures { λ r. ⌜ ((place : ℕ) → place < places → wordAt r place ≡ wordAt (now (lines .entry)) (start + place)) ⌝ }
+// A row of a square: the words of a line from `start` in the buffer on.
+fn square_row(lines: &[u64], start: usize) -> [u64; plan::ORDER_LIMIT]
+    requires { ⌜ start + orderLimit ≤ length (now lines) ⌝ }
+    ensures { λ r. ⌜ ((place : ℕ) → place < orderLimit → wordAt r place ≡ wordAt (now (lines .entry)) (start + place)) ⌝ }
 {
     let mut words = [0; plan::ORDER_LIMIT];
-    buffer::copy_words(lines, start, &mut words, 0, places);
+    buffer::copy_words(lines, start, &mut words, 0, plan::ORDER_LIMIT);
     words
 }
 
-// A square: what each of `count` lines, from a row on, has in `places` columns from column `from` on.
+// A square: what each of `count` lines, from a row on, has in the columns from column `from` on. Its rows are whole, also
+// where fewer columns are meant: the compiler then moves a row at once.
 pub fn square_from(
     lines: &[u64],
     row: usize,
     count: usize,
     from: usize,
-    places: usize,
 ) -> [[u64; plan::ORDER_LIMIT]; plan::ORDER_LIMIT]
-    requires { ⌜ (count ≤ orderLimit) × (places ≤ orderLimit) × (from + places ≤ rowWords) × ((row + count) * rowWords ≤ length (now lines)) ⌝ }
-    ensures { λ r. ⌜ ((line place : ℕ) → line < count → place < places → squareAt r line place ≡ wordAt (now (lines .entry)) (rowMajor rowWords (row + line) (from + place))) ⌝ }
+    requires { ⌜ (count ≤ orderLimit) × (from + orderLimit ≤ rowWords) × ((row + count) * rowWords ≤ length (now lines)) ⌝ }
+    ensures { λ r. ⌜ ((line place : ℕ) → line < count → place < orderLimit → squareAt r line place ≡ wordAt (now (lines .entry)) (rowMajor rowWords (row + line) (from + place))) ⌝ }
 {
     let mut square = [[0; plan::ORDER_LIMIT]; plan::ORDER_LIMIT];
     let mut line = 0;
     while line < count {
-        square[line] = square_row(lines, (row + line) * ROW + from, places);
+        square[line] = square_row(lines, (row + line) * ROW + from);
         line += 1;
     }
     square

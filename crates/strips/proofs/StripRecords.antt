@@ -47,14 +47,13 @@ strip-with-is forward order n start lineStep placeStep lines e t f =
 strip-with-is backward order n start lineStep placeStep lines e t f =
     let whole : 0 + min order n ≡ min order n = omega arith in rw (f, t, e, whole)
 
-pub strip-of-is : (plan : Plan) (half : Half) (k pass : ℕ) {shape : BlockShape} {start n lineStep placeStep lines : ℕ} {strip : Strip}
-    → shape ≡ shapeOf (plan .grid) k → start ≡ stripStart plan half k pass → n ≡ shapeExtent shape pass
-    → lineStep ≡ along (axisOf pass) 1 (orderOf plan pass) → placeStep ≡ along (axisOf pass) (plan .grid .side) 1
+pub strip-of-is : (plan : Plan) (half : Half) (k pass : ℕ) {shape : BlockShape} {start order n lineStep placeStep lines : ℕ}
+    {strip : Strip} → shape ≡ shapeOf (plan .grid) k → start ≡ stripStart plan half k pass → order ≡ orderOf plan pass
+    → n ≡ shapeExtent shape pass → lineStep ≡ along (axisOf pass) 1 order → placeStep ≡ along (axisOf pass) (plan .grid .side) 1
     → lines ≡ shapeLines shape pass
-    → strip ≡ stripWith (directionOf pass) (orderOf plan pass) n start lineStep placeStep lines
-    → strip ≡ stripOf plan half k pass
+    → strip ≡ stripWith (directionOf pass) order n start lineStep placeStep lines → strip ≡ stripOf plan half k pass
 unfolding stripOf shapeOf
-strip-of-is plan half k pass shaped starts a b c d e = e ∙ rw (a, b, c, d, shaped, starts)
+strip-of-is plan half k pass shaped starts o a b c d e = e ∙ rw (a, b, c, d, shaped, starts, o)
 
 module _ (plan : Plan) (k pass : ℕ) (found : Neighbour) (is : found ≡ foundNeighbour (neighbour (plan .grid) k pass)) where
   pub before-below : (j : ℕ) → found ≡ Block j → k < neededMarks plan → j < neededMarks plan

@@ -97,8 +97,7 @@ pub fn strip_of(plan: Plan, half: Half, k: usize, pass: usize) -> Strip
 {
     let shape = plan.grid.block_shape(k);
     let start = strip_start(plan, half, k, pass);
-    let filter = plan.passes[pass];
-    let order = filter.order;
+    let order = plan.order(pass);
     strip_with(
         pass,
         order,

@@ -1,5 +1,5 @@
 -- `load_margin` copies the neighbour's rectangle of the strip, times the gain, into the margin.
-use mathlib.Core.Path.{_≡_, refl, ap, _∙_}
+use mathlib.Core.Path.{_≡_, refl, ap₂, _∙_}
 use native.Mathlib.Omega.{arith}
 use borrow.Author.Needs.{needs}
 use lib.ListN.{length}
@@ -32,17 +32,18 @@ at-steps c = c .before .before .before
 
 lies : (c : tie.After-strip-before)
     → let a = start c .args in
-    StripLies (axisOf (a .pass)) (length (a .strips .now)) (orderOf (a .t1) (a .pass)) (shapeLines (a .shape) (a .pass))
+    StripLies (axisOf (a .pass)) (length (a .strips .now)) (orderOf (a .plan) (a .pass)) (shapeLines (a .shape) (a .pass))
     (c .strip-before .result)
 lies c = strip-lies (start c .pre .moves) (c .strip-before .ensures)
 
 -- Where the margin starts.
 start-is : (c : tie.After-margin-start)
     → let a = start (at-strip (c .before)) .args in
-    c .margin-start .result ≡ marginFirst (a .t1) (a .shape) (a .pass)
+    c .margin-start .result ≡ marginFirst (a .plan) (a .shape) (a .pass)
 start-is c =
     let a = start (at-strip (c .before)) .args in
-    c .margin-start .ensures ∙ ap (marginStart (directionOf (a .pass)) (orderOf (a .t1) (a .pass))) (c .before .extent .ensures)
+    c .margin-start .ensures
+    ∙ ap₂ (marginStart (directionOf (a .pass))) (at-strip (c .before) .before .order .ensures) (c .before .extent .ensures)
 
 index-small : (c : tie.After-margin-start)
     → c .margin-start .result + at-strip (c .before) .strip-before .result .first ≤ workStride
@@ -51,11 +52,8 @@ index-small c =
 
 -- ---- needs
 
-mul-described : tie.Need-mul-described
-mul-described c = search needs
-
-element-copy-out-described : tie.Need-element-copy-out-described
-element-copy-out-described c = search needs
+order-requires : tie.Need-order-requires
+order-requires c κs = search needs
 
 strip-before-requires : tie.Need-strip-before-requires
 strip-before-requires c κs = search needs
@@ -67,7 +65,8 @@ extent-requires : tie.Need-extent-requires
 extent-requires c κs = search needs
 
 margin-start-requires : tie.Need-margin-start-requires
-margin-start-requires c κs = edge-asked (start (at-strip c) .pre .moves) (c .extent .ensures)
+margin-start-requires c κs =
+    rw (at-strip c .before .order .ensures) (edge-asked (start (at-strip c) .pre .moves) (c .extent .ensures))
 
 add-index : tie.Need-add-index
 add-index c = omega (arith, index-small c)
@@ -122,8 +121,7 @@ pub load-margin-spec : {M : Type 1} → statement M
 load-margin-spec =
     tie.close
     (tie.spec
-    mul-described
-    element-copy-out-described
+    order-requires
     strip-before-requires
     sub-places
     extent-requires

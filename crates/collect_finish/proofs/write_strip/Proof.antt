@@ -1,10 +1,10 @@
 -- `write_strip` writes the strip whole: the edge of the block times the gain, or zeros.
-use mathlib.Core.Path.{_≡_, ap, _∙_}
+use mathlib.Core.Path.{_≡_, ap₂, _∙_}
 use native.Mathlib.Omega.{arith}
 use native.Mathlib.Nat.{mul-le-mul}
 use borrow.Author.Needs.{needs}
 use Rattle.number.proofs.Tests.{failed, passed}
-use Rattle.axis.specs.Axis.{directionOf}
+use Rattle.axis.specs.Axis.{axisOf, directionOf, along, across}
 use Rattle.plan.specs.Sizes.{orderOf}
 use Rattle.plan.proofs.Record.{rules, in-grid}
 use Rattle.grid.specs.Grid.{goesOn}
@@ -48,21 +48,41 @@ at-height c = c .before
 abbrev at-place : tie.After-copy-rectangle-arg → tie.After-work-place
 at-place c = c .before
 
+-- The order of the pass.
+order-is : (c : tie.After-strip-start)
+    → let a = start (at-test c) .args in
+    c .before .order .result ≡ orderOf (a .plan) (a .pass)
+order-is c = c .before .order .ensures
+
+-- The strip's width and height in the work array.
+width-is : (c : tie.After-across)
+    → let b = needed (at-extent (at-edge c)) .before in
+    let a = start (at-test b) .args in
+    c .across .result ≡ across (axisOf (a .pass)) (orderOf (a .plan) (a .pass)) (a .plan .grid .side)
+width-is c = rw (order-is (needed (at-extent (at-edge c)) .before)) at (c .across .ensures)
+
+height-is : (c : tie.After-along)
+    → let b = needed (at-extent (at-edge (at-width c))) .before in
+    let a = start (at-test b) .args in
+    c .along .result ≡ along (axisOf (a .pass)) (orderOf (a .plan) (a .pass)) (a .plan .grid .side)
+height-is c = rw (order-is (needed (at-extent (at-edge (at-width c))) .before)) at (c .along .ensures)
+
 -- Where the strip starts in the work array.
 edge-is : (c : tie.After-edge-start)
     → let a = start (at-test (needed (at-extent c) .before)) .args in
-    c .edge-start .result ≡ edgeFirst (a .t1) (a .shape) (a .pass)
+    c .edge-start .result ≡ edgeFirst (a .plan) (a .shape) (a .pass)
 edge-is c =
     let a = start (at-test (needed (at-extent c) .before)) .args in
-    c .edge-start .ensures ∙ ap (edgeStart (directionOf (a .pass)) (orderOf (a .t1) (a .pass))) (at-extent c .extent .ensures)
+    c .edge-start .ensures
+    ∙ ap₂ (edgeStart (directionOf (a .pass))) (order-is (needed (at-extent c) .before)) (at-extent c .extent .ensures)
 
 -- Whether a neighbour needs it.
 goes-on-is : (c : tie.After-goes-on)
     → let a = start c .args in
-    c .goes-on .result ≡ goesOn (a .t1 .grid) (a .k) (a .pass)
+    c .goes-on .result ≡ goesOn (a .plan .grid) (a .k) (a .pass)
 goes-on-is c =
     let a = start c .args in
-    c .goes-on .ensures ∙ goes-on-at (a .t1 .grid) (a .k) (a .pass) (c .before .position .ensures)
+    c .goes-on .ensures ∙ goes-on-at (a .plan .grid) (a .k) (a .pass) (c .before .position .ensures)
 
 -- ---- needs
 
@@ -75,23 +95,23 @@ goes-on-requires c κs =
     let inside = in-grid _ (block .kept) _ (block .counted) in
     in-blocks _ _ (c .position .ensures) (inside .kept) (inside .inside)
 
-mul-described : tie.Need-mul-described
-mul-described c = search needs
-
-element-copy-out-described : tie.Need-element-copy-out-described
-element-copy-out-described c = search needs
+order-requires : tie.Need-order-requires
+order-requires c κs = search needs
 
 strip-start-requires : tie.Need-strip-start-requires
 strip-start-requires c κs = search needs
 
 mul-clear-words : tie.Need-mul-clear-words
 mul-clear-words c =
-    let s = start (at-test (unneeded c .before)) in
-    omega (arith, mul-le-mul (rules (s .args .t1) (s .pre .placed .block .kept) .side-high) (move-limited (s .pre)))
+    let b = unneeded c .before in
+    let s = start (at-test b) in
+    rw (order-is b)
+    (omega (arith, mul-le-mul (rules (s .args .plan) (s .pre .placed .block .kept) .side-high) (move-limited (s .pre))))
 
 clear-words-requires : tie.Need-clear-words-requires
 clear-words-requires c κs =
-    let b = unneeded c .before in words-fit _ _ _ (words-in-strips (start (at-test b) .pre) (b .strip-start .ensures))
+    let b = unneeded c .before in
+    rw (order-is b) (words-fit _ _ _ (words-in-strips (start (at-test b) .pre) (b .strip-start .ensures)))
 
 same-length : tie.Need-same-length
 same-length c = search needs
@@ -103,13 +123,14 @@ returns c =
     let b = t .before in
     let a = start (at-test b) .args in
     cleared-strip (start (at-test b) .pre) (b .strip-start .ensures) (a .gain) (a .work .now) (a .strips .now)
-    (failed (goes-on-is (at-test (t .before))) (t .if1 .taken)) (d .clear-words .ensures)
+    (failed (goes-on-is (at-test (t .before))) (t .if1 .taken)) (rw (order-is b) at (d .clear-words .ensures))
 
 extent-requires : tie.Need-extent-requires
 extent-requires c κs = search needs
 
 edge-start-requires : tie.Need-edge-start-requires
-edge-start-requires c κs = edge-asked (start (at-test (needed c .before)) .pre) (c .extent .ensures)
+edge-start-requires c κs =
+    let b = needed c .before in rw (order-is b) (edge-asked (start (at-test b) .pre) (c .extent .ensures))
 
 across-requires : tie.Need-across-requires
 across-requires c κs = search needs
@@ -131,9 +152,9 @@ copy-rectangle-requires c κs =
     let b = needed (at-extent e) .before in
     let starts = b .strip-start .ensures in
     let place = p .work-place .ensures in
-    let wide = x .across .ensures in (
-      edge-fits (start (at-test b) .pre) starts (edge-is e) place (h .along .ensures) wide,
-      strip-in-strips (start (at-test b) .pre) starts (edge-is e) place (h .along .ensures) wide,
+    let wide = width-is x in (
+      edge-fits (start (at-test b) .pre) starts (edge-is e) place (height-is h) wide,
+      strip-in-strips (start (at-test b) .pre) starts (edge-is e) place (height-is h) wide,
       omega arith,
     )
 
@@ -150,8 +171,8 @@ returns-2 c =
     let t = needed (at-extent e) in
     let b = t .before in
     let a = start (at-test b) .args in
-    copied-strip (start (at-test b) .pre) (b .strip-start .ensures) (edge-is e) (p .work-place .ensures) (h .along .ensures)
-    (x .across .ensures) (a .gain) (a .work .now) (a .strips .now) (passed (goes-on-is (at-test (t .before))) (t .if1 .left))
+    copied-strip (start (at-test b) .pre) (b .strip-start .ensures) (edge-is e) (p .work-place .ensures) (height-is h)
+    (width-is x) (a .gain) (a .work .now) (a .strips .now) (passed (goes-on-is (at-test (t .before))) (t .if1 .left))
     (d .copy-rectangle .ensures)
 
 pub write-strip-spec : {M : Type 1} → statement M
@@ -160,8 +181,7 @@ write-strip-spec =
     (tie.spec
     position-requires
     goes-on-requires
-    mul-described
-    element-copy-out-described
+    order-requires
     strip-start-requires
     mul-clear-words
     clear-words-requires

@@ -6,6 +6,7 @@ use native.Mathlib.Omega.{arith}
 use native.Mathlib.Numerals.{add-one}
 use Rattle.word.proofs.Ring.{add-assoc, zero-right, reduced-small}
 use Rattle.word.specs.Word.{_⊕_, _⊗_}
+use Rattle.plan.specs.Rules.{orderLimit}
 use Rattle.plan.specs.declared.Plan.{Plan}
 use Rattle.buffer.specs.Lists.{wordAt}
 use Rattle.passes.specs.Filter.{Filter}
@@ -67,7 +68,7 @@ pub histories-carried : {plan : Plan} {k : ℕ} {course : Course} {filters : Lis
     → CarryFits plan k course filters strips lines → (pass : ℕ) {responses : ℕ} → PassToCarry course pass responses
     → (strip : Strip) → strip ≡ stripBefore plan k pass → {gain : ℕ} → gain ≡ gainsAfter plan pass (course .pass) → {row : ℕ}
     → row ≡ rowsBefore (filterAt filters) pass → {square : List (List ℕ)} {before after : List ℕ}
-    → ((j p : ℕ) → j < filterAt filters pass .order → p < course .order
+    → ((j p : ℕ) → j < filterAt filters pass .order → p < orderLimit
     → squareAt square j p ≡ wordAt lines (rowMajor rowWords (row + j) (course .from + p)))
     → HistoriesAdded (course .lines) (course .order) (filterAt filters pass .order)
     (historyWord gain (directionOf pass) (filterAt filters pass .order) strip strips) square before after
@@ -85,7 +86,7 @@ histories-carried {plan} {k} {course} {filters} {strips} {lines} held pass here 
           (λ j c.
           let low = i .low in
           let high = i .high in
-          q j place c (i .below)
+          q j place c (omega (arith, i .below, fits .course-fits .order-limited))
           ∙ ap (λ z. wordAt lines (rowMajor rowWords (z + j) (course .from + place))) r
           ∙ ap (wordAt lines) (omega arith)
           ∙ held .ready .squares pass j (indexAt course place) (here .from-first) (here .in-course) c (omega arith)));

@@ -10,16 +10,10 @@ abbrev start : tie.After-block-shape → tie.Start
 start c = c .before .before
 
 abbrev shaped : tie.After-extent → tie.After-block-shape
-shaped c = c .before .before
+shaped c = c .before
 
 block-shape-requires : tie.Need-block-shape-requires
-block-shape-requires c κs = let a = c .before in in-grid (a .args .t1) (a .pre .kept) (a .args .k) (a .pre .counted)
-
-mul-filter : tie.Need-mul-filter
-mul-filter c = search needs
-
-element-copy-out-filter : tie.Need-element-copy-out-filter
-element-copy-out-filter c = search needs
+block-shape-requires c κs = let a = c .before in in-grid (a .args .plan) (a .pre .kept) (a .args .k) (a .pre .counted)
 
 extent-requires : tie.Need-extent-requires
 extent-requires c κs = search needs
@@ -27,33 +21,36 @@ extent-requires c κs = search needs
 lines-requires : tie.Need-lines-requires
 lines-requires c κs = search needs
 
+order-requires : tie.Need-order-requires
+order-requires c κs = search needs
+
 course-along-requires : tie.Need-course-along-requires
 course-along-requires c κs =
-    let places = c .before in
+    let places = c .before .before in
     let shape = shaped places in
     let a = start shape in
     record {
-      limited = order-limited-at (a .args .t1) (a .pre .kept) (a .args .pass) (a .pre .pass-below);
+      limited = rw (c .order .ensures) (order-limited-at (a .args .plan) (a .pre .kept) (a .args .pass) (a .pre .pass-below));
       extent-small =
           rw (places .extent .ensures)
-          (few-places (a .args .t1) (a .args .k) (a .args .pass) (a .pre .kept) (a .pre .counted) _ (shape .block-shape .ensures));
+          (few-places (a .args .plan) (a .args .k) (a .args .pass) (a .pre .kept) (a .pre .counted) _ (shape .block-shape .ensures));
     }
 
 returns : tie.Need-returns
 returns c =
-    let lines = c .before in
+    let order = c .before in
+    let lines = order .before in
     let places = lines .before in
     course-is _ _ _ (shaped places .block-shape .ensures) (places .extent .ensures) (lines .lines .ensures)
-    (c .course-along .ensures)
+    (order .order .ensures) (c .course-along .ensures)
 
 pub course-of-spec : {M : Type 1} → statement M
 course-of-spec =
     tie.close
     (tie.spec
     block-shape-requires
-    mul-filter
-    element-copy-out-filter
     extent-requires
     lines-requires
+    order-requires
     course-along-requires
     returns)

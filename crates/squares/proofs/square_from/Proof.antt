@@ -13,14 +13,14 @@ use Rattle.squares.proofs.square_from.Tie as tie
 use Rattle.number.specs.Numbers.{rowMajor}
 
 abbrev Inv-loop : tie.InvT-loop
-Inv-loop lines row count from places square₀ line₀ square line =
+Inv-loop lines row count from square₀ line₀ square line =
     (line ≤ count)
     × (length square ≡ orderLimit)
-    × ((l p : ℕ) → l < line → p < places
+    × ((l p : ℕ) → l < line → p < orderLimit
     → squareAt square l p ≡ wordAt lines (rowMajor rowWords (row + l) (from + p)))
 
 abbrev μ-loop : tie.MeasureT-loop
-μ-loop lines row count from places square₀ line₀ square line = count - line
+μ-loop lines row count from square₀ line₀ square line = count - line
 
 loop-holds : tie.Need-loop-holds Inv-loop μ-loop
 loop-holds c = (omega arith, refl, λ l p h. absurd (omega arith))
@@ -55,7 +55,7 @@ loop-again c =
     let a = l .before .before .args in (
       omega arith,
       length-set (l .loop .square) _ _ ∙ l .loop .inv .1,
-      square-next (λ l p. wordAt (a .lines .now) (rowMajor rowWords (a .row + l) (a .from + p))) (a .places) (l .loop .line)
+      square-next (λ l p. wordAt (a .lines .now) (rowMajor rowWords (a .row + l) (a .from + p))) orderLimit (l .loop .line)
           (l .loop .square) _ (omega (arith, l .loop .inv .1))
           (λ p h. c .square-row .ensures p h ∙ ap (wordAt (a .lines .now)) (omega arith)) (l .loop .inv .2),
     )

@@ -1,4 +1,4 @@
--- `square_row` has copied the words of its places.
+-- `square_row` has copied its words.
 use native.Mathlib.Omega.{arith}
 use borrow.Author.Needs.{needs}
 use Rattle.buffer.proofs.Copies.{row-at}

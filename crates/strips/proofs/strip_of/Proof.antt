@@ -6,16 +6,13 @@ use Rattle.strips.proofs.strip_of.Statement.{statement}
 use Rattle.strips.proofs.strip_of.Tie as tie
 
 block-shape-requires : tie.Need-block-shape-requires
-block-shape-requires c κs = in-grid _ (c .before .pre .kept) _ (c .before .pre .counted)
+block-shape-requires c κs = in-grid _ (c .pre .kept) _ (c .pre .counted)
 
 strip-start-requires : tie.Need-strip-start-requires
 strip-start-requires c κs = search needs
 
-mul-filter : tie.Need-mul-filter
-mul-filter c = search needs
-
-element-copy-out-filter : tie.Need-element-copy-out-filter
-element-copy-out-filter c = search needs
+order-requires : tie.Need-order-requires
+order-requires c κs = search needs
 
 extent-requires : tie.Need-extent-requires
 extent-requires c κs = search needs
@@ -37,8 +34,9 @@ returns c =
     let l = c .before in
     let e = l .before .before .before in
     let s = e .before .before in
-    strip-of-is _ _ _ _ (s .before .block-shape .ensures) (s .strip-start .ensures) (e .extent .ensures)
-    (l .before .before .along .ensures) (l .before .along2 .ensures) (l .lines .ensures) (c .strip-with .ensures)
+    strip-of-is _ _ _ _ (s .before .block-shape .ensures) (s .strip-start .ensures) (e .before .order .ensures)
+    (e .extent .ensures) (l .before .before .along .ensures) (l .before .along2 .ensures) (l .lines .ensures)
+    (c .strip-with .ensures)
 
 pub strip-of-spec : {M : Type 1} → statement M
 strip-of-spec =
@@ -46,8 +44,7 @@ strip-of-spec =
     (tie.spec
     block-shape-requires
     strip-start-requires
-    mul-filter
-    element-copy-out-filter
+    order-requires
     extent-requires
     along-requires
     along-requires-2

@@ -39,7 +39,6 @@ square-from-requires c κs =
     let fits = a .pre .0 .link-fits in
     let few = link-orders fits .order-limited (a .args .pass) (pass-below a) in (
       few,
-      fits .course-fits .order-limited,
       omega (arith, fits .course-fits .inside, fits .course-fits .few-places),
       rw (c .rows-before .ensures)
           (omega (
