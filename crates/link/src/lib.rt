@@ -27,8 +27,8 @@ pub fn link(plan: Plan, k: usize, pass: usize, strips: &mut [u64])
     }
     let filters = unit_gain_filters(plan);
     let mut lines = [0; squares::LINES];
-    lines::link_lines(&mut lines, strips, plan, k, course, filters);
     let mut responses = [0; crossing::RESPONSES];
+    lines::link_lines(&mut lines, strips, plan, k, course, filters);
     crossing::cross(&mut responses, &lines, course, filters);
     carrying::carry(&mut responses, &lines, strips, plan, k, course, filters);
     let lone = strips::strip_of(plan, Half::Lone, k, pass);

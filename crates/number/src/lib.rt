@@ -28,7 +28,7 @@ pub fn if_below(i: usize, bound: usize, number: usize) -> usize
     if i < bound { number } else { 0 }
 }
 
-// A number where i is another, and 0 where not.
+// A number where i equals another, and 0 where not.
 pub fn if_equal(i: usize, other: usize, number: usize) -> usize
     ensures { λ r. ⌜ r ≡ cond (eqb i other) number 0 ⌝ }
 {
