@@ -26,6 +26,7 @@ pub fn link(plan: Plan, k: usize, pass: usize, strips: &mut [u64])
         return;
     }
     let filters = unit_gain_filters(plan);
+    // Both are cleared before any pass runs: with a clear between the passes a link took longer (docs/changes/CR08.md).
     let mut lines = [0; squares::LINES];
     let mut responses = [0; crossing::RESPONSES];
     lines::link_lines(&mut lines, strips, plan, k, course, filters);
