@@ -68,7 +68,7 @@ pub fn filter_with_gain(pass: plan::Pass, gain: u64) -> FilterWords
     words
 }
 
-// The gain of pass i as a residue, where that is one from `first` to before `past`; else 1.
+// The gain of pass i as a residue where i lies from `first` to before `past`, and 1 where it does not.
 fn gain_within(pass: plan::Pass, i: usize, first: usize, past: usize) -> u64
     ensures { λ r. ⌜ r ≡ cond (leb first i && ltb i past) (residue (pass .gain)) 1 ⌝ }
 {

@@ -8,8 +8,8 @@ use native.Mathlib.Decide.{decLt}
 use native.Mathlib.Omega.{arith}
 use borrow.Author.Tests.{ltb-true}
 use lib.Dec.{ltb}
-use lib.ListN.{length}
-use lib.Seq.{ext-getD}
+use lib.ListN.{length, set, length-set}
+use lib.Seq.{ext-getD, getD-set-other}
 use Rattle.buffer.specs.Written.{rowWritten}
 use Rattle.word.proofs.Ring.{zero-add, mul-zero}
 use Rattle.word.specs.Word.{_⊕_, _⊗_}
@@ -167,6 +167,16 @@ module _ (plan : Plan) (k pass : ℕ) {n : ℕ} (at : LinkAt plan k pass n) (str
         ])
 
 -- ---- the whole link
+
+-- The responses stand after a margin: the first word of the buffer may be any.
+pub held-after-margin : {course : Course} {words : ℕ → ℕ → ℕ} {responses : List ℕ} → Held course words responses
+    → (word : ℕ) → Held course words (set responses 0 word)
+held-after-margin {responses = responses} held word =
+    record {
+      length-is = length-set responses 0 word ∙ held .length-is;
+      at = λ line place l i.
+          getD-set-other responses 0 (responsePlace line place) word 0 (λ e. omega arith) ∙ held .at line place l i;
+    }
 
 module _ (plan : Plan) (k pass : ℕ) {n : ℕ} (at : LinkAt plan k pass n) {course : Course}
     (course-is : course ≡ courseOf plan k pass) where

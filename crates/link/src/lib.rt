@@ -2,6 +2,7 @@
 // the passes run along the unit histories of each pass, along the few lines past the block's edges, and over their ends. They
 // run with gain 1; the words past an edge take the gains of the passes after their own, up to the link's.
 // An inner crate: what its functions require, their callers in this repository show.
+mod ahead;
 mod carrying;
 mod crossing;
 mod lines;
@@ -29,9 +30,12 @@ pub fn link(plan: Plan, k: usize, pass: usize, strips: &mut [u64])
     // Both are cleared before any pass runs: with a clear between the passes a link took longer (docs/changes/CR08.md).
     let mut lines = [0; squares::LINES];
     let mut responses = [0; crossing::RESPONSES];
+    let read = ahead::read_strips(strips, plan, k, pass);
     lines::link_lines(&mut lines, strips, plan, k, course, filters);
     crossing::cross(&mut responses, &lines, course, filters);
     carrying::carry(&mut responses, &lines, strips, plan, k, course, filters);
+    // Into the margin, where nothing reads it.
+    responses[0] = read;
     let lone = strips::strip_of(plan, Half::Lone, k, pass);
     let shift = plan.half_words();
     let side = plan.grid.side;

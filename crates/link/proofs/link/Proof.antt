@@ -1,5 +1,6 @@
 -- `link` writes the strip of the link; one of order 0 has no words.
 use mathlib.Core.Path.{refl}
+use Prim.Native.Nat.{ℕ}
 use borrow.Author.Needs.{needs}
 use lib.ListN.{length}
 use Rattle.buffer.proofs.Listed.{zeros-at}
@@ -7,7 +8,7 @@ use Rattle.squares.specs.LineBuffers.{lineWords}
 use Rattle.link.specs.Courses.{LinkFits}
 use Rattle.link.specs.Crossing.{responseWords}
 use Rattle.link.proofs.Courses.{link-orders}
-use Rattle.link.proofs.Linked.{link-none, link-fits, link-laid, link-is}
+use Rattle.link.proofs.Linked.{link-none, link-fits, link-laid, held-after-margin, link-is}
 use Rattle.link.proofs.link.Statement.{statement}
 use Rattle.link.proofs.link.Tie as tie
 
@@ -19,7 +20,7 @@ abbrev course-at : tie.After-unit-gain-filters → tie.After-course-of
 course-at c = c .before .before .before
 
 abbrev filters-at : tie.After-link-lines → tie.After-unit-gain-filters
-filters-at c = c .before .before .before
+filters-at c = c .before .before .before .before .before
 
 abbrev lines-at : tie.After-cross → tie.After-link-lines
 lines-at c = c .before .before .before .before
@@ -38,6 +39,10 @@ lone-at c = c .before
 
 abbrev sized-at : tie.After-responses5 → tie.After-half-words
 sized-at c = c .before .before
+
+-- What was read ahead.
+abbrev read : tie.After-carry → ℕ
+read c = lines-at (crossed-at (c .before)) .before .before .before .read-strips .result
 
 -- What the steps of a link want.
 fits : (c : tie.After-unit-gain-filters)
@@ -61,11 +66,14 @@ returns c =
 unit-gain-filters-requires : tie.Need-unit-gain-filters-requires
 unit-gain-filters-requires c κs = search needs
 
+read-strips-requires : tie.Need-read-strips-requires
+read-strips-requires c κs = start (course-at (c .before)) .pre
+
 slice-aggregate-link-lines : tie.Need-slice-aggregate-link-lines
 slice-aggregate-link-lines c = search needs
 
 link-lines-requires : tie.Need-link-lines-requires
-link-lines-requires c κs = (fits (c .before .before), record { length-is = refl; zeros = zeros-at lineWords })
+link-lines-requires c κs = (fits (c .before .before .before .before), record { length-is = refl; zeros = zeros-at lineWords })
 
 slice-aggregate-cross : tie.Need-slice-aggregate-cross
 slice-aggregate-cross c = search needs
@@ -99,6 +107,9 @@ carry-requires c κs =
     let ready = g .link-lines .ensures in
     (record { link-fits = fits (filters-at g); ready = ready }, x .cross .ensures _ ready)
 
+array-write-responses : tie.Need-array-write-responses
+array-write-responses c = search needs
+
 strip-of-requires : tie.Need-strip-of-requires
 strip-of-requires c κs = search needs
 
@@ -117,7 +128,7 @@ write-strip-requires c κs =
     let d = course-at f in
     let a = start d in
     link-laid (a .args .plan) (a .args .k) (a .args .pass) (a .pre) (d .course-of .ensures) (f .before .if1 .left)
-    (s .strip-of .ensures) (h .half-words .ensures) (y .carry .ensures .length-is)
+    (s .strip-of .ensures) (h .half-words .ensures) (held-after-margin (y .carry .ensures) (read y) .length-is)
 
 same-length : tie.Need-same-length
 same-length c = search needs
@@ -132,7 +143,7 @@ returns-2 c =
     let d = course-at f in
     let a = start d in
     link-is (a .args .plan) (a .args .k) (a .args .pass) (a .pre) (d .course-of .ensures) (f .unit-gain-filters .ensures)
-    (a .args .strips .now) _ refl (y .carry .ensures) (s .strip-of .ensures) (h .half-words .ensures)
+    (a .args .strips .now) _ refl (held-after-margin (y .carry .ensures) (read y)) (s .strip-of .ensures) (h .half-words .ensures)
     (w .write-strip .ensures)
 
 pub link-spec : {M : Type 1} → statement M
@@ -142,6 +153,7 @@ link-spec =
     course-of-requires
     returns
     unit-gain-filters-requires
+    read-strips-requires
     slice-aggregate-link-lines
     link-lines-requires
     slice-aggregate-cross
@@ -150,6 +162,7 @@ link-spec =
     slice-aggregate-carry
     slice-aggregate-carry-2
     carry-requires
+    array-write-responses
     strip-of-requires
     half-words-requires
     slice-aggregate-write-strip
