@@ -1,6 +1,7 @@
-// Strips read ahead. A link uses up to six strips one after another, which lie far apart in memory: where they are in no cache,
-// it waits for each. So it first reads a word of each of their cache lines, and all are on their way together. What these words
-// are does not count: joined to one word, they go where nothing reads it, for without a use the compiler leaves the reads out.
+// Strips read ahead. A link uses up to six strips one after another, each in another place of memory: where they are in no
+// cache, it waits for each. So it first reads a word of each of their cache lines, and the lines are on their way together.
+// What these words are does not count. Joined by `or` to one word, they are stored where nothing reads it: if they were not
+// stored, the compiler would leave the reads out.
 use grid::Neighbour;
 use plan::Plan;
 use task_words::Half;
@@ -11,7 +12,8 @@ ghost use Rattle.link.specs.Courses.{LinkAt};
 // The words of a cache line of 64 bytes.
 const LINE_WORDS: usize = 8;
 
-// Reads a word of each cache line of `count` words from `start` on, and joins them to those read before.
+// Reads every eighth of `count` words from `start` on, so one of each cache line (but for the last line, where the words do
+// not begin with a line), and joins them to what was read before.
 fn read_words(words: &[u64], start: usize, count: usize, read_before: u64) -> u64
     requires { ⌜ start + count ≤ length (now words) ⌝ }
 {
@@ -24,7 +26,7 @@ fn read_words(words: &[u64], start: usize, count: usize, read_before: u64) -> u6
     read
 }
 
-// The same for block k's strip of a pass in a half.
+// Reads ahead block k's strip of a pass in a half.
 fn read_strip(
     strips: &[u64],
     plan: Plan,
@@ -40,7 +42,7 @@ fn read_strip(
     read_words(strips, start, count, read_before)
 }
 
-// The same for the linked strip of the block that a pass comes from.
+// Reads ahead the linked strip of the block that a pass comes from, where there is one.
 fn read_edge(strips: &[u64], plan: Plan, k: usize, pass: usize, read_before: u64) -> u64
     requires { ⌜ LinkAt plan k pass (length (now strips)) ⌝ }
 {
@@ -51,7 +53,8 @@ fn read_edge(strips: &[u64], plan: Plan, k: usize, pass: usize, read_before: u64
     }
 }
 
-// Reads ahead the strips of the link of a pass of block k: its lone one, the one that it writes, and those of its needs.
+// Reads ahead the strips of the link of a pass of block k: its lone one, the one that it writes, and those of its needs,
+// which are of the passes up to its own. The answer is all that was read, joined.
 pub(crate) fn read_strips(strips: &[u64], plan: Plan, k: usize, pass: usize) -> u64
     requires { ⌜ LinkAt plan k pass (length (now strips)) ⌝ }
 {

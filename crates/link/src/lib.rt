@@ -27,14 +27,14 @@ pub fn link(plan: Plan, k: usize, pass: usize, strips: &mut [u64])
         return;
     }
     let filters = unit_gain_filters(plan);
-    // Both are cleared before any pass runs: with a clear between the passes a link took longer (docs/changes/CR08.md).
+    // Both buffers are cleared before any pass runs: a link takes longer with a clear between (docs/changes/CR08.md).
     let mut lines = [0; squares::LINES];
     let mut responses = [0; crossing::RESPONSES];
     let read = ahead::read_strips(strips, plan, k, pass);
     lines::link_lines(&mut lines, strips, plan, k, course, filters);
     crossing::cross(&mut responses, &lines, course, filters);
     carrying::carry(&mut responses, &lines, strips, plan, k, course, filters);
-    // Into the margin, where nothing reads it.
+    // What was read ahead goes into the margin, where nothing reads it.
     responses[0] = read;
     let lone = strips::strip_of(plan, Half::Lone, k, pass);
     let shift = plan.half_words();
