@@ -19,8 +19,11 @@ start c = c .before .before
 abbrev course-at : tie.After-unit-gain-filters → tie.After-course-of
 course-at c = c .before .before .before
 
-abbrev filters-at : tie.After-link-lines → tie.After-unit-gain-filters
-filters-at c = c .before .before .before .before .before
+abbrev read-at : tie.After-link-lines-arg → tie.After-read-strips
+read-at c = c .before .before
+
+abbrev filters-at : tie.After-link-lines-arg → tie.After-unit-gain-filters
+filters-at c = read-at c .before .before
 
 abbrev lines-at : tie.After-cross → tie.After-link-lines
 lines-at c = c .before .before .before .before
@@ -32,7 +35,7 @@ abbrev carried-at : tie.After-strip-of → tie.After-carry
 carried-at c = c .before .before
 
 abbrev begun-at : tie.After-strip-of → tie.After-unit-gain-filters
-begun-at c = filters-at (lines-at (crossed-at (carried-at c .before)))
+begun-at c = filters-at (lines-at (crossed-at (carried-at c .before)) .before)
 
 abbrev lone-at : tie.After-half-words → tie.After-strip-of
 lone-at c = c .before
@@ -42,7 +45,7 @@ sized-at c = c .before .before
 
 -- What was read ahead.
 abbrev read : tie.After-carry → ℕ
-read c = lines-at (crossed-at (c .before)) .before .before .before .read-strips .result
+read c = read-at (lines-at (crossed-at (c .before)) .before) .read-strips .result
 
 -- What the steps of a link want.
 fits : (c : tie.After-unit-gain-filters)
@@ -73,7 +76,7 @@ slice-aggregate-link-lines : tie.Need-slice-aggregate-link-lines
 slice-aggregate-link-lines c = search needs
 
 link-lines-requires : tie.Need-link-lines-requires
-link-lines-requires c κs = (fits (c .before .before .before .before), record { length-is = refl; zeros = zeros-at lineWords })
+link-lines-requires c κs = (fits (filters-at c), record { length-is = refl; zeros = zeros-at lineWords })
 
 slice-aggregate-cross : tie.Need-slice-aggregate-cross
 slice-aggregate-cross c = search needs
@@ -84,7 +87,7 @@ slice-aggregate-cross-2 c = search needs
 cross-requires : tie.Need-cross-requires
 cross-requires c κs =
     let g = c .before .before .before in
-    let link = fits (filters-at g) in (
+    let link = fits (filters-at (g .before)) in (
       record {
         course-fits = link .course-fits;
         orders = link-orders link;
@@ -105,7 +108,7 @@ carry-requires c κs =
     let x = crossed-at c in
     let g = lines-at x in
     let ready = g .link-lines .ensures in
-    (record { link-fits = fits (filters-at g); ready = ready }, x .cross .ensures _ ready)
+    (record { link-fits = fits (filters-at (g .before)); ready = ready }, x .cross .ensures _ ready)
 
 array-write-responses : tie.Need-array-write-responses
 array-write-responses c = search needs
