@@ -7,7 +7,7 @@ use Prim.Native.Nat.{ℕ}
 use native.Mathlib.Omega.{arith}
 use lib.Dec.{eqb}
 use Rattle.refusal.specs.declared.Refusal.{Refusal}
-use Rattle.refusal.specs.declared.Refusal.the-variants.{WordsEndEarly, AnotherKindDue, OutOfRange, SideBelowOrder, WordsAfterEnd, RecordBreaksRule, BufferTooShort, NoSuchTask, MarkBroken, AlreadyMarked, NeedUnmarked, RectangleOutside, InputUnfit, StripsTooShort, MapTooShort, OutputTooShort, BlockNotCollected}
+use Rattle.refusal.specs.declared.Refusal.the-variants.{WordsEndEarly, AnotherKindDue, OutOfRange, SideBelowOrder, WordsAfterEnd, RecordBreaksRule, BufferTooShort, NoSuchTask, MarkBroken, AlreadyMarked, NeedUnmarked, RectangleOutside, InputUnfit, StripsTooShort, MapTooShort, OutputTooShort, BlockNotCollected, JobMisplaced}
 use Rattle.refusal.specs.declared.Outcome.{Outcome}
 use Rattle.refusal.specs.declared.Outcome.the-variants.{Accepted, Refused}
 use Rattle.refusal.specs.Refusals.{numberOf, placeOf, Answer, accepted, refused}
@@ -122,7 +122,8 @@ named number place =
     (cond (eqb number 14) StripsTooShort
     (cond (eqb number 15) MapTooShort
     (cond (eqb number 16) OutputTooShort
-    BlockNotCollected)))))))))))))))
+    (cond (eqb number 17) BlockNotCollected
+    (JobMisplaced place)))))))))))))))))
 
 named-back : (refusal : Refusal) → named (numberOf refusal) (placeOf refusal) ≡ refusal
 unfolding named
@@ -143,6 +144,7 @@ named-back StripsTooShort = refl
 named-back MapTooShort = refl
 named-back OutputTooShort = refl
 named-back BlockNotCollected = refl
+named-back (JobMisplaced job) = refl
 
 outcomeOf : Answer → Outcome
 outcomeOf accepted = Accepted

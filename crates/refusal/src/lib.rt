@@ -25,6 +25,8 @@ pub enum Refusal {
     MapTooShort,
     OutputTooShort,
     BlockNotCollected,
+    // The marks of this job run past the common list or overlap another job's.
+    JobMisplaced(usize),
 }
 
 // Whether a call was accepted.
@@ -63,6 +65,7 @@ impl Refusal {
             Refusal::MapTooShort => row(15, 0),
             Refusal::OutputTooShort => row(16, 0),
             Refusal::BlockNotCollected => row(17, 0),
+            Refusal::JobMisplaced(job) => row(18, job),
         }
     }
 

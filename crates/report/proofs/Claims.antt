@@ -41,11 +41,11 @@ module _ (grid : Grid) (done : ℕ → ℕ → Bool) where
   found t k e = task-found (ready grid done) (blockTotal grid) 0 6 t k e
 
   -- What the report names is ready.
-  found-ready : (t k : ℕ) → firstReady grid done ≡ Ready t k → ready grid done t k ≡ true
+  pub found-ready : (t k : ℕ) → firstReady grid done ≡ Ready t k → ready grid done t k ≡ true
   found-ready t k e = found t k e .holds
 
   -- It names none only where all are done.
-  none-all : firstReady grid done ≡ Nothing → All grid done
+  pub none-all : firstReady grid done ≡ Nothing → All grid done
   unfolding firstReady
   none-all e =
       all-done grid done (λ t k l i. task-none (ready grid done) (blockTotal grid) 0 6 e t k (omega arith) (omega arith) i)

@@ -131,7 +131,7 @@ fn sums_of(grid: Grid, marks: &[u32]) -> Sums
 }
 
 // The first ready task: task numbers rising, and for each the blocks rising.
-fn first_ready(grid: Grid, marks: &[u32]) -> Next
+pub fn first_ready(grid: Grid, marks: &[u32]) -> Next
     requires { ⌜ Lent grid (length (now marks)) ⌝ }
     ensures { λ r. ⌜ r ≡ firstReady grid (isMarked (now (marks .entry))) ⌝ }
 {
