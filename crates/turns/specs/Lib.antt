@@ -1,0 +1,5 @@
+pub mod Jobs
+pub mod Turn
+pub mod Dispatch
+pub mod Answers
+pub mod Runs
