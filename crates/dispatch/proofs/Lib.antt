@@ -1,0 +1,4 @@
+pub mod Parts
+pub mod Searching
+pub mod Rounds
+pub mod Walking
