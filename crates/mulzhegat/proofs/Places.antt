@@ -44,6 +44,10 @@ use Rattle.report.specs.declared.ReportAnswer.the-variants as reported
 use Rattle.report.specs.Values.{reportGiven}
 use Rattle.report.specs.Report.{marksRows, lentToReport, report}
 use Rattle.recall.specs.RecallCall.{lentToRecall, recallAnswer}
+use Rattle.turns.specs.declared.Job.{Job}
+use Rattle.turns.specs.Jobs.{jobsKept, firstMisplaced, firstBrokenPlace}
+use Rattle.turns.specs.Dispatch.{dispatchRows, dispatch}
+use Rattle.turns.proofs.Parts.{tested-kept}
 use Rattle.mulzhegat.specs.Places.{PlacesFit}
 use Rattle.buffer.specs.Lists.{joined}
 
@@ -220,6 +224,21 @@ module _ (plan : Plan) where
   unfolding pairCall
   pair-place table top left bottom right = rectangle-place table top left bottom right
 
+-- ---- several jobs: 18 names one of at most eight, 9 a place of the common list
+
+dispatch-place : (jobs : List Job) (last : ℕ) (marks : List ℕ) → length marks ≤ half → placeIn (dispatch jobs last marks .answer) < half
+unfolding dispatch dispatchRows
+dispatch-place jobs last marks short =
+    in-half (dispatchRows jobs marks) (
+      at-0,
+      λ kept. (
+        λ due.
+            let few = tested-kept jobs (not-false (jobsKept jobs) kept) .few in
+            omega (arith, ltb-true (firstMisplaced jobs (length marks)) (length jobs) due),
+        λ n. (λ due. omega (arith, ltb-true (firstBrokenPlace jobs marks) (length marks) due), λ n. tt),
+      ),
+    )
+
 pub places-fit : PlacesFit
 places-fit =
     record {
@@ -230,6 +249,7 @@ places-fit =
       task = task-place;
       report-on = report-place;
       recall = recall-place;
+      dispatched = dispatch-place;
       serial = serial-place;
       rectangle = rectangle-place;
       dropouts = dropouts-place;

@@ -1,12 +1,13 @@
 -- What a call answers in C: one number, and beside it the words and floats that it writes through pointers.
 use mathlib.Core.Path.{_≡_}
 use mathlib.Core.List.{List, [], _∷_}
-use Prim.Native.Nat.{ℕ, _+_, _*_}
+use Prim.Native.Nat.{ℕ, _+_, _-_, _*_, min}
 use lib.Ieee.{Float, binary64, ofBits}
 use Rattle.refusal.specs.Refusals.{Answer, numberIn, placeIn}
 use Rattle.refusal.specs.Table.{Given}
 use Rattle.plan.specs.declared.Sizes.{Sizes}
 use Rattle.report.specs.Values.{Values}
+use Rattle.turns.specs.Dispatch.{TurnValues}
 use Rattle.macro_values.specs.declared.Quantity.the-variants as wanted
 use Rattle.macro_values.specs.MacroValues.{Variable, vacant, holding, VariablePair}
 
@@ -18,6 +19,11 @@ codeHalf = 4294967296
 abbrev pub codeOf : Answer → ℕ
 codeOf answer = numberIn answer * codeHalf + placeIn answer
 
+-- The same for a call whose place may be past the lower half, as in a list of more than 2^32 marks: it is answered as
+-- 2^32 - 1 then.
+abbrev pub cappedCode : Answer → ℕ
+cappedCode answer = numberIn answer * codeHalf + min (placeIn answer) (codeHalf - 1)
+
 -- The seven sizes in the order of the C record.
 abbrev pub sizesRecord : Sizes → List ℕ
 sizesRecord sizes =
@@ -27,6 +33,10 @@ sizesRecord sizes =
 -- The five values of a report in the order of the C record.
 abbrev pub progressRecord : Values → List ℕ
 progressRecord values = values .count ∷ values .tally ∷ values .ready ∷ values .task ∷ values .block ∷ []
+
+-- The four values of a turn in the order of its words in C.
+abbrev pub turnRecord : TurnValues → List ℕ
+turnRecord values = values .named ∷ values .job ∷ values .task ∷ values .block ∷ []
 
 -- The state of a macro variable: 0 vacant, 1 a total, 2 a number of pixels;
 abbrev pub stateOf : Variable → ℕ

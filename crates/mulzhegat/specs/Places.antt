@@ -1,7 +1,8 @@
 -- The place of every refusal that a call can answer fits the lower half of its code.
 use mathlib.Core.List.{List}
-use Prim.Native.Nat.{ℕ, _<_}
+use Prim.Native.Nat.{ℕ, _<_, _≤_}
 use lib.IntN.{ℤ}
+use lib.ListN.{length}
 use Rattle.refusal.specs.Refusals.{Answer, placeIn}
 use Rattle.plan.specs.declared.Plan.{Plan}
 use Rattle.plan.specs.FirstTests.{planSizes}
@@ -15,6 +16,8 @@ use Rattle.macro_values.specs.MacroValues.{macroCall, pairCall}
 use Rattle.job_spec.specs.Calls.{Buffers, startAnswer, taskAnswer}
 use Rattle.report.specs.Report.{report}
 use Rattle.recall.specs.RecallCall.{recallAnswer}
+use Rattle.turns.specs.declared.Job.{Job}
+use Rattle.turns.specs.Dispatch.{dispatch}
 use Rattle.mulzhegat.specs.Codes.{codeHalf}
 
 -- A place fits the lower half of a code.
@@ -30,6 +33,9 @@ pub record PlacesFit : Type 0 where
   pub task : (plan : Plan) (heights : List ℤ) (buffers : Buffers) (t k : ℕ) → Fits (taskAnswer plan heights buffers t k)
   pub report-on : (plan : Plan) (marks : List ℕ) → Fits (report plan marks .answer)
   pub recall : (plan : Plan) (marks : List ℕ) (k : ℕ) → Fits (recallAnswer plan marks k)
+  -- (of several jobs where the common list has no more than 2^32 marks)
+  pub dispatched : (jobs : List Job) (last : ℕ) (marks : List ℕ) → length marks ≤ codeHalf
+      → Fits (dispatch jobs last marks .answer)
   pub serial : (plan : Plan) (mapLength outputLength : ℕ) → Fits (serialAnswer plan mapLength outputLength)
   pub rectangle : (plan : Plan) (table : List ℕ) (top left bottom right : ℕ)
       → Fits (rectangleCall plan table top left bottom right .answer)

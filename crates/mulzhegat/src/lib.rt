@@ -14,6 +14,9 @@ use refusal::Refusal;
 use report::Next;
 use report::Progress;
 use report::ReportAnswer;
+use turns::DispatchAnswer;
+use turns::Job;
+use turns::Turn;
 ghost use mathlib.Core.Path.{_≡_};
 ghost use lib.ListN.{length};
 ghost use Rattle.refusal.specs.Refusals.{refusedFor};
@@ -30,8 +33,9 @@ ghost use Rattle.job_spec.specs.Calls.{lists, startAnswer, marksAfterStart, str
 ghost use Rattle.report.specs.Values.{valuesOf};
 ghost use Rattle.report.specs.Report.{report};
 ghost use Rattle.recall.specs.RecallCall.{recallAnswer, marksAfterRecall};
+ghost use Rattle.turns.specs.Dispatch.{turnValues, dispatchGiven, dispatch};
 ghost use Rattle.mulzhegat.specs.Places.{Fits};
-ghost use Rattle.mulzhegat.specs.Codes.{codeOf, sizesRecord, progressRecord, stateOf, floatIn, VariableWritten, pairStates, pairFloats, PairWritten};
+ghost use Rattle.mulzhegat.specs.Codes.{codeOf, cappedCode, sizesRecord, progressRecord, turnRecord, stateOf, floatIn, VariableWritten, pairStates, pairFloats, PairWritten};
 
 // ---- plans
 
@@ -151,6 +155,35 @@ pub extern "C" fn mzg_recall(
 {
     let outcome = recall::recall(plan_record::plan_of_record(plan), block, marks);
     outcome_code(outcome)
+}
+
+// ---- several jobs
+
+// Names the job whose turn it is, with its task; all zeros where none is named and beside a refusal.
+#[no_mangle]
+pub extern "C" fn mzg_dispatch(jobs: &[Job], last: usize, marks: &[u32], turn: &mut [u64; 4]) -> u64
+    ensures answer { λ r. ⌜ r ≡ cappedCode (dispatch (now (jobs .entry)) last (now (marks .entry)) .answer) ⌝ }
+    ensures words { λ _. ⌜ now (turn .exit) ≡ turnRecord (dispatch (now (jobs .entry)) last (now (marks .entry)) .value) ⌝ }
+{
+    let answer = dispatch::dispatch(jobs, last, marks);
+    put_turn(answer, turn)
+}
+
+// Writes the words of an answer, and gives its code.
+fn put_turn(answer: DispatchAnswer, turn: &mut [u64; 4]) -> u64
+    ensures answer { λ r. ⌜ r ≡ cappedCode (dispatchGiven answer .answer) ⌝ }
+    ensures words { λ _. ⌜ now (turn .exit) ≡ turnRecord (dispatchGiven answer .value) ⌝ }
+{
+    match answer {
+        DispatchAnswer::Made(made) => {
+            *turn = turn_record(made);
+            0
+        }
+        DispatchAnswer::Refused(refusal) => {
+            *turn = [0; 4];
+            capped_code(refusal)
+        }
+    }
 }
 
 // ---- whole maps
@@ -359,6 +392,13 @@ fn refusal_code(refusal: Refusal) -> u64
     (refusal.number() as u64) * 4294967296 + (refusal.place() as u64)
 }
 
+// The same of a refusal whose place may be too long for the lower half: the most that it holds stands for such a place.
+fn capped_code(refusal: Refusal) -> u64
+    ensures { λ r. ⌜ r ≡ cappedCode (refusedFor refusal) ⌝ }
+{
+    (refusal.number() as u64) * 4294967296 + (number::lesser(refusal.place(), 4294967295) as u64)
+}
+
 fn sizes_record(known: Sizes) -> [u64; 7]
     ensures { λ r. ⌜ r ≡ sizesRecord known ⌝ }
 {
@@ -386,6 +426,15 @@ fn progress_record(made: Progress) -> [u64; 5]
             block as u64,
         ],
         Next::Nothing => [made.marked as u64, made.tally as u64, 0, 0, 0],
+    }
+}
+
+fn turn_record(made: Turn) -> [u64; 4]
+    ensures { λ r. ⌜ r ≡ turnRecord (turnValues made) ⌝ }
+{
+    match made {
+        Turn::Named(job, task, block) => [1, job as u64, task as u64, block as u64],
+        Turn::AllDone => [0; 4],
     }
 }
 
