@@ -1,15 +1,16 @@
 -- The place of every refusal that a call can answer is below 2^32. Assumes nothing.
-use mathlib.Core.Path.{_≡_, refl}
+use mathlib.Core.Path.{_≡_, refl, ap}
 use mathlib.Core.Bool.{Bool, true, false, cond}
 use mathlib.Core.List.{List, [], _∷_, _++_}
-use Prim.Native.Nat.{ℕ, zero, suc, _+_, _*_, _<_, _≤_}
+use Prim.Native.Nat.{ℕ, zero, suc, _+_, _-_, _*_, _<_, _≤_, min}
 use native.Mathlib.Omega.{arith}
 use lib.Dec.{ltb}
 use lib.IntN.{ℤ}
 use lib.ListN.{length}
 use borrow.Author.Tests.{leb-true, ltb-true, not-false}
+use Rattle.number.proofs.RowMajor.{row-of}
 use Rattle.refusal.specs.declared.Refusal.{Refusal}
-use Rattle.refusal.specs.Refusals.{placeOf, refused, placeIn}
+use Rattle.refusal.specs.Refusals.{placeOf, refused, numberIn, placeIn}
 use Rattle.refusal.specs.Table.{Row, firstDue, answerOf}
 use Rattle.plan.specs.declared.BufferOf7.the-variants.{NoneOf7}
 use Rattle.plan.specs.declared.Lengths.{Lengths}
@@ -48,7 +49,7 @@ use Rattle.turns.specs.declared.Job.{Job}
 use Rattle.turns.specs.Jobs.{jobsKept, firstMisplaced, firstBrokenPlace}
 use Rattle.turns.specs.Dispatch.{dispatchRows, dispatch}
 use Rattle.turns.proofs.Parts.{tested-kept}
-use Rattle.mulzhegat.specs.Places.{PlacesFit}
+use Rattle.mulzhegat.specs.Places.{PlacesFit, CappedCodes}
 use Rattle.buffer.specs.Lists.{joined}
 
 -- ---- rows
@@ -255,6 +256,15 @@ places-fit =
       dropouts = dropouts-place;
       macro = λ quantity plan. macro-place plan quantity;
       pair = pair-place;
+    }
+
+-- ---- a place that may not fit
+
+pub capped-codes : CappedCodes
+capped-codes answer =
+    record {
+      number-kept = row-of half (numberIn answer) (min (placeIn answer) (half - 1)) (omega arith);
+      as-code = λ fits. let e : min (placeIn answer) (half - 1) ≡ placeIn answer = omega arith in ap (numberIn answer * half +_) e;
     }
 
 -- ---- the place of a refusal that a call answered

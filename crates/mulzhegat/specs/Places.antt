@@ -1,9 +1,10 @@
 -- The place of every refusal that a call can answer fits the lower half of its code.
+use mathlib.Core.Path.{_≡_}
 use mathlib.Core.List.{List}
-use Prim.Native.Nat.{ℕ, _<_, _≤_}
+use Prim.Native.Nat.{ℕ, _/_, _<_, _≤_}
 use lib.IntN.{ℤ}
 use lib.ListN.{length}
-use Rattle.refusal.specs.Refusals.{Answer, placeIn}
+use Rattle.refusal.specs.Refusals.{Answer, numberIn, placeIn}
 use Rattle.plan.specs.declared.Plan.{Plan}
 use Rattle.plan.specs.FirstTests.{planSizes}
 use Rattle.plan_reader.specs.ReadPlan.{readPlan}
@@ -18,7 +19,7 @@ use Rattle.report.specs.Report.{report}
 use Rattle.recall.specs.RecallCall.{recallAnswer}
 use Rattle.turns.specs.declared.Job.{Job}
 use Rattle.turns.specs.Dispatch.{dispatch}
-use Rattle.mulzhegat.specs.Codes.{codeHalf}
+use Rattle.mulzhegat.specs.Codes.{codeHalf, codeOf, cappedCode}
 
 -- A place fits the lower half of a code.
 abbrev pub Fits : Answer → Type 0
@@ -45,3 +46,12 @@ pub record PlacesFit : Type 0 where
       → Fits (macroCall quantity plan table top left bottom right .answer)
   pub pair : (plan : Plan) (table : List ℕ) (top left bottom right : ℕ)
       → Fits (pairCall plan table top left bottom right .answer)
+
+-- A capped code has the answer's number in its upper half, whatever the place is, and is the code itself where the place fits.
+pub record Capped (answer : Answer) : Type 0 where
+  pub number-kept : cappedCode answer / codeHalf ≡ numberIn answer
+  pub as-code : Fits answer → cappedCode answer ≡ codeOf answer
+
+-- So it is for every answer.
+abbrev pub CappedCodes : Type 0
+CappedCodes = (answer : Answer) → Capped answer
