@@ -1,4 +1,4 @@
 pub mod Parts
 pub mod Searching
-pub mod Rounds
+pub mod Stages
 pub mod Walking

@@ -15,7 +15,7 @@ use Rattle.number.specs.Numbers.{allBelow}
 use Rattle.number.proofs.Tests.{lt-or-ge, all-fails}
 use Rattle.turns.specs.declared.Job.{Job}
 use Rattle.turns.specs.declared.Turn.{Turn}
-use Rattle.turns.specs.declared.Turn.the-variants.{AllDone}
+use Rattle.turns.specs.declared.Turn.the-variants.{EveryJobDone}
 use Rattle.turns.specs.declared.DispatchAnswer.{DispatchAnswer}
 use Rattle.turns.specs.declared.DispatchAnswer.the-variants.{Refused, Made}
 use Rattle.turns.specs.Jobs.{jobLimit, leastFrom, jobAt, sizesKept, jobsKept, wellPlaced, firstMisplaced, brokenFor, brokenPlace, firstBrokenPlace}
@@ -23,11 +23,11 @@ use Rattle.turns.specs.Turn.{jobDone, goingRound, waits, passedOver, turnOf, tu
 use Rattle.turns.specs.Dispatch.{dispatchGiven, dispatchRows, dispatch}
 use Rattle.turns.proofs.Parts.{kept-tested}
 use Rattle.turns.proofs.Least.{least-below, least-holds, least-none, least-most, least-is}
-use Rattle.dispatch.specs.declared.search.Round.{Round}
-use Rattle.dispatch.specs.declared.search.Round.the-variants.{Sizes, Inside, Apart, Marks, Tasks}
+use Rattle.dispatch.specs.declared.search.Stage.{Stage}
+use Rattle.dispatch.specs.declared.search.Stage.the-variants.{Sizes, Inside, Apart, Marks, Tasks}
 use Rattle.dispatch.specs.declared.search.Search.{Search}
 use Rattle.dispatch.specs.Part.{brokenOf}
-use Rattle.dispatch.specs.Search.{lookingAt, withAnswer, brokenUpto, Placing, Known, Right, leftInRound, looksLeft}
+use Rattle.dispatch.specs.Search.{lookingAt, withAnswer, brokenUpto, Placing, Known, Right, leftInStage, looksLeft}
 
 -- One more.
 pub upto-more : (P : ℕ → Type 0) (n : ℕ) → ((i : ℕ) → i < n → P i) → P n → (i : ℕ) → i < n + 1 → P i
@@ -76,7 +76,7 @@ module _ (jobs : List Job) (last : ℕ) (marks : List ℕ) where
 
 module _ (jobs : List Job) (last : ℕ) (marks : List ℕ) (passed : ℕ)
     (done : (d : ℕ) → d < passed → jobDone (jobAt jobs (goingRound jobs last d)) marks ≡ true) where
-  -- The first job that is not done is named,
+  -- The first job that is not done is turnWith,
   pub turn-here : passed < length jobs → jobDone (jobAt jobs (goingRound jobs last passed)) marks ≡ false
       → turnOf (goingRound jobs last passed) (jobAt jobs (goingRound jobs last passed)) marks ≡ turn jobs last marks
   unfolding turn passedOver
@@ -86,7 +86,7 @@ module _ (jobs : List Job) (last : ℕ) (marks : List ℕ) (passed : ℕ)
       rw (first, lt-ltb passed (length jobs) l)
 
   -- and none where all are done.
-  pub turn-none : length jobs ≤ passed → AllDone ≡ turn jobs last marks
+  pub turn-none : length jobs ≤ passed → EveryJobDone ≡ turn jobs last marks
   unfolding turn passedOver
   turn-none l =
       let none = least-none (waits jobs last marks) 0 (length jobs) (λ d h m. rw (done d (omega arith))) in
@@ -143,7 +143,7 @@ module _ (jobs : List Job) (marks : List ℕ) where
 
 -- ---- one step of a search
 
-left-some : (round : Round) (count next : ℕ) → 1 ≤ leftInRound round count next
+left-some : (stage : Stage) (count next : ℕ) → 1 ≤ leftInStage stage count next
 left-some Sizes count next = omega arith
 left-some Inside count next = omega arith
 left-some (Apart i held) count next = omega arith
@@ -153,11 +153,11 @@ left-some (Tasks passed) count next = omega arith
 module _ {jobs : List Job} {last : ℕ} {marks : List ℕ} {search : Search} (right : Right jobs last marks search)
     (listed : search .next < search .count) where
   -- It looks at a job, knows what it should there, and has fewer looks left;
-  pub goes-on : (next : ℕ) (round : Round) → next < search .count → Known jobs last marks next round
-      → leftInRound round (search .count) next < leftInRound (search .round) (search .count) (search .next)
-      → Right jobs last marks (lookingAt search next round) × (looksLeft (lookingAt search next round) < looksLeft search)
+  pub goes-on : (next : ℕ) (stage : Stage) → next < search .count → Known jobs last marks next stage
+      → leftInStage stage (search .count) next < leftInStage (search .stage) (search .count) (search .next)
+      → Right jobs last marks (lookingAt search next stage) × (looksLeft (lookingAt search next stage) < looksLeft search)
   unfolding looksLeft
-  goes-on next round inside known less = (
+  goes-on next stage inside known less = (
     record {
       counted = right .counted;
       last-is = right .last-is;
@@ -183,5 +183,5 @@ module _ {jobs : List Job} {last : ℕ} {marks : List ℕ} {search : Search} (ri
       answered = λ l. says;
     },
     rw (le-ltb (search .count) (search .count) (omega arith), lt-ltb (search .next) (search .count) listed)
-        (left-some (search .round) (search .count) (search .next)),
+        (left-some (search .stage) (search .count) (search .next)),
   )

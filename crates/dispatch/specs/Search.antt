@@ -11,19 +11,19 @@ use Rattle.turns.specs.declared.DispatchAnswer.{DispatchAnswer}
 use Rattle.turns.specs.Jobs.{jobLimit, leastFrom, jobAt, sizesKept, marksEnd, apartUnlessSame, wellPlaced, brokenFor, firstBrokenPlace}
 use Rattle.turns.specs.Turn.{jobDone, goingRound}
 use Rattle.turns.specs.Dispatch.{dispatchGiven, dispatch}
-use Rattle.dispatch.specs.declared.search.Round.{Round}
-use Rattle.dispatch.specs.declared.search.Round.the-variants.{Sizes, Inside, Apart, Marks, Tasks}
+use Rattle.dispatch.specs.declared.search.Stage.{Stage}
+use Rattle.dispatch.specs.declared.search.Stage.the-variants.{Sizes, Inside, Apart, Marks, Tasks}
 use Rattle.dispatch.specs.declared.search.Search.{Search}
 
 -- The search that looks at job `next`, and what of it.
-abbrev pub lookingAt : Search → ℕ → Round → Search
-lookingAt search next round =
+abbrev pub lookingAt : Search → ℕ → Stage → Search
+lookingAt search next stage =
     record {
       count = search .count;
       last = search .last;
       size = search .size;
       next = next;
-      round = round;
+      stage = stage;
       answer = search .answer;
     }
 
@@ -35,17 +35,17 @@ withAnswer search answer =
       last = search .last;
       size = search .size;
       next = search .count;
-      round = search .round;
+      stage = search .stage;
       answer = answer;
     }
 
 -- The place that a turn begins to look from.
-abbrev pub beginsAt : Search → ℕ
-beginsAt search = cond (ltb (search .last) (search .count)) (suc (search .last)) 0
+abbrev pub lookFromOf : Search → ℕ
+lookFromOf search = cond (ltb (search .last) (search .count)) (suc (search .last)) 0
 
 -- The job d places after that, going round.
 abbrev pub placesOn : Search → ℕ → ℕ
-placesOn search d = (beginsAt search + d) % search .count
+placesOn search d = (lookFromOf search + d) % search .count
 
 -- There are jobs, not too many, and d is one of their places.
 pub record Goes (search : Search) (d : ℕ) : Type 0 where
@@ -92,8 +92,8 @@ pub record Turning (jobs : List Job) (last : ℕ) (marks : List ℕ) (next passe
   pub next-is : next ≡ goingRound jobs last passed
   pub done : (d : ℕ) → d < passed → jobDone (jobAt jobs (goingRound jobs last d)) marks ≡ true
 
--- What is known where a search looks at job `next`, by the round.
-abbrev pub Known : List Job → (last : ℕ) → List ℕ → (next : ℕ) → Round → Type 0
+-- What is known where a search looks at job `next`, by the stage.
+abbrev pub Known : List Job → (last : ℕ) → List ℕ → (next : ℕ) → Stage → Type 0
 Known jobs last marks next Sizes = KeptUpto jobs next
 Known jobs last marks next Inside = Placing jobs (length marks) next
 Known jobs last marks next (Apart i held) = Comparing jobs (length marks) i held next
@@ -106,23 +106,23 @@ pub record Right (jobs : List Job) (last : ℕ) (marks : List ℕ) (search : Sea
   pub last-is : search .last ≡ last
   pub sized : search .size ≡ length marks
   pub few : search .next < search .count → search .count ≤ jobLimit
-  pub known : search .next < search .count → Known jobs last marks (search .next) (search .round)
+  pub known : search .next < search .count → Known jobs last marks (search .next) (search .stage)
   pub answered : search .count ≤ search .next → dispatchGiven (search .answer) ≡ dispatch jobs last marks
 
 -- ---- what each function keeps
 
 -- How many looks are left at most.
-abbrev pub leftInRound : Round → (count next : ℕ) → ℕ
-leftInRound Sizes count next = 400 + (count - next)
-leftInRound Inside count next = 100 + (20 * (count - next) + 10)
-leftInRound (Apart i held) count next = 100 + (20 * (count - i) + (count - next))
-leftInRound (Marks least) count next = 20 + (count - next)
-leftInRound (Tasks passed) count next = 1 + (count - passed)
+abbrev pub leftInStage : Stage → (count next : ℕ) → ℕ
+leftInStage Sizes count next = 400 + (count - next)
+leftInStage Inside count next = 100 + (20 * (count - next) + 10)
+leftInStage (Apart i held) count next = 100 + (20 * (count - i) + (count - next))
+leftInStage (Marks least) count next = 20 + (count - next)
+leftInStage (Tasks passed) count next = 1 + (count - passed)
 
 -- The same of a search; none once it has its answer.
 unfoldable pub looksLeft : Search → ℕ
 looksLeft search =
-    cond (ltb (search .next) (search .count)) (leftInRound (search .round) (search .count) (search .next)) 0
+    cond (ltb (search .next) (search .count)) (leftInStage (search .stage) (search .count) (search .next)) 0
 
 -- A search begins rightly for every list of so many jobs and marks.
 abbrev pub Begins : (count last size : ℕ) → Search → Type 0
@@ -137,22 +137,22 @@ pub record Looks (marks : List ℕ) (search : Search) (job : Job) : Type 0 where
   pub listed : search .next < search .count
   pub job-is : job ≡ jobAt jobs (search .next)
 
--- The same, in a round.
-pub record LooksAt (marks : List ℕ) (search : Search) (round : Round) (job : Job) : Type 0 where
+-- The same, in a stage.
+pub record LooksAt (marks : List ℕ) (search : Search) (stage : Stage) (job : Job) : Type 0 where
   pub looks : Looks marks search job
-  pub round-is : search .round ≡ round
+  pub stage-is : search .stage ≡ stage
 
 -- The same for some marks.
-pub record LooksSomewhere (search : Search) (round : Round) (job : Job) : Type 0 where
+pub record LooksSomewhere (search : Search) (stage : Stage) (job : Job) : Type 0 where
   pub marks : List ℕ
-  pub looks-at : LooksAt marks search round job
+  pub looks-at : LooksAt marks search stage job
 
--- For whatever call a search is right that looks at this job, the later one is right too and has fewer looks left.
+-- If a search is right for a call and looks at this job, the later search is right for it too, with fewer looks left.
 abbrev pub Follows : List ℕ → Search → Job → Search → Type 0
 Follows marks search job later =
     (jobs : List Job) (last : ℕ) → Right jobs last marks search → search .next < search .count → job ≡ jobAt jobs (search .next)
     → Right jobs last marks later × (looksLeft later < looksLeft search)
 
 -- So it is for all marks.
-abbrev pub FollowsEverywhere : Search → Round → Job → Search → Type 0
-FollowsEverywhere search round job later = (marks : List ℕ) → search .round ≡ round → Follows marks search job later
+abbrev pub FollowsEverywhere : Search → Stage → Job → Search → Type 0
+FollowsEverywhere search stage job later = (marks : List ℕ) → search .stage ≡ stage → Follows marks search job later

@@ -1,4 +1,4 @@
-// The search for the answer: it goes round the jobs several times, looks at one after another, and is handed each by value.
+// The search for the answer: it goes over the jobs several times, looks at one after another, and is handed each by value.
 use crate::part;
 use refusal::Refusal;
 use report::Next;
@@ -7,14 +7,14 @@ use turns::Job;
 use turns::Turn;
 ghost use mathlib.Core.Path.{_≡_};
 ghost use Prim.Native.Nat.{_<_};
-ghost use Rattle.dispatch.specs.declared.search.Round.the-variants.{Sizes, Inside, Apart, Marks, Tasks};
-ghost use Rattle.dispatch.specs.Search.{lookingAt, withAnswer, beginsAt, placesOn, Goes, Begins, Looks, LooksAt, LooksSomewhere, Follows, FollowsEverywhere};
+ghost use Rattle.dispatch.specs.declared.search.Stage.the-variants.{Sizes, Inside, Apart, Marks, Tasks};
+ghost use Rattle.dispatch.specs.Search.{lookingAt, withAnswer, lookFromOf, placesOn, Goes, Begins, Looks, LooksAt, LooksSomewhere, Follows, FollowsEverywhere};
 
 // The most jobs on one control: `jobLimit` of turns/specs/Jobs.antt is the same number.
 pub const JOB_LIMIT: usize = 8;
 
 // What is looked at of a job.
-pub enum Round {
+pub enum Stage {
     // Its sizes.
     Sizes,
     // Whether its marks end inside the common list.
@@ -34,7 +34,7 @@ pub struct Search {
     pub last: usize,
     pub size: usize,
     pub next: usize,
-    pub round: Round,
+    pub stage: Stage,
     pub answer: DispatchAnswer,
 }
 
@@ -48,8 +48,8 @@ impl Search {
             last: last,
             size: size,
             next: 0,
-            round: Round::Sizes,
-            answer: DispatchAnswer::Made(Turn::AllDone),
+            stage: Stage::Sizes,
+            answer: DispatchAnswer::Made(Turn::EveryJobDone),
         };
         if JOB_LIMIT < count {
             return search.answered(DispatchAnswer::Refused(Refusal::RecordBreaksRule));
@@ -70,17 +70,17 @@ impl Search {
         requires { ⌜ Looks (now marks) self job ⌝ }
         ensures { λ r. ⌜ Follows (now (marks .entry)) self job r ⌝ }
     {
-        let round = self.round;
-        match round {
-            Round::Sizes => self.sizes_seen(job),
-            Round::Inside => self.end_seen(job),
-            Round::Apart(i, held) => self.other_seen(i, held, job),
-            Round::Marks(least) => self.marks_seen(least, job, marks),
-            Round::Tasks(passed) => self.tasks_seen(passed, job, marks),
+        let stage = self.stage;
+        match stage {
+            Stage::Sizes => self.sizes_seen(job),
+            Stage::Inside => self.end_seen(job),
+            Stage::Apart(i, held) => self.other_seen(i, held, job),
+            Stage::Marks(least) => self.marks_seen(least, job, marks),
+            Stage::Tasks(passed) => self.tasks_seen(passed, job, marks),
         }
     }
 
-    // 6 where a size is out of range; after the last job the places are looked at.
+    // 6 where a size is out of range; after the last job, where the marks lie is looked at.
     fn sizes_seen(self, job: Job) -> Search
         requires { ⌜ LooksSomewhere self Sizes job ⌝ }
         ensures { λ r. ⌜ FollowsEverywhere self Sizes job r ⌝ }
@@ -89,12 +89,12 @@ impl Search {
             return self.answered(DispatchAnswer::Refused(Refusal::RecordBreaksRule));
         }
         if self.next + 1 < self.count {
-            return self.looking(self.next + 1, Round::Sizes);
+            return self.looking(self.next + 1, Stage::Sizes);
         }
-        self.looking(0, Round::Inside)
+        self.looking(0, Stage::Inside)
     }
 
-    // 18 where a job's marks run past the list; it is then held beside all others.
+    // 18 where a job's marks run past the list; otherwise the job is held beside each of the others.
     fn end_seen(self, job: Job) -> Search
         requires { ⌜ LooksSomewhere self Inside job ⌝ }
         ensures { λ r. ⌜ FollowsEverywhere self Inside job r ⌝ }
@@ -102,11 +102,11 @@ impl Search {
         if !part::ends_by(job, self.size) {
             return self.answered(DispatchAnswer::Refused(Refusal::JobMisplaced(self.next)));
         }
-        self.looking(0, Round::Apart(self.next, job))
+        self.looking(0, Stage::Apart(self.next, job))
     }
 
-    // 18 where the marks of the job that is held overlap those of another; after the last job the next is held, and after
-    // all pairs the marks are looked at.
+    // 18 where the marks of the job that is held overlap those of another; after the last job the next job's end is looked
+    // at, and after all pairs the marks.
     fn other_seen(self, i: usize, held: Job, job: Job) -> Search
         requires { ⌜ LooksSomewhere self (Apart i held) job ⌝ }
         ensures { λ r. ⌜ FollowsEverywhere self (Apart i held) job r ⌝ }
@@ -115,12 +115,12 @@ impl Search {
             return self.answered(DispatchAnswer::Refused(Refusal::JobMisplaced(i)));
         }
         if self.next + 1 < self.count {
-            return self.looking(self.next + 1, Round::Apart(i, held));
+            return self.looking(self.next + 1, Stage::Apart(i, held));
         }
         if i + 1 < self.count {
-            return self.looking(i + 1, Round::Inside);
+            return self.looking(i + 1, Stage::Inside);
         }
-        self.looking(0, Round::Marks(self.size))
+        self.looking(0, Stage::Marks(self.size))
     }
 
     // After the last job, 9 at the least broken place of all; where there is none, the turn is looked for.
@@ -130,12 +130,12 @@ impl Search {
     {
         let least = number::lesser(least, part::first_broken_place(job, marks));
         if self.next + 1 < self.count {
-            return self.looking(self.next + 1, Round::Marks(least));
+            return self.looking(self.next + 1, Stage::Marks(least));
         }
         if least < self.size {
             return self.answered(DispatchAnswer::Refused(Refusal::MarkBroken(least)));
         }
-        self.looking(self.going_round(0), Round::Tasks(0))
+        self.looking(self.going_round(0), Stage::Tasks(0))
     }
 
     // A job with a ready task is named; after all jobs, none.
@@ -148,14 +148,14 @@ impl Search {
             return self.answered(DispatchAnswer::Made(Turn::Named(self.next, task, block)));
         }
         if passed + 1 < self.count {
-            return self.looking(self.going_round(passed + 1), Round::Tasks(passed + 1));
+            return self.looking(self.going_round(passed + 1), Stage::Tasks(passed + 1));
         }
-        self.answered(DispatchAnswer::Made(Turn::AllDone))
+        self.answered(DispatchAnswer::Made(Turn::EveryJobDone))
     }
 
     // The place that a turn begins to look from: after the job named last, or at the start of the list.
-    fn looks_from(self) -> usize
-        ensures { λ r. ⌜ r ≡ beginsAt self ⌝ }
+    fn look_from(self) -> usize
+        ensures { λ r. ⌜ r ≡ lookFromOf self ⌝ }
     {
         if self.last < self.count {
             return self.last + 1;
@@ -168,12 +168,12 @@ impl Search {
         requires { ⌜ Goes self places ⌝ }
         ensures { λ r. ⌜ r ≡ placesOn self places ⌝ }
     {
-        (self.looks_from() + places) % self.count
+        (self.look_from() + places) % self.count
     }
 
     // The search that looks at a job next, and what of it.
-    fn looking(self, next: usize, round: Round) -> Search
-        ensures { λ r. ⌜ r ≡ lookingAt self next round ⌝ }
+    fn looking(self, next: usize, stage: Stage) -> Search
+        ensures { λ r. ⌜ r ≡ lookingAt self next stage ⌝ }
     {
         let answer = self.answer;
         Search {
@@ -181,7 +181,7 @@ impl Search {
             last: self.last,
             size: self.size,
             next: next,
-            round: round,
+            stage: stage,
             answer: answer,
         }
     }
@@ -190,13 +190,13 @@ impl Search {
     fn answered(self, answer: DispatchAnswer) -> Search
         ensures { λ r. ⌜ r ≡ withAnswer self answer ⌝ }
     {
-        let round = self.round;
+        let stage = self.stage;
         Search {
             count: self.count,
             last: self.last,
             size: self.size,
             next: self.count,
-            round: round,
+            stage: stage,
             answer: answer,
         }
     }

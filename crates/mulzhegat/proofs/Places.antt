@@ -1,5 +1,5 @@
 -- The place of every refusal that a call can answer is below 2^32. Assumes nothing.
-use mathlib.Core.Path.{_≡_, refl, ap}
+use mathlib.Core.Path.{_≡_, refl, ap, _∙_}
 use mathlib.Core.Bool.{Bool, true, false, cond}
 use mathlib.Core.List.{List, [], _∷_, _++_}
 use Prim.Native.Nat.{ℕ, zero, suc, _+_, _-_, _*_, _<_, _≤_, min}
@@ -8,7 +8,7 @@ use lib.Dec.{ltb}
 use lib.IntN.{ℤ}
 use lib.ListN.{length}
 use borrow.Author.Tests.{leb-true, ltb-true, not-false}
-use Rattle.number.proofs.RowMajor.{row-of}
+use Rattle.number.proofs.RowMajor.{row-of, column-of}
 use Rattle.refusal.specs.declared.Refusal.{Refusal}
 use Rattle.refusal.specs.Refusals.{placeOf, refused, numberIn, placeIn}
 use Rattle.refusal.specs.Table.{Row, firstDue, answerOf}
@@ -262,9 +262,12 @@ places-fit =
 
 pub capped-codes : CappedCodes
 capped-codes answer =
+    let number = numberIn answer in
+    let place = min (placeIn answer) (half - 1) in
     record {
-      number-kept = row-of half (numberIn answer) (min (placeIn answer) (half - 1)) (omega arith);
-      as-code = λ fits. let e : min (placeIn answer) (half - 1) ≡ placeIn answer = omega arith in ap (numberIn answer * half +_) e;
+      number-kept = row-of half number place (omega arith);
+      as-code = λ fits. let e : place ≡ placeIn answer = omega arith in ap (number * half +_) e;
+      place-capped = λ long. column-of half number place (omega arith) ∙ omega arith;
     }
 
 -- ---- the place of a refusal that a call answered

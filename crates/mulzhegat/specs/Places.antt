@@ -1,7 +1,7 @@
--- The place of every refusal that a call can answer fits the lower half of its code.
+-- The place of every refusal that a call can answer fits the lower half of its code, or is capped there.
 use mathlib.Core.Path.{_≡_}
 use mathlib.Core.List.{List}
-use Prim.Native.Nat.{ℕ, _/_, _<_, _≤_}
+use Prim.Native.Nat.{ℕ, _/_, _%_, _<_, _≤_}
 use lib.IntN.{ℤ}
 use lib.ListN.{length}
 use Rattle.refusal.specs.Refusals.{Answer, numberIn, placeIn}
@@ -47,10 +47,12 @@ pub record PlacesFit : Type 0 where
   pub pair : (plan : Plan) (table : List ℕ) (top left bottom right : ℕ)
       → Fits (pairCall plan table top left bottom right .answer)
 
--- A capped code has the answer's number in its upper half, whatever the place is, and is the code itself where the place fits.
+-- A capped code has the answer's number in its upper half, whatever the place is; it is the code itself where the place fits,
+-- and has 2^32 - 1 in its lower half where not.
 pub record Capped (answer : Answer) : Type 0 where
   pub number-kept : cappedCode answer / codeHalf ≡ numberIn answer
   pub as-code : Fits answer → cappedCode answer ≡ codeOf answer
+  pub place-capped : codeHalf ≤ placeIn answer → cappedCode answer % codeHalf ≡ 4294967295
 
 -- So it is for every answer.
 abbrev pub CappedCodes : Type 0

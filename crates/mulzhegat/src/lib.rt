@@ -434,7 +434,7 @@ fn turn_record(made: Turn) -> [u64; 4]
 {
     match made {
         Turn::Named(job, task, block) => [1, job as u64, task as u64, block as u64],
-        Turn::AllDone => [0; 4],
+        Turn::EveryJobDone => [0; 4],
     }
 }
 

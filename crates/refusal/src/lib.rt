@@ -56,7 +56,7 @@ impl Refusal {
             Refusal::RecordBreaksRule => row(6, 0),
             Refusal::BufferTooShort => row(7, 0),
             Refusal::NoSuchTask => row(8, 0),
-            Refusal::MarkBroken(block) => row(9, block),
+            Refusal::MarkBroken(place) => row(9, place),
             Refusal::AlreadyMarked => row(10, 0),
             Refusal::NeedUnmarked => row(11, 0),
             Refusal::RectangleOutside => row(12, 0),

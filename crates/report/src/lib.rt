@@ -1,4 +1,5 @@
-// The report on a job's marks: how many tasks are marked, the tally, and the first ready task.
+// The report on a job's marks: how many tasks are marked, the tally, and the first ready task. What the searches require,
+// their callers in this repository show.
 use grid::Grid;
 use plan::BufferOf7;
 use plan::Plan;

@@ -20,24 +20,24 @@ use Rattle.report.specs.Report.{progressOf, report}
 use Rattle.report.proofs.Claims.{found-ready, reported}
 use Rattle.turns.specs.declared.Job.{Job}
 use Rattle.turns.specs.declared.Turn.{Turn}
-use Rattle.turns.specs.declared.Turn.the-variants.{Named, AllDone}
+use Rattle.turns.specs.declared.Turn.the-variants.{Named, EveryJobDone}
 use Rattle.turns.specs.declared.DispatchAnswer.the-variants.{Made}
 use Rattle.turns.specs.Jobs.{jobAt, gridOf, jobsKept, wellPlaced, firstMisplaced, brokenPlace, firstBrokenPlace}
-use Rattle.turns.specs.Turn.{marksFrom, markedIn, passedOver, turn}
+use Rattle.turns.specs.Turn.{marksFrom, markedIn, jobDone, passedOver, turn}
 use Rattle.turns.specs.Dispatch.{TurnValues, zeroTurn, turnValues, dispatchGiven, dispatchRows, dispatch}
-use Rattle.turns.specs.Answers.{Accepted, AcceptedIsAnswered, Refuses, RefusesAtTheLeast, naming, NoneIfAllDone, NamedWell, NamesWell}
+use Rattle.turns.specs.Answers.{LetThrough, LetThroughIsAccepted, Refuses, RefusesAtTheLeast, naming, NoneIfAllDone, WellNamed, NamesWell}
 use Rattle.turns.proofs.Least.{clash, least-below, least-holds, least-bound}
-use Rattle.turns.proofs.Parts.{kept-tested, tested-kept, misplaced-tested, tested-misplaced, searched-placed, marks-inside, broken-at, at-broken, accepted-passes, passes-accepted}
-use Rattle.turns.proofs.Turns.{round-in, passed-done, Found, named-found, none-all-done, all-done-none}
+use Rattle.turns.proofs.Parts.{kept-tested, tested-kept, misplaced-tested, tested-misplaced, searched-placed, marks-inside, broken-at, at-broken, let-through-passes, passes-let-through}
+use Rattle.turns.proofs.Turns.{round-in, come-before, passed-done, Found, named-found, none-all-done, all-done-none}
 
 -- ---- what is accepted
 
 module _ (jobs : List Job) (last : ℕ) (marks : List ℕ) where
   -- The turn is answered on what the refusals let through,
-  pub accepted-made : Accepted jobs marks → dispatch jobs last marks ≡ dispatchGiven (Made (turn jobs last marks))
+  pub let-through-made : LetThrough jobs marks → dispatch jobs last marks ≡ dispatchGiven (Made (turn jobs last marks))
   unfolding dispatch dispatchRows
-  accepted-made a =
-      let p = accepted-passes jobs marks a in
+  let-through-made a =
+      let p = let-through-passes jobs marks a in
       rw (
         p .sizes,
         le-ltb (firstMisplaced jobs (length marks)) (length jobs) (omega (arith, p .none-misplaced)),
@@ -45,20 +45,20 @@ module _ (jobs : List Job) (last : ℕ) (marks : List ℕ) where
       )
 
   -- and only on that.
-  pub answered-accepted : dispatch jobs last marks .answer ≡ accepted → Accepted jobs marks
+  pub accepted-let-through : dispatch jobs last marks .answer ≡ accepted → LetThrough jobs marks
   unfolding dispatch dispatchRows firstMisplaced firstBrokenPlace
-  answered-accepted e =
+  accepted-let-through e =
       let (kept, (placed, (sound, none))) = none-of (dispatchRows jobs marks) e in
-      passes-accepted jobs marks
+      passes-let-through jobs marks
       (record {
         sizes = not-false (jobsKept jobs) kept;
         none-misplaced = least-bound (λ i. not (wellPlaced jobs (length marks) i)) (length jobs) placed;
         none-broken = least-bound (brokenPlace jobs marks) (length marks) sound;
       })
 
-pub accepted-is-answered : AcceptedIsAnswered
-accepted-is-answered jobs last marks =
-    (λ a. ap (λ (g : Given TurnValues). g .answer) (accepted-made jobs last marks a), answered-accepted jobs last marks)
+pub let-through-is-accepted : LetThroughIsAccepted
+let-through-is-accepted jobs last marks =
+    (λ a. ap (λ (g : Given TurnValues). g .answer) (let-through-made jobs last marks a), accepted-let-through jobs last marks)
 
 -- ---- what is refused
 
@@ -138,22 +138,22 @@ refuses-at-the-least = least-refused
 
 -- The values of a turn tell which it is.
 turnOfValues : TurnValues → Turn
-turnOfValues values = cond (eqb (values .named) 1) (Named (values .job) (values .task) (values .block)) AllDone
+turnOfValues values = cond (eqb (values .named) 1) (Named (values .job) (values .task) (values .block)) EveryJobDone
 
 values-back : (found : Turn) → turnOfValues (turnValues found) ≡ found
 unfolding turnOfValues
 values-back (Named i t k) = refl
-values-back AllDone = refl
+values-back EveryJobDone = refl
 
 module _ (jobs : List Job) (last : ℕ) (marks : List ℕ) where
   -- An answer with a turn is accepted, and has the turn.
   pub made-turn : (found : Turn) → dispatch jobs last marks ≡ dispatchGiven (Made found)
-      → Accepted jobs marks × (turn jobs last marks ≡ found)
+      → LetThrough jobs marks × (turn jobs last marks ≡ found)
   made-turn found e =
-      let a = answered-accepted jobs last marks (ap (λ (g : Given TurnValues). g .answer) e) in (
+      let a = accepted-let-through jobs last marks (ap (λ (g : Given TurnValues). g .answer) e) in (
         a,
         sym (values-back (turn jobs last marks))
-            ∙ ap (λ (g : Given TurnValues). turnOfValues (g .value)) (sym (accepted-made jobs last marks a) ∙ e)
+            ∙ ap (λ (g : Given TurnValues). turnOfValues (g .value)) (sym (let-through-made jobs last marks a) ∙ e)
             ∙ values-back found,
       )
 
@@ -167,11 +167,11 @@ module _ (jobs : List Job) (last : ℕ) (marks : List ℕ) where
           → ((i : ℕ) × (t : ℕ) × (k : ℕ) × (given answer (turnValues found) zeroTurn ≡ naming i t k))
           ⊎ (given answer (turnValues found) zeroTurn .value ≡ zeroTurn)
       by accepted (Named i t k) = inl (i, t, k, refl)
-      by accepted AllDone = inr refl
+      by accepted EveryJobDone = inr refl
       by (refused number place) found = inr refl
 
   -- The report on the marks of a job names its first ready task.
-  reported-so : Accepted jobs marks → (i t k : ℕ) → Found jobs last marks i t k → i < length jobs → (plan : Plan)
+  reported-so : LetThrough jobs marks → (i t k : ℕ) → Found jobs last marks i t k → i < length jobs → (plan : Plan)
       → keepsRules plan ≡ true → plan .grid ≡ gridOf (jobAt jobs i)
       → (report plan (marksFrom (jobAt jobs i) marks) .answer ≡ accepted)
       × (report plan (marksFrom (jobAt jobs i) marks) .value .ready ≡ 1)
@@ -189,7 +189,7 @@ module _ (jobs : List Job) (last : ℕ) (marks : List ℕ) where
       let first = found .first in
       rw (e, same, first) (refl, refl, refl, refl)
 
-  named-well : (i t k : ℕ) → dispatch jobs last marks ≡ naming i t k → NamedWell jobs last marks i t k
+  named-well : (i t k : ℕ) → dispatch jobs last marks ≡ naming i t k → WellNamed jobs last marks i t k
   named-well i t k e =
       let (a, is) = made-turn (Named i t k) e in
       let f = named-found jobs last marks i t k is in
@@ -198,7 +198,9 @@ module _ (jobs : List Job) (last : ℕ) (marks : List ℕ) where
       record {
         inside = inside;
         unmarked = f .unmarked;
-        between = (passedOver jobs last marks, f .inside, f .round, passed-done jobs last marks);
+        before-it = λ j l before.
+            let (d, h, is) = come-before jobs last (passedOver jobs last marks) j (f .inside) l (rw (f .round) at before) in
+            ap (λ (n : ℕ). jobDone (jobAt jobs n) marks) (sym is) ∙ passed-done jobs last marks d h;
         ready = found-ready (gridOf (jobAt jobs i)) (markedIn (jobAt jobs i) marks) t k (f .first);
         reported = reported-so a i t k f inside;
       }
@@ -208,6 +210,6 @@ names-well = named-well
 
 pub none-if-all-done : NoneIfAllDone
 none-if-all-done jobs last marks a = (
-  λ e. none-all-done jobs last marks (made-turn jobs last marks AllDone e .1),
-  λ all. accepted-made jobs last marks a ∙ ap (λ found. dispatchGiven (Made found)) (all-done-none jobs last marks all),
+  λ e. none-all-done jobs last marks (made-turn jobs last marks EveryJobDone e .1),
+  λ all. let-through-made jobs last marks a ∙ ap (λ found. dispatchGiven (Made found)) (all-done-none jobs last marks all),
 )

@@ -4,9 +4,10 @@ use mathlib.Core.Logic.{⊎-elim}
 use mathlib.Core.List.{List}
 use Prim.Native.Nat.{ℕ, zero, suc}
 use native.Mathlib.Omega.{arith}
+use lib.ListN.{length}
 use Rattle.turns.specs.declared.Job.{Job}
 use Rattle.turns.specs.Dispatch.{zeroTurn, dispatch}
-use Rattle.turns.specs.Runs.{lastAfter, lastBefore, answerAt, NamesAt, NamedBy, Performed, nothing, task, OnlyNamed, afterTurn, runAtOnce, FairAtOnce}
+use Rattle.turns.specs.Runs.{lastAfter, lastBefore, answerAt, NamesAt, NamedBy, Performed, nothing, task, OnlyNamed, afterTurn, runAtOnce, AtOnceIsARun, FairAtOnce}
 use Rattle.turns.proofs.Answers.{names-well, names-or-none}
 use Rattle.turns.proofs.Fairness.{fair}
 
@@ -46,14 +47,17 @@ module _ (jobs : List Job) (last : ℕ) (marks : List ℕ) where
       (λ (e : answerAt jobs last marksAt n .value ≡ zeroTurn). rw e nothing)
       (names-or-none jobs before (marksAt n))
 
-  only-named : OnlyNamed jobs last marksAt
-  only-named n =
+  only-named : (turns : ℕ) → OnlyNamed jobs last marksAt turns
+  only-named turns n h =
       let e : marksAt (suc n) ≡ afterTurn jobs (marksAt n) (answerAt jobs last marksAt n .value) =
       rw (last-is n) (ap (λ (p : ℕ × List ℕ). p .1) (run-next jobs last marks n)) in
       rw e (performed n)
 
+pub at-once-is-a-run : AtOnceIsARun
+at-once-is-a-run jobs last marks turns = (only-named jobs last marks turns, last-is jobs last marks)
+
 pub fair-at-once : FairAtOnce
 unfolding runAtOnce
 fair-at-once jobs last marks a i inside e =
-    let (n, l, t, k, q) = fair jobs last (marksAt jobs last marks) (only-named jobs last marks) a i inside e in
+    let (n, l, t, k, q) = fair jobs last (marksAt jobs last marks) (only-named jobs last marks (length jobs)) a i inside e in
     (n, l, t, k, rw (last-is jobs last marks n) at q)

@@ -14,11 +14,11 @@ use Rattle.turns.specs.declared.DispatchAnswer.the-variants.{Made}
 use Rattle.turns.specs.Jobs.{jobAt}
 use Rattle.turns.specs.Turn.{jobDone, goingRound}
 use Rattle.turns.specs.Dispatch.{TurnValues, dispatchGiven}
-use Rattle.turns.specs.Answers.{Accepted}
-use Rattle.turns.specs.Runs.{lastAfter, lastBefore, NamesAt, NamedBy, OnlyNamed, StaysAccepted, Fair, NeverPassedOver}
+use Rattle.turns.specs.Answers.{LetThrough}
+use Rattle.turns.specs.Runs.{lastAfter, lastBefore, NamesAt, NamedBy, OnlyNamed, StaysLetThrough, Fair, NeverPassedOver}
 use Rattle.turns.proofs.Turns.{come-to, round-next, names-upto}
-use Rattle.turns.proofs.Answers.{accepted-made, names-well}
-use Rattle.turns.proofs.Performing.{performed-accepted, performed-same}
+use Rattle.turns.proofs.Answers.{let-through-made, names-well}
+use Rattle.turns.proofs.Performing.{performed-let-through, performed-same}
 
 -- ---- the search comes nearer
 
@@ -43,7 +43,7 @@ module _ (jobs : List Job) (first : ℕ) (marksAt : ℕ → List ℕ) (m i : ℕ
 
   -- Turn n finds marks that are accepted and job i with unmarked tasks.
   record Waiting (n : ℕ) : Type 0 where
-    taken : Accepted jobs (marksAt n)
+    taken : LetThrough jobs (marksAt n)
     unmarked : jobDone (jobAt jobs i) (marksAt n) ≡ false
 
   -- So it is at each of these turns before which none of them named it.
@@ -63,7 +63,7 @@ module _ (jobs : List Job) (first : ℕ) (marksAt : ℕ → List ℕ) (m i : ℕ
         let last = lastBefore jobs first marksAt n in
         let w = waiting n (s .from) (omega (arith, s .upto)) (s .unnamed) in
         let (p, l, u, b, q) = names-upto jobs last (marksAt n) d (s .round) (rw (s .at) (w .unmarked)) in
-        by p l u b (accepted-made jobs last (marksAt n) (w .taken) ∙ ap (λ found. dispatchGiven (Made found)) q)
+        by p l u b (let-through-made jobs last (marksAt n) (w .taken) ∙ ap (λ found. dispatchGiven (Made found)) q)
         (ℕ-discrete (goingRound jobs last p) i)
       where
         by : (p : ℕ) → p ≤ d → (u b : ℕ)
@@ -119,27 +119,28 @@ never-passed-over jobs first marksAt m accepted i inside unmarked =
 
 -- ---- where only named tasks are performed
 
-module _ (jobs : List Job) (first : ℕ) (marksAt : ℕ → List ℕ) (only : OnlyNamed jobs first marksAt) where
+module _ (jobs : List Job) (first : ℕ) (marksAt : ℕ → List ℕ) (turns : ℕ) (only : OnlyNamed jobs first marksAt turns) where
   -- A job that was named is in the list.
   in-list : (n i t k : ℕ) → NamedBy jobs first marksAt n i t k → i < length jobs
   in-list n i t k (m, l, e) = names-well jobs (lastBefore jobs first marksAt m) (marksAt m) i t k e .inside
 
-  all-accepted : Accepted jobs (marksAt 0) → (n : ℕ) → Accepted jobs (marksAt n)
-  all-accepted a zero = a
-  all-accepted a (suc n) = performed-accepted jobs (NamedBy jobs first marksAt n) (in-list n) (only n) (all-accepted a n)
+  all-let-through : LetThrough jobs (marksAt 0) → (n : ℕ) → n < turns → LetThrough jobs (marksAt n)
+  all-let-through a zero h = a
+  all-let-through a (suc n) h =
+      performed-let-through jobs (NamedBy jobs first marksAt n) (in-list n) (only n h) (all-let-through a n (omega arith))
 
   -- A job that is not named has the unmarked tasks that it had.
-  unnamed-same : Accepted jobs (marksAt 0) → (i : ℕ) → i < length jobs → (n : ℕ) → Unnamed jobs first marksAt 0 i n
+  unnamed-same : LetThrough jobs (marksAt 0) → (i : ℕ) → i < length jobs → (n : ℕ) → n < turns → Unnamed jobs first marksAt 0 i n
       → jobDone (jobAt jobs i) (marksAt 0) ≡ jobDone (jobAt jobs i) (marksAt n)
-  unnamed-same a i inside zero none = refl
-  unnamed-same a i inside (suc n) none =
-      unnamed-same a i inside n (λ e from l. none e from (omega arith))
+  unnamed-same a i inside zero h none = refl
+  unnamed-same a i inside (suc n) h none =
+      unnamed-same a i inside n (omega arith) (λ e from l. none e from (omega arith))
       ∙ performed-same jobs (NamedBy jobs first marksAt n) (in-list n) i inside
       (λ t k (m, l, q). none m (omega arith) (omega arith) t k q)
-      (only n) (all-accepted a n)
+      (only n h) (all-let-through a n (omega arith))
 
-pub stays-accepted : StaysAccepted
-stays-accepted = all-accepted
+pub stays-let-through : StaysLetThrough
+stays-let-through = all-let-through
 
 pub fair : Fair
 fair jobs first marksAt only a i inside e =
@@ -147,8 +148,8 @@ fair jobs first marksAt only a i inside e =
     named-in-round jobs first marksAt 0 i
     (λ n from l none.
     record {
-      taken = all-accepted jobs first marksAt only a n;
-      unmarked = sym (unnamed-same jobs first marksAt only a i inside n none) ∙ e;
+      taken = all-let-through jobs first marksAt (length jobs) only a n (omega arith);
+      unmarked = sym (unnamed-same jobs first marksAt (length jobs) only a i inside n (omega arith) none) ∙ e;
     })
     inside in
     (n, omega arith, t, k, q)

@@ -21,7 +21,7 @@ use Rattle.tasks.proofs.Marking.{Valid}
 use Rattle.turns.specs.declared.Job.{Job}
 use Rattle.turns.specs.Jobs.{jobLimit, jobAt, gridOf, sizesKept, jobsKept, marksEnd, overlap, apartUnlessSame, wellPlaced, firstMisplaced, holdsPlace, brokenFor, brokenPlace, firstBrokenPlace}
 use Rattle.turns.specs.Turn.{marksFrom}
-use Rattle.turns.specs.Answers.{Kept, Misplaced, past-the-list, shared, OverlapIsShared, Sound, BrokenAt, Accepted}
+use Rattle.turns.specs.Answers.{Kept, Misplaced, past-the-list, shared, OverlapIsShared, Sound, BrokenMark, LetThrough}
 use Rattle.turns.proofs.Least.{clash, least-below, least-none}
 
 -- A test that does not hold of all numbers below a bound fails for one of them.
@@ -214,7 +214,7 @@ module _ (jobs : List Job) (marks : List ℕ) (place : ℕ) where
 
   -- A broken place is that of a broken mark of a job,
   pub broken-at : brokenPlace jobs marks place ≡ true
-      → (i : ℕ) × (k : ℕ) × BrokenAt jobs marks i k × (place ≡ jobAt jobs i .«marks_start» + k)
+      → (i : ℕ) × (k : ℕ) × BrokenMark jobs marks i k × (place ≡ jobAt jobs i .«marks_start» + k)
   broken-at e =
       let (i, l, f) = broken-one e in
       let (k, h, there, invalid) = broken-mark marks (jobAt jobs i) place f in
@@ -245,7 +245,7 @@ module _ (jobs : List Job) (marks : List ℕ) where
       not-false _ (sym (broken-there marks (jobAt jobs i) k h) ∙ unbroken-all jobs marks place unbroken i l)
 
 -- and the place of a broken mark is broken.
-pub at-broken : (jobs : List Job) (marks : List ℕ) (i k : ℕ) → BrokenAt jobs marks i k
+pub at-broken : (jobs : List Job) (marks : List ℕ) (i k : ℕ) → BrokenMark jobs marks i k
     → brokenPlace jobs marks (jobAt jobs i .«marks_start» + k) ≡ false → ⊥
 at-broken jobs marks i k at e =
     let there = broken-there marks (jobAt jobs i) k (at .inside) in
@@ -259,17 +259,17 @@ pub record Passes (jobs : List Job) (marks : List ℕ) : Type 0 where
   pub none-misplaced : firstMisplaced jobs (length marks) ≡ length jobs
   pub none-broken : firstBrokenPlace jobs marks ≡ length marks
 
--- Accepted is exactly that.
-pub accepted-passes : (jobs : List Job) (marks : List ℕ) → Accepted jobs marks → Passes jobs marks
-accepted-passes jobs marks a =
+-- LetThrough is exactly that.
+pub let-through-passes : (jobs : List Job) (marks : List ℕ) → LetThrough jobs marks → Passes jobs marks
+let-through-passes jobs marks a =
     record {
       sizes = kept-tested jobs (a .kept);
       none-misplaced = placed-searched jobs (length marks) (a .kept) (a .placed);
       none-broken = sound-searched jobs marks (a .sound);
     }
 
-pub passes-accepted : (jobs : List Job) (marks : List ℕ) → Passes jobs marks → Accepted jobs marks
-passes-accepted jobs marks p =
+pub passes-let-through : (jobs : List Job) (marks : List ℕ) → Passes jobs marks → LetThrough jobs marks
+passes-let-through jobs marks p =
     let placed = searched-placed jobs (length marks) (p .none-misplaced) in
     record {
       kept = tested-kept jobs (p .sizes);

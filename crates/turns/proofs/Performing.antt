@@ -17,11 +17,12 @@ use Rattle.tasks.proofs.Existence.{exists-block, exists-task}
 use Rattle.tasks.proofs.Needs.{ready-exists, ready-undone}
 use Rattle.tasks.proofs.Marking.{Valid, valid-only, valid-shows, shows-valid}
 use Rattle.tasks.proofs.Progress.{also-cases, bit-length, bit-other, shows-bit}
+use Rattle.tasks.proofs.Verdicts.{verdict-shown, accepted-ready, ready-accepted}
 use Rattle.turns.specs.declared.Job.{Job}
 use Rattle.turns.specs.Jobs.{jobAt, gridOf}
 use Rattle.turns.specs.Turn.{marksFrom, markedIn, readyIn, jobDone}
-use Rattle.turns.specs.Answers.{Sound, Accepted}
-use Rattle.turns.specs.Runs.{withTask, Performed, nothing, task}
+use Rattle.turns.specs.Answers.{Sound, LetThrough}
+use Rattle.turns.specs.Runs.{withTask, Performed, nothing, task, PerformsAsCalled}
 use Rattle.turns.proofs.Parts.{marks-inside, places-apart}
 use Rattle.turns.proofs.Turns.{done-same}
 
@@ -45,7 +46,7 @@ bit-valid grid marks t k enough valid r =
     (also-cases done t k u j e))
 
 module _ (jobs : List Job) (marks : List ℕ) (i t k : ℕ) (inside : i < length jobs)
-    (r : readyIn (jobAt jobs i) marks t k ≡ true) (a : Accepted jobs marks) where
+    (r : readyIn (jobAt jobs i) marks t k ≡ true) (a : LetThrough jobs marks) where
   -- The marks of every other job stay.
   others-stay : (j : ℕ) → j < length jobs → j ≢ i → (n : ℕ) → n < blockTotal (gridOf (jobAt jobs j))
       → wordAt (marksFrom (jobAt jobs j) (withTask jobs marks i t k)) n ≡ wordAt (marksFrom (jobAt jobs j) marks) n
@@ -72,9 +73,9 @@ module _ (jobs : List Job) (marks : List ℕ) (i t k : ℕ) (inside : i < length
       by (no e) = λ n l. rw (others-stay j h e n l) (a .sound j h n l)
 
   -- Performing a ready task keeps what the refusals let through.
-  pub task-accepted : Accepted jobs (withTask jobs marks i t k)
+  pub task-let-through : LetThrough jobs (withTask jobs marks i t k)
   unfolding withTask
-  task-accepted =
+  task-let-through =
       record {
         kept = a .kept;
         placed = rw (bit-length marks t (jobAt jobs i .«marks_start» + k)) (a .placed);
@@ -87,14 +88,31 @@ module _ (jobs : List Job) (marks : List ℕ) (i t k : ℕ) (inside : i < length
   others-same j h ne = done-same (jobAt jobs j) marks (withTask jobs marks i t k) (others-stay j h ne)
 
 module _ (jobs : List Job) (May : ℕ → ℕ → ℕ → Type 0) (in-list : (i t k : ℕ) → May i t k → i < length jobs) where
-  pub performed-accepted : {marks later : List ℕ} → Performed jobs May marks later → Accepted jobs marks → Accepted jobs later
-  performed-accepted nothing a = a
-  performed-accepted (task i t k may r rest) a = performed-accepted rest (task-accepted jobs _ i t k (in-list i t k may) r a)
+  pub performed-let-through : {marks later : List ℕ} → Performed jobs May marks later → LetThrough jobs marks → LetThrough jobs later
+  performed-let-through nothing a = a
+  performed-let-through (task i t k may r rest) a = performed-let-through rest (task-let-through jobs _ i t k (in-list i t k may) r a)
 
   -- A job none of whose tasks may be performed has the unmarked tasks that it had.
   pub performed-same : (j : ℕ) → j < length jobs → ((t k : ℕ) → May j t k → ⊥) → {marks later : List ℕ}
-      → Performed jobs May marks later → Accepted jobs marks → jobDone (jobAt jobs j) marks ≡ jobDone (jobAt jobs j) later
+      → Performed jobs May marks later → LetThrough jobs marks → jobDone (jobAt jobs j) marks ≡ jobDone (jobAt jobs j) later
   performed-same j h not nothing a = refl
   performed-same j h not (task i t k may r rest) a =
       others-same jobs _ i t k (in-list i t k may) r a j h (λ (e : j ≡ i). not t k (rw e may))
-      ∙ performed-same j h not rest (task-accepted jobs _ i t k (in-list i t k may) r a)
+      ∙ performed-same j h not rest (task-let-through jobs _ i t k (in-list i t k may) r a)
+
+-- ---- as the task call does it
+
+pub performs-as-called : PerformsAsCalled
+unfolding withTask
+performs-as-called jobs marks a i t k inside =
+    let job = jobAt jobs i in
+    let grid = gridOf job in
+    let part = marksFrom job marks in
+    let shown =
+    verdict-shown grid (isMarked part) part (valid-shows grid part (a .sound i inside)) (valid-only grid part (a .sound i inside)) t k in
+    record {
+      when-ready =
+          (λ e. accepted-ready grid (isMarked part) t k (sym shown ∙ e), λ r. shown ∙ ready-accepted grid (isMarked part) t k r);
+      own-marks = part-bit (job .«marks_start») marks t k;
+      marks-before = λ place l. bit-other marks t (job .«marks_start» + k) place (λ (e : place ≡ job .«marks_start» + k). omega arith);
+    }

@@ -23,10 +23,10 @@ use Rattle.report.specs.declared.Next.the-variants.{Ready, Nothing}
 use Rattle.report.specs.Report.{firstReady}
 use Rattle.report.proofs.Claims.{none-all}
 use Rattle.turns.specs.declared.Job.{Job}
-use Rattle.turns.specs.declared.Turn.the-variants.{Named, AllDone}
+use Rattle.turns.specs.declared.Turn.the-variants.{Named, EveryJobDone}
 use Rattle.turns.specs.Jobs.{jobAt, gridOf}
-use Rattle.turns.specs.Turn.{marksFrom, markedIn, markedIfExists, jobDone, lookFrom, goingRound, waits, passedOver, named, turnOf, turn}
-use Rattle.turns.specs.Answers.{DoneIfAllMarked, BeginsWithFirst}
+use Rattle.turns.specs.Turn.{marksFrom, markedIn, markedIfExists, jobDone, lookFrom, goingRound, waits, passedOver, turnWith, turnOf, turn}
+use Rattle.turns.specs.Answers.{DoneIfAllMarked, ComesBefore, between, behind, from-start, BeginsWithFirst}
 use Rattle.turns.proofs.Least.{clash, least-below, least-holds, least-none}
 
 -- ---- unmarked tasks
@@ -127,6 +127,58 @@ module _ (jobs : List Job) (last : ℕ) where
       let f : a + w + (d - w) ≡ a + d = omega arith in
       rw (e, mod-add-mod (a + w) (length jobs) (d - w), f)
 
+-- The job d places on is that many after the place looked from, less the number of jobs where that is past the list.
+module _ (jobs : List Job) (last d : ℕ) where
+  pub round-within : lookFrom jobs last + d < length jobs → goingRound jobs last d ≡ lookFrom jobs last + d
+  unfolding goingRound
+  round-within l = mod-eq-of-lt l
+
+  pub round-past : length jobs ≤ lookFrom jobs last + d → d < length jobs
+      → goingRound jobs last d ≡ lookFrom jobs last + d - length jobs
+  unfolding goingRound
+  round-past l h =
+      let most = look-most jobs last in
+      let e : lookFrom jobs last + d ≡ lookFrom jobs last + d - length jobs + length jobs = omega arith in
+      ap (_% length jobs) e ∙ add-mod-right (lookFrom jobs last + d - length jobs) (length jobs) ∙ mod-eq-of-lt (omega arith)
+
+-- A job that comes before the one d places on is fewer places on.
+module _ (jobs : List Job) (last d j : ℕ) (h : d < length jobs) (l : j < length jobs)
+    (before : ComesBefore last j (goingRound jobs last d)) where
+  at-or-after : lookFrom jobs last ≤ j → j - lookFrom jobs last < d
+  at-or-after high =
+      ⊎-elim (λ (x : lookFrom jobs last + d < length jobs). by x before)
+      (λ (x : length jobs ≤ lookFrom jobs last + d). omega arith)
+      (lt-or-ge (lookFrom jobs last + d) (length jobs))
+    where
+      by : lookFrom jobs last + d < length jobs → ComesBefore last j (goingRound jobs last d) → j - lookFrom jobs last < d
+      by x (between p q) = omega (arith, round-within jobs last d x)
+      by x (behind p q) = omega (arith, round-within jobs last d x, look-next jobs last (omega arith))
+      by x (from-start p q) = omega (arith, round-within jobs last d x)
+
+  below : j < lookFrom jobs last → j + length jobs - lookFrom jobs last < d
+  below low =
+      ⊎-elim (λ (x : last < length jobs). by (look-next jobs last x) before)
+      (λ (x : length jobs ≤ last). omega (arith, look-first jobs last x))
+      (lt-or-ge last (length jobs))
+    where
+      by : lookFrom jobs last ≡ suc last → ComesBefore last j (goingRound jobs last d) → j + length jobs - lookFrom jobs last < d
+      by x (between p q) = omega arith
+      by x (behind p q) = omega arith
+      by x (from-start p q) =
+          ⊎-elim (λ (y : lookFrom jobs last + d < length jobs). omega (arith, round-within jobs last d y))
+          (λ (y : length jobs ≤ lookFrom jobs last + d). omega (arith, look-most jobs last, round-past jobs last d y h))
+          (lt-or-ge (lookFrom jobs last + d) (length jobs))
+
+  pub come-before : (e : ℕ) × (e < d) × (goingRound jobs last e ≡ j)
+  come-before =
+      ⊎-elim
+      (λ (low : j < lookFrom jobs last).
+      let most = look-most jobs last in
+      (j + length jobs - lookFrom jobs last, below low, round-past jobs last _ (omega arith) (omega arith) ∙ omega arith))
+      (λ (high : lookFrom jobs last ≤ j).
+      (j - lookFrom jobs last, at-or-after high, round-within jobs last _ (omega arith) ∙ omega arith))
+      (lt-or-ge j (lookFrom jobs last))
+
 pub begins-with-first : BeginsWithFirst
 unfolding goingRound
 begins-with-first jobs last past d l =
@@ -150,7 +202,7 @@ module _ (jobs : List Job) (last : ℕ) (marks : List ℕ) where
   turn-found l = rw lt-ltb
 
   -- where not, none is named.
-  pub turn-none : length jobs ≤ passedOver jobs last marks → turn jobs last marks ≡ AllDone
+  pub turn-none : length jobs ≤ passedOver jobs last marks → turn jobs last marks ≡ EveryJobDone
   unfolding turn
   turn-none g = rw le-ltb
 
@@ -166,7 +218,7 @@ module _ (jobs : List Job) (last : ℕ) (marks : List ℕ) where
       let w = passedOver jobs last marks in
       let l : w ≤ d = ⊎-elim (λ (g : d < w). clash (passed-done d g) e) (λ (g : w ≤ d). g) (lt-or-ge d w) in
       let (t, k, q) = unmarked-ready (jobAt jobs nextJob) marks (next-unmarked (omega arith)) in
-      (w, l, t, k, turn-found (omega arith) ∙ ap (named nextJob) q)
+      (w, l, t, k, turn-found (omega arith) ∙ ap (turnWith nextJob) q)
 
   -- What a turn that names task t of block k of job i has found.
   pub record Found (i t k : ℕ) : Type 0 where
@@ -186,7 +238,7 @@ module _ (jobs : List Job) (last : ℕ) (marks : List ℕ) where
     where
       by : passedOver jobs last marks < length jobs → (next : Next)
           → firstReady (gridOf (jobAt jobs nextJob)) (markedIn (jobAt jobs nextJob) marks) ≡ next
-          → named nextJob next ≡ Named i t k → Found i t k
+          → turnWith nextJob next ≡ Named i t k → Found i t k
       by l Nothing q e = let z : _≡_ {A = ℕ} 0 1 = cc in absurd (omega arith)
       by l (Ready u b) q e =
           let x : nextJob ≡ i = cc in
@@ -195,7 +247,7 @@ module _ (jobs : List Job) (last : ℕ) (marks : List ℕ) where
           rw (← x, ← y, ← z) (record { inside = l; round = refl; unmarked = next-unmarked l; first = q })
 
   -- A turn that names none finds every job done,
-  pub none-all-done : turn jobs last marks ≡ AllDone → (i : ℕ) → i < length jobs → jobDone (jobAt jobs i) marks ≡ true
+  pub none-all-done : turn jobs last marks ≡ EveryJobDone → (i : ℕ) → i < length jobs → jobDone (jobAt jobs i) marks ≡ true
   none-all-done e i h = by (jobDone (jobAt jobs i) marks) refl
     where
       by : (is : Bool) → jobDone (jobAt jobs i) marks ≡ is → is ≡ true
@@ -207,7 +259,7 @@ module _ (jobs : List Job) (last : ℕ) (marks : List ℕ) where
           absurd (omega arith)
 
   -- and one that finds every job done names none.
-  pub all-done-none : ((i : ℕ) → i < length jobs → jobDone (jobAt jobs i) marks ≡ true) → turn jobs last marks ≡ AllDone
+  pub all-done-none : ((i : ℕ) → i < length jobs → jobDone (jobAt jobs i) marks ≡ true) → turn jobs last marks ≡ EveryJobDone
   unfolding passedOver
   all-done-none all =
       let e =

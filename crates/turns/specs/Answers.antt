@@ -14,7 +14,7 @@ use Rattle.tasks.specs.Tasks.{exists}
 use Rattle.tasks.specs.Marks.{markValidAt}
 use Rattle.report.specs.Report.{report}
 use Rattle.turns.specs.declared.Job.{Job}
-use Rattle.turns.specs.declared.Turn.the-variants.{Named, AllDone}
+use Rattle.turns.specs.declared.Turn.the-variants.{Named, EveryJobDone}
 use Rattle.turns.specs.declared.DispatchAnswer.the-variants.{Made}
 use Rattle.turns.specs.Jobs.{jobLimit, jobAt, gridOf, sizesKept, marksEnd, overlap, holdsPlace}
 use Rattle.turns.specs.Turn.{marksFrom, markedIn, readyIn, jobDone, goingRound}
@@ -45,22 +45,22 @@ Sound jobs marks =
     (i : ℕ) → i < length jobs → (k : ℕ) → k < blockTotal (gridOf (jobAt jobs i))
     → markValidAt (gridOf (jobAt jobs i)) (marksFrom (jobAt jobs i) marks) k ≡ true
 
--- Mark k of job i has not.
-pub record BrokenAt (jobs : List Job) (marks : List ℕ) (i k : ℕ) : Type 0 where
+-- Mark k of job i has a wrong kind or a spare bit.
+pub record BrokenMark (jobs : List Job) (marks : List ℕ) (i k : ℕ) : Type 0 where
   pub listed : i < length jobs
   pub inside : k < blockTotal (gridOf (jobAt jobs i))
   pub invalid : markValidAt (gridOf (jobAt jobs i)) (marksFrom (jobAt jobs i) marks) k ≡ false
 
 -- What the refusals let through.
-pub record Accepted (jobs : List Job) (marks : List ℕ) : Type 0 where
+pub record LetThrough (jobs : List Job) (marks : List ℕ) : Type 0 where
   pub kept : Kept jobs
   pub placed : (i : ℕ) → i < length jobs → Misplaced jobs (length marks) i → ⊥
   pub sound : Sound jobs marks
 
 -- A call is accepted exactly on that.
-abbrev pub AcceptedIsAnswered : Type 0
-AcceptedIsAnswered =
-    (jobs : List Job) (last : ℕ) (marks : List ℕ) → Accepted jobs marks ↔ (dispatch jobs last marks .answer ≡ accepted)
+abbrev pub LetThroughIsAccepted : Type 0
+LetThroughIsAccepted =
+    (jobs : List Job) (last : ℕ) (marks : List ℕ) → LetThrough jobs marks ↔ (dispatch jobs last marks .answer ≡ accepted)
 
 -- What each refusal says of the jobs and the marks.
 pub record Refuses (jobs : List Job) (last : ℕ) (marks : List ℕ) : Type 0 where
@@ -73,8 +73,8 @@ pub record Refuses (jobs : List Job) (last : ℕ) (marks : List ℕ) : Type 0 wh
   -- 9: none of these, and the least place of the common list that has a broken mark of a job.
   pub by-9 : (place : ℕ) → dispatch jobs last marks .answer ≡ refused 9 place
       → Kept jobs × ((i : ℕ) → i < length jobs → Misplaced jobs (length marks) i → ⊥)
-      × ((i : ℕ) × (k : ℕ) × BrokenAt jobs marks i k × (place ≡ jobAt jobs i .«marks_start» + k))
-      × ((i k : ℕ) → BrokenAt jobs marks i k → place ≤ jobAt jobs i .«marks_start» + k)
+      × ((i : ℕ) × (k : ℕ) × BrokenMark jobs marks i k × (place ≡ jobAt jobs i .«marks_start» + k))
+      × ((i k : ℕ) → BrokenMark jobs marks i k → place ≤ jobAt jobs i .«marks_start» + k)
   -- There is no other refusal.
   pub only : (number place : ℕ) → dispatch jobs last marks .answer ≡ refused number place
       → (number ≡ 6) ⊎ ((number ≡ 18) ⊎ (number ≡ 9))
@@ -97,22 +97,28 @@ naming i t k = dispatchGiven (Made (Named i t k))
 
 -- and the one that names none.
 abbrev pub namingNone : Given TurnValues
-namingNone = dispatchGiven (Made AllDone)
+namingNone = dispatchGiven (Made EveryJobDone)
 
--- An accepted call names none exactly if every job is done, so of an empty list.
+-- An accepted call names none exactly if every job is done; in an empty list that is always so.
 abbrev pub NoneIfAllDone : Type 0
 NoneIfAllDone =
-    (jobs : List Job) (last : ℕ) (marks : List ℕ) → Accepted jobs marks
+    (jobs : List Job) (last : ℕ) (marks : List ℕ) → LetThrough jobs marks
     → (dispatch jobs last marks ≡ namingNone) ↔ ((i : ℕ) → i < length jobs → jobDone (jobAt jobs i) marks ≡ true)
 
+-- Job j comes before job i where the search begins after job `last` and goes round: it lies between the two; or, where job i
+-- lies not after the last one, it lies behind the last one, or before job i.
+pub data ComesBefore (last j i : ℕ) : Type 0 where
+  between : last < j → j < i → ComesBefore last j i
+  behind : last < j → i ≤ last → ComesBefore last j i
+  from-start : j < i → i ≤ last → ComesBefore last j i
+
 -- What holds of a call that names task t of block k of job i.
-pub record NamedWell (jobs : List Job) (last : ℕ) (marks : List ℕ) (i t k : ℕ) : Type 0 where
+pub record WellNamed (jobs : List Job) (last : ℕ) (marks : List ℕ) (i t k : ℕ) : Type 0 where
   -- The job is in the list and has unmarked tasks,
   pub inside : i < length jobs
   pub unmarked : jobDone (jobAt jobs i) marks ≡ false
-  -- the jobs between the last one and it are done,
-  pub between : (d : ℕ) × (d < length jobs) × (i ≡ goingRound jobs last d)
-      × ((e : ℕ) → e < d → jobDone (jobAt jobs (goingRound jobs last e)) marks ≡ true)
+  -- every job that comes before it is done,
+  pub before-it : (j : ℕ) → j < length jobs → ComesBefore last j i → jobDone (jobAt jobs j) marks ≡ true
   -- its task is ready,
   pub ready : readyIn (jobAt jobs i) marks t k ≡ true
   -- and it is the one that the report on the job's marks names, for any plan of these sizes.
@@ -126,7 +132,7 @@ pub record NamedWell (jobs : List Job) (last : ℕ) (marks : List ℕ) (i t k : 
 abbrev pub NamesWell : Type 0
 NamesWell =
     (jobs : List Job) (last : ℕ) (marks : List ℕ) (i t k : ℕ) → dispatch jobs last marks ≡ naming i t k
-    → NamedWell jobs last marks i t k
+    → WellNamed jobs last marks i t k
 
 -- A last job at or past the end of the list means that the search begins with the first.
 abbrev pub BeginsWithFirst : Type 0

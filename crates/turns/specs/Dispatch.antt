@@ -8,7 +8,7 @@ use Rattle.refusal.specs.Refusals.{refusedFor, accepted}
 use Rattle.refusal.specs.Table.{Row, _at_when_, firstDue, Given, given}
 use Rattle.turns.specs.declared.Job.{Job}
 use Rattle.turns.specs.declared.Turn.{Turn}
-use Rattle.turns.specs.declared.Turn.the-variants.{Named, AllDone}
+use Rattle.turns.specs.declared.Turn.the-variants.{Named, EveryJobDone}
 use Rattle.turns.specs.declared.DispatchAnswer.{DispatchAnswer}
 use Rattle.turns.specs.declared.DispatchAnswer.the-variants.{Refused, Made}
 use Rattle.turns.specs.Jobs.{jobsKept, firstMisplaced, firstBrokenPlace}
@@ -28,7 +28,7 @@ zeroTurn = record { named = 0; job = 0; task = 0; block = 0 }
 -- The values of a turn.
 abbrev pub turnValues : Turn → TurnValues
 turnValues (Named i t k) = record { named = 1; job = i; task = t; block = k }
-turnValues AllDone = zeroTurn
+turnValues EveryJobDone = zeroTurn
 
 -- The documents' number and place, and the values, of each case that `dispatch` answers.
 abbrev pub dispatchGiven : DispatchAnswer → Given TurnValues

@@ -14,7 +14,7 @@ use Rattle.report.specs.declared.Next.the-variants.{Ready, Nothing}
 use Rattle.report.specs.Report.{firstReady}
 use Rattle.turns.specs.declared.Job.{Job}
 use Rattle.turns.specs.declared.Turn.{Turn}
-use Rattle.turns.specs.declared.Turn.the-variants.{Named, AllDone}
+use Rattle.turns.specs.declared.Turn.the-variants.{Named, EveryJobDone}
 use Rattle.turns.specs.Jobs.{leastFrom, jobAt, gridOf}
 
 -- A job's marks, which the report would be lent: the common list from the job's start on.
@@ -41,11 +41,11 @@ jobDone job marks = allBelow (λ k. allBelow (markedIfExists job marks k) 6) (bl
 unfoldable pub lookFrom : List Job → (last : ℕ) → ℕ
 lookFrom jobs last = cond (ltb last (length jobs)) (suc last) 0
 
--- The job d places after that, going round.
+-- The job d places after `lookFrom`, going round.
 unfoldable pub goingRound : List Job → (last d : ℕ) → ℕ
 goingRound jobs last d = (lookFrom jobs last + d) % length jobs
 
--- The job d places after that has unmarked tasks.
+-- The job d places after `lookFrom` has unmarked tasks.
 abbrev pub waits : List Job → (last : ℕ) → List ℕ → (d : ℕ) → Bool
 waits jobs last marks d = not (jobDone (jobAt jobs (goingRound jobs last d)) marks)
 
@@ -53,17 +53,17 @@ waits jobs last marks d = not (jobDone (jobAt jobs (goingRound jobs last d)) mar
 unfoldable pub passedOver : List Job → (last : ℕ) → List ℕ → ℕ
 passedOver jobs last marks = leastFrom (waits jobs last marks) 0 (length jobs)
 
--- Job i with the ready task that is found for it.
-abbrev pub named : ℕ → Next → Turn
-named i (Ready t k) = Named i t k
-named i Nothing = AllDone
+-- Job i with the ready task that is found for it; none where none is, which no job with unmarked tasks comes to.
+abbrev pub turnWith : ℕ → Next → Turn
+turnWith i (Ready t k) = Named i t k
+turnWith i Nothing = EveryJobDone
 
 -- A job as job i of the list, with its first ready task as the report finds it.
 abbrev pub turnOf : (i : ℕ) → Job → List ℕ → Turn
-turnOf i job marks = named i (firstReady (gridOf job) (markedIn job marks))
+turnOf i job marks = turnWith i (firstReady (gridOf job) (markedIn job marks))
 
 -- The turn after the job `last` was named.
 unfoldable pub turn : List Job → (last : ℕ) → List ℕ → Turn
 turn jobs last marks =
     let i = goingRound jobs last (passedOver jobs last marks) in
-    cond (ltb (passedOver jobs last marks) (length jobs)) (turnOf i (jobAt jobs i) marks) AllDone
+    cond (ltb (passedOver jobs last marks) (length jobs)) (turnOf i (jobAt jobs i) marks) EveryJobDone

@@ -2,7 +2,7 @@
 use mathlib.Core.Path.{refl}
 use native.Mathlib.Omega.{arith}
 use borrow.Author.Needs.{needs}
-use Rattle.dispatch.proofs.Rounds.{begins, begins-refused}
+use Rattle.dispatch.proofs.Stages.{begins, begins-refused}
 use Rattle.dispatch.proofs.search.Search.begin.Statement.{statement}
 use Rattle.dispatch.proofs.search.Search.begin.Tie as tie
 

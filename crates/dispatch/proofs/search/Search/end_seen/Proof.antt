@@ -1,7 +1,7 @@
 -- Each way out follows. Assumes nothing.
 use borrow.Author.Needs.{needs}
 use Rattle.number.proofs.Tests.{failed, passed}
-use Rattle.dispatch.proofs.Rounds.{past-end, end-inside, inside-kept}
+use Rattle.dispatch.proofs.Stages.{past-end, end-inside, inside-kept}
 use Rattle.dispatch.proofs.search.Search.end_seen.Statement.{statement}
 use Rattle.dispatch.proofs.search.Search.end_seen.Tie as tie
 

@@ -4,7 +4,7 @@ use Prim.Native.Nat.{min}
 use native.Mathlib.Omega.{arith}
 use borrow.Author.Needs.{needs}
 use Rattle.dispatch.specs.Part.{brokenOf}
-use Rattle.dispatch.proofs.Rounds.{marks-on, marks-broken, marks-all, marks-lent, looks-few}
+use Rattle.dispatch.proofs.Stages.{marks-on, marks-broken, marks-all, marks-lent, looks-few}
 use Rattle.dispatch.proofs.search.Search.marks_seen.Statement.{statement}
 use Rattle.dispatch.proofs.search.Search.marks_seen.Tie as tie
 
@@ -38,13 +38,13 @@ returns : tie.Need-returns
 returns c =
     let then = c .before .before in
     let at = then .before .before .before in
-    rw (c .looking .ensures) (marks-on _ _ _ _ _ (least at) (start at .pre .round-is) (then .if1 .taken))
+    rw (c .looking .ensures) (marks-on _ _ _ _ _ (least at) (start at .pre .stage-is) (then .if1 .taken))
 
 returns-2 : tie.Need-returns-2
 returns-2 c =
     let other = c .before .before .before in
     let at = read other in
-    rw (c .answered .ensures) (marks-broken _ _ _ _ _ (least at) (start at .pre .round-is) (other .if1 .left) (c .before .if2 .taken))
+    rw (c .answered .ensures) (marks-broken _ _ _ _ _ (least at) (start at .pre .stage-is) (other .if1 .left) (c .before .if2 .taken))
 
 going-round-requires : tie.Need-going-round-requires
 going-round-requires c κs =
@@ -57,7 +57,7 @@ returns-3 c =
     let other = last .before .before in
     let at = read other in
     rw (c .looking2 .ensures, c .before .going-round .ensures)
-    (marks-all _ _ _ _ _ (least at) (start at .pre .round-is) (other .if1 .left) (last .if2 .left))
+    (marks-all _ _ _ _ _ (least at) (start at .pre .stage-is) (other .if1 .left) (last .if2 .left))
 
 pub marks-seen-spec : {M : Type 1} → statement M
 marks-seen-spec =

@@ -5,7 +5,7 @@ use native.Mathlib.Omega.{arith}
 use lib.Dec.{eqb}
 use borrow.Author.Needs.{needs}
 use Rattle.turns.specs.Jobs.{overlap}
-use Rattle.dispatch.proofs.Rounds.{overlaps, apart-on, apart-next, apart-all, next-fits, pair-kept, held-fits}
+use Rattle.dispatch.proofs.Stages.{overlaps, apart-on, apart-next, apart-all, next-fits, pair-kept, held-fits}
 use Rattle.dispatch.proofs.search.Search.other_seen.Statement.{statement}
 use Rattle.dispatch.proofs.search.Search.other_seen.Tie as tie
 

@@ -5,7 +5,7 @@ use native.Mathlib.Omega.{arith}
 use borrow.Author.Needs.{needs}
 use Rattle.number.proofs.Tests.{failed, passed}
 use Rattle.turns.specs.Jobs.{sizesKept}
-use Rattle.dispatch.proofs.Rounds.{sizes-fail, sizes-on, sizes-all, next-fits}
+use Rattle.dispatch.proofs.Stages.{sizes-fail, sizes-on, sizes-all, next-fits}
 use Rattle.dispatch.proofs.search.Search.sizes_seen.Statement.{statement}
 use Rattle.dispatch.proofs.search.Search.sizes_seen.Tie as tie
 

@@ -6,7 +6,7 @@ use Rattle.report.specs.declared.Next.the-variants.{Nothing}
 use Rattle.report.specs.Report.{firstReady}
 use Rattle.turns.specs.Jobs.{gridOf}
 use Rattle.turns.specs.Turn.{markedIn}
-use Rattle.dispatch.proofs.Rounds.{task-found, passed-on, passed-all, tasks-lent, passed-fits, looks-few}
+use Rattle.dispatch.proofs.Stages.{task-found, passed-on, passed-all, tasks-lent, passed-fits, looks-few}
 use Rattle.dispatch.proofs.search.Search.tasks_seen.Statement.{statement}
 use Rattle.dispatch.proofs.search.Search.tasks_seen.Tie as tie
 
@@ -32,7 +32,7 @@ returns c =
     let next = c .before .before in
     let at = next .before .before in
     rw (c .answered .ensures)
-    (task-found _ _ _ _ (start at .pre .round-is) _ _ (sym (at .first-ready .ensures) ∙ next .next .given .1))
+    (task-found _ _ _ _ (start at .pre .stage-is) _ _ (sym (at .first-ready .ensures) ∙ next .next .given .1))
 
 add-if1 : tie.Need-add-if1
 add-if1 c = omega (arith, passed-fits (start (searched c) .pre))
@@ -53,12 +53,12 @@ returns-2 c =
     let then = c .before .before in
     let told = then .before .before in
     rw (c .looking .ensures, c .before .going-round .ensures)
-    (passed-on _ _ _ _ (start (searched told) .pre .round-is) (none told) (then .if1 .taken))
+    (passed-on _ _ _ _ (start (searched told) .pre .stage-is) (none told) (then .if1 .taken))
 
 returns-3 : tie.Need-returns-3
 returns-3 c =
     let told = c .before .before .before in
-    rw (c .answered2 .ensures) (passed-all _ _ _ _ (start (searched told) .pre .round-is) (none told) (c .before .if1 .left))
+    rw (c .answered2 .ensures) (passed-all _ _ _ _ (start (searched told) .pre .stage-is) (none told) (c .before .if1 .left))
 
 pub tasks-seen-spec : {M : Type 1} → statement M
 tasks-seen-spec =

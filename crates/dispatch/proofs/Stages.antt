@@ -1,4 +1,4 @@
--- The search round by round: every way out of a look is right for whatever call the search is right for, and nearer to its end.
+-- The search stage by stage: every way out of a look is right for whatever call the search is right for, and nearer to its end.
 -- Assumes nothing.
 use mathlib.Core.Path.{_≡_, refl, sym, ap, subst, _∙_}
 use mathlib.Core.Bool.{Bool, true, false, not, _&&_, _||_, cond, and-false}
@@ -17,27 +17,27 @@ use Rattle.report.specs.declared.Next.the-variants.{Ready, Nothing}
 use Rattle.report.specs.Report.{firstReady}
 use Rattle.report.proofs.Claims.{found-ready, none-all}
 use Rattle.turns.specs.declared.Job.{Job}
-use Rattle.turns.specs.declared.Turn.the-variants.{Named, AllDone}
+use Rattle.turns.specs.declared.Turn.the-variants.{Named, EveryJobDone}
 use Rattle.turns.specs.declared.DispatchAnswer.the-variants.{Refused, Made}
 use Rattle.turns.specs.Jobs.{jobLimit, jobAt, gridOf, sizesKept, marksEnd, overlap, apartUnlessSame, wellPlaced, brokenPlace, firstBrokenPlace}
 use Rattle.turns.specs.Turn.{markedIn, jobDone, lookFrom, goingRound}
 use Rattle.turns.proofs.Least.{clash, least-most}
 use Rattle.turns.proofs.Turns.{done-all, all-done}
-use Rattle.dispatch.specs.declared.search.Round.{Round}
-use Rattle.dispatch.specs.declared.search.Round.the-variants.{Sizes, Inside, Apart, Marks, Tasks}
+use Rattle.dispatch.specs.declared.search.Stage.{Stage}
+use Rattle.dispatch.specs.declared.search.Stage.the-variants.{Sizes, Inside, Apart, Marks, Tasks}
 use Rattle.dispatch.specs.declared.search.Search.{Search}
 use Rattle.dispatch.specs.Part.{JobLent, brokenOf}
-use Rattle.dispatch.specs.Search.{lookingAt, withAnswer, beginsAt, placesOn, KeptUpto, Placing, Comparing, Reading, Turning, Known, Right, Looks, LooksAt, LooksSomewhere, Follows, FollowsEverywhere}
+use Rattle.dispatch.specs.Search.{lookingAt, withAnswer, lookFromOf, placesOn, KeptUpto, Placing, Comparing, Reading, Turning, Known, Right, Looks, LooksAt, LooksSomewhere, Follows, FollowsEverywhere}
 use Rattle.dispatch.proofs.Searching.{Says, upto-more, too-many, size-broken, misplaced, mark-broken, made, turn-here, turn-none, broken-none, broken-all, broken-more, goes-on, answers}
 
--- What is known in a round.
-known-in : {jobs : List Job} {last : ℕ} {marks : List ℕ} {search : Search} {round : Round} → Right jobs last marks search
-    → search .next < search .count → search .round ≡ round → Known jobs last marks (search .next) round
+-- What is known in a stage.
+known-in : {jobs : List Job} {last : ℕ} {marks : List ℕ} {search : Search} {stage : Stage} → Right jobs last marks search
+    → search .next < search .count → search .stage ≡ stage → Known jobs last marks (search .next) stage
 known-in {jobs} {last} {marks} {search} right listed e =
     subst (Known jobs last marks (search .next)) e (right .known listed)
 
 -- The place that a turn begins to look from is at most the number of jobs.
-pub from-few : (search : Search) → beginsAt search ≤ search .count
+pub from-few : (search : Search) → lookFromOf search ≤ search .count
 from-few search = by (ltb (search .last) (search .count)) refl
   where
     by : (below : Bool) → ltb (search .last) (search .count) ≡ below → cond below (suc (search .last)) 0 ≤ search .count
@@ -57,54 +57,54 @@ module _ (search : Search) (job : Job) where
   -- ---- sizes
 
   pub sizes-fail : sizesKept job ≡ false → FollowsEverywhere search Sizes job (withAnswer search (Refused RecordBreaksRule))
-  sizes-fail e marks round jobs last right listed is =
+  sizes-fail e marks stage jobs last right listed is =
       answers right listed (Refused RecordBreaksRule)
       (size-broken jobs last marks (search .next) (omega (arith, right .counted)) (rw (← is) e))
 
   module _ (kept : sizesKept job ≡ true) where
     more-kept : {jobs : List Job} {last : ℕ} {marks : List ℕ} → Right jobs last marks search → search .next < search .count
-        → search .round ≡ Sizes → job ≡ jobAt jobs (search .next) → KeptUpto jobs (search .next + 1)
-    more-kept {jobs} right listed round is =
-        upto-more (λ i. sizesKept (jobAt jobs i) ≡ true) (search .next) (known-in right listed round) (rw (← is) kept)
+        → search .stage ≡ Sizes → job ≡ jobAt jobs (search .next) → KeptUpto jobs (search .next + 1)
+    more-kept {jobs} right listed stage is =
+        upto-more (λ i. sizesKept (jobAt jobs i) ≡ true) (search .next) (known-in right listed stage) (rw (← is) kept)
 
     pub sizes-on : search .next + 1 < search .count → FollowsEverywhere search Sizes job (lookingAt search (search .next + 1) Sizes)
-    sizes-on l marks round jobs last right listed is =
-        goes-on right listed (search .next + 1) Sizes l (more-kept right listed round is) (rw round (omega arith))
+    sizes-on l marks stage jobs last right listed is =
+        goes-on right listed (search .next + 1) Sizes l (more-kept right listed stage is) (rw stage (omega arith))
 
     pub sizes-all : search .count ≤ search .next + 1 → FollowsEverywhere search Sizes job (lookingAt search 0 Inside)
-    sizes-all l marks round jobs last right listed is =
+    sizes-all l marks stage jobs last right listed is =
         let few = right .few listed in
         let all : search .next + 1 ≡ length jobs = omega (arith, right .counted) in
         goes-on right listed 0 Inside (omega arith)
-        (record { kept = rw (← all) (more-kept right listed round is); placed = λ i h. absurd (omega arith) })
-        (rw round (omega arith))
+        (record { kept = rw (← all) (more-kept right listed stage is); placed = λ i h. absurd (omega arith) })
+        (rw stage (omega arith))
 
   -- ---- inside
 
   pub past-end : leb (marksEnd job) (search .size) ≡ false
       → FollowsEverywhere search Inside job (withAnswer search (Refused (JobMisplaced (search .next))))
   unfolding wellPlaced
-  past-end e marks round jobs last right listed is =
+  past-end e marks stage jobs last right listed is =
       let few = right .few listed in
       let counted = right .counted in
       let past : leb (marksEnd (jobAt jobs (search .next))) (length marks) ≡ false = rw (← is, ← right .sized) e in
       answers right listed (Refused (JobMisplaced (search .next)))
-      (misplaced jobs last marks (omega arith) (search .next) (omega arith) (known-in right listed round) (rw past))
+      (misplaced jobs last marks (omega arith) (search .next) (omega arith) (known-in right listed stage) (rw past))
 
   pub end-inside : leb (marksEnd job) (search .size) ≡ true
       → FollowsEverywhere search Inside job (lookingAt search 0 (Apart (search .next) job))
-  end-inside e marks round jobs last right listed is =
+  end-inside e marks stage jobs last right listed is =
       let few = right .few listed in
       let counted = right .counted in
       goes-on right listed 0 (Apart (search .next) job) (omega arith)
       (record {
-        placing = known-in right listed round;
+        placing = known-in right listed stage;
         listed = omega arith;
         held-is = is;
         inside = rw (right .sized) at (leb-true (marksEnd job) (search .size) e);
         apart = λ m h. absurd (omega arith);
       })
-      (rw round (omega arith))
+      (rw stage (omega arith))
 
   -- ---- apart
 
@@ -112,10 +112,10 @@ module _ (search : Search) (job : Job) where
     pub overlaps : (not (eqb (search .next) i) && overlap held job) ≡ true
         → FollowsEverywhere search (Apart i held) job (withAnswer search (Refused (JobMisplaced i)))
     unfolding wellPlaced
-    overlaps e marks round jobs last right listed is =
+    overlaps e marks stage jobs last right listed is =
         let few = right .few listed in
         let counted = right .counted in
-        let known = known-in right listed round in
+        let known = known-in right listed stage in
         let pair : (not (eqb (search .next) i) && overlap (jobAt jobs i) (jobAt jobs (search .next))) ≡ true = rw (← known .held-is, ← is) e in
         answers right listed (Refused (JobMisplaced i))
         (misplaced jobs last marks (omega arith) i (known .listed) (known .placing)
@@ -130,9 +130,9 @@ module _ (search : Search) (job : Job) where
 
     module _ (none : (not (eqb (search .next) i) && overlap held job) ≡ false) where
       more-apart : {jobs : List Job} {last : ℕ} {marks : List ℕ} → Right jobs last marks search → search .next < search .count
-          → search .round ≡ Apart i held → job ≡ jobAt jobs (search .next) → (m : ℕ) → m < search .next + 1 → apartUnlessSame jobs i m ≡ true
-      more-apart {jobs} right listed round is =
-          let known = known-in right listed round in
+          → search .stage ≡ Apart i held → job ≡ jobAt jobs (search .next) → (m : ℕ) → m < search .next + 1 → apartUnlessSame jobs i m ≡ true
+      more-apart {jobs} right listed stage is =
+          let known = known-in right listed stage in
           upto-more (λ m. apartUnlessSame jobs i m ≡ true) (search .next) (known .apart)
           (rw (← known .held-is, ← is) (apart (eqb (search .next) i) (overlap held job) none))
         where
@@ -142,57 +142,57 @@ module _ (search : Search) (job : Job) where
 
       pub apart-on : search .next + 1 < search .count
           → FollowsEverywhere search (Apart i held) job (lookingAt search (search .next + 1) (Apart i held))
-      apart-on l marks round jobs last right listed is =
-          let known = known-in right listed round in
+      apart-on l marks stage jobs last right listed is =
+          let known = known-in right listed stage in
           goes-on right listed (search .next + 1) (Apart i held) l
           (record {
             placing = known .placing;
             listed = known .listed;
             held-is = known .held-is;
             inside = known .inside;
-            apart = more-apart right listed round is;
+            apart = more-apart right listed stage is;
           })
-          (rw round (omega arith))
+          (rw stage (omega arith))
 
       module _ (end : search .count ≤ search .next + 1) where
         more-placed : {jobs : List Job} {last : ℕ} {marks : List ℕ} → Right jobs last marks search → search .next < search .count
-            → search .round ≡ Apart i held → job ≡ jobAt jobs (search .next) → Placing jobs (length marks) (i + 1)
+            → search .stage ≡ Apart i held → job ≡ jobAt jobs (search .next) → Placing jobs (length marks) (i + 1)
         unfolding wellPlaced
-        more-placed {jobs} {last} {marks} right listed round is =
-            let known = known-in right listed round in
+        more-placed {jobs} {last} {marks} right listed stage is =
+            let known = known-in right listed stage in
             let counted = right .counted in
             record {
               kept = known .placing .kept;
               placed =
                   upto-more (λ j. wellPlaced jobs (length marks) j ≡ true) i (known .placing .placed)
                   (and-both (le-leb (marksEnd (jobAt jobs i)) (length marks) (rw (← known .held-is) (known .inside)))
-                  (all-below (apartUnlessSame jobs i) (length jobs) (λ m h. more-apart right listed round is m (omega arith))));
+                  (all-below (apartUnlessSame jobs i) (length jobs) (λ m h. more-apart right listed stage is m (omega arith))));
             }
 
         pub apart-next : i + 1 < search .count → FollowsEverywhere search (Apart i held) job (lookingAt search (i + 1) Inside)
-        apart-next l marks round jobs last right listed is =
+        apart-next l marks stage jobs last right listed is =
             let few = right .few listed in
-            goes-on right listed (i + 1) Inside l (more-placed right listed round is) (rw round (omega arith))
+            goes-on right listed (i + 1) Inside l (more-placed right listed stage is) (rw stage (omega arith))
 
         pub apart-all : search .count ≤ i + 1 → FollowsEverywhere search (Apart i held) job (lookingAt search 0 (Marks (search .size)))
-        apart-all l marks round jobs last right listed is =
+        apart-all l marks stage jobs last right listed is =
             let few = right .few listed in
-            let known = known-in right listed round in
+            let known = known-in right listed stage in
             let all : i + 1 ≡ length jobs = omega (arith, right .counted, known .listed) in
             goes-on right listed 0 (Marks (search .size)) (omega arith)
             (record {
-              placing = rw (← all) (more-placed right listed round is);
+              placing = rw (← all) (more-placed right listed stage is);
               least-is = right .sized ∙ broken-none jobs marks;
             })
-            (rw round (omega arith))
+            (rw stage (omega arith))
 
   -- ---- marks
 
-  module _ (marks : List ℕ) (before least : ℕ) (lesser : least ≡ min before (brokenOf marks job)) (round : search .round ≡ Marks before) where
+  module _ (marks : List ℕ) (before least : ℕ) (lesser : least ≡ min before (brokenOf marks job)) (stage : search .stage ≡ Marks before) where
     more-read : {jobs : List Job} {last : ℕ} → Right jobs last marks search → search .next < search .count
         → job ≡ jobAt jobs (search .next) → Reading jobs marks (search .next + 1) least
     more-read {jobs} right listed is =
-        let known = known-in right listed round in
+        let known = known-in right listed stage in
         record {
           placing = known .placing;
           least-is = lesser ∙ rw is (broken-more jobs marks (search .next) before (known .least-is));
@@ -200,7 +200,7 @@ module _ (search : Search) (job : Job) where
 
     pub marks-on : search .next + 1 < search .count → Follows marks search job (lookingAt search (search .next + 1) (Marks least))
     marks-on l jobs last right listed is =
-        goes-on right listed (search .next + 1) (Marks least) l (more-read right listed is) (rw round (omega arith))
+        goes-on right listed (search .next + 1) (Marks least) l (more-read right listed is) (rw stage (omega arith))
 
     module _ (end : search .count ≤ search .next + 1) where
       least-of-all : {jobs : List Job} {last : ℕ} → Right jobs last marks search → search .next < search .count
@@ -215,7 +215,7 @@ module _ (search : Search) (job : Job) where
           let counted = right .counted in
           let e = least-of-all right listed is in
           answers right listed (Refused (MarkBroken least))
-          (rw e (mark-broken jobs last marks (omega arith) (known-in right listed round .placing) (omega (arith, right .sized))))
+          (rw e (mark-broken jobs last marks (omega arith) (known-in right listed stage .placing) (omega (arith, right .sized))))
 
       pub marks-all : search .size ≤ least → Follows marks search job (lookingAt search (placesOn search 0) (Tasks 0))
       unfolding firstBrokenPlace
@@ -225,17 +225,17 @@ module _ (search : Search) (job : Job) where
           let e = least-of-all right listed is in
           goes-on right listed (placesOn search 0) (Tasks 0) (place-inside right listed 0)
           (record {
-            placing = known-in right listed round .placing;
+            placing = known-in right listed stage .placing;
             sound = omega (arith, right .sized, least-most (brokenPlace jobs marks) 0 (length marks));
             inside = omega arith;
             next-is = place-round right 0;
             done = λ d h. absurd (omega arith);
           })
-          (rw round (omega arith))
+          (rw stage (omega arith))
 
   -- ---- tasks
 
-  module _ (marks : List ℕ) (passed : ℕ) (round : search .round ≡ Tasks passed) where
+  module _ (marks : List ℕ) (passed : ℕ) (stage : search .stage ≡ Tasks passed) where
     module _ (t k : ℕ) (found : firstReady (gridOf job) (markedIn job marks) ≡ Ready t k) where
       waiting : jobDone job marks ≡ false
       waiting = by (jobDone job marks) refl
@@ -251,7 +251,7 @@ module _ (search : Search) (job : Job) where
       task-found jobs last right listed is =
           let few = right .few listed in
           let counted = right .counted in
-          let known = known-in right listed round in
+          let known = known-in right listed stage in
           let at = sym (ap (jobAt jobs) (known .next-is)) ∙ sym is in
           answers right listed (Made (Named (search .next) t k))
           (made jobs last marks (omega arith) (known .placing) (known .sound) (Named (search .next) t k)
@@ -261,7 +261,7 @@ module _ (search : Search) (job : Job) where
       more-done : {jobs : List Job} {last : ℕ} → Right jobs last marks search → search .next < search .count
           → job ≡ jobAt jobs (search .next) → (d : ℕ) → d < passed + 1 → jobDone (jobAt jobs (goingRound jobs last d)) marks ≡ true
       more-done {jobs} {last} right listed is =
-          let known = known-in right listed round in
+          let known = known-in right listed stage in
           upto-more (λ d. jobDone (jobAt jobs (goingRound jobs last d)) marks ≡ true) passed (known .done)
           (rw (← known .next-is, ← is) (all-done job marks (none-all (gridOf job) (markedIn job marks) none)))
 
@@ -269,7 +269,7 @@ module _ (search : Search) (job : Job) where
           → Follows marks search job (lookingAt search (placesOn search (passed + 1)) (Tasks (passed + 1)))
       passed-on l jobs last right listed is =
           let counted = right .counted in
-          let known = known-in right listed round in
+          let known = known-in right listed stage in
           goes-on right listed (placesOn search (passed + 1)) (Tasks (passed + 1)) (place-inside right listed (passed + 1))
           (record {
             placing = known .placing;
@@ -278,38 +278,38 @@ module _ (search : Search) (job : Job) where
             next-is = place-round right (passed + 1);
             done = more-done right listed is;
           })
-          (rw round (omega arith))
+          (rw stage (omega arith))
 
-      pub passed-all : search .count ≤ passed + 1 → Follows marks search job (withAnswer search (Made AllDone))
+      pub passed-all : search .count ≤ passed + 1 → Follows marks search job (withAnswer search (Made EveryJobDone))
       passed-all l jobs last right listed is =
           let few = right .few listed in
           let counted = right .counted in
-          let known = known-in right listed round in
-          answers right listed (Made AllDone)
-          (made jobs last marks (omega arith) (known .placing) (known .sound) AllDone
+          let known = known-in right listed stage in
+          answers right listed (Made EveryJobDone)
+          (made jobs last marks (omega arith) (known .placing) (known .sound) EveryJobDone
           (turn-none jobs last marks (passed + 1) (more-done right listed is) (omega arith)))
 
 -- ---- the beginning
 
 -- A search begins with the first job's sizes; of no jobs none is named.
 pub begins : (jobs : List Job) (last : ℕ) (marks : List ℕ) (search : Search) → search .count ≡ length jobs → search .last ≡ last
-    → search .size ≡ length marks → search .next ≡ 0 → search .round ≡ Sizes → search .answer ≡ Made AllDone
+    → search .size ≡ length marks → search .next ≡ 0 → search .stage ≡ Sizes → search .answer ≡ Made EveryJobDone
     → length jobs ≤ jobLimit → Right jobs last marks search
-begins jobs last marks search counted last-is sized first round answer few =
+begins jobs last marks search counted last-is sized first stage answer few =
     record {
       counted = counted;
       last-is = last-is;
       sized = sized;
       few = λ l. omega arith;
-      known = λ l. rw (first, round) (λ i h. absurd (omega arith));
+      known = λ l. rw (first, stage) (λ i h. absurd (omega arith));
       answered = λ l. rw answer (empty (omega arith));
     }
   where
-    empty : length jobs ≡ 0 → Says jobs last marks (Made AllDone)
+    empty : length jobs ≡ 0 → Says jobs last marks (Made EveryJobDone)
     empty none =
         let placing : Placing jobs (length marks) (length jobs) =
         record { kept = λ i h. absurd (omega arith); placed = λ i h. absurd (omega arith) } in
-        made jobs last marks few placing (sym (broken-all jobs marks) ∙ rw none (sym (broken-none jobs marks))) AllDone
+        made jobs last marks few placing (sym (broken-all jobs marks) ∙ rw none (sym (broken-none jobs marks))) EveryJobDone
         (turn-none jobs last marks 0 (λ d h. absurd (omega arith)) (omega arith))
 
 -- More jobs than eight are refused at once.
@@ -331,7 +331,7 @@ begins-refused jobs last marks search counted last-is sized past answer many =
 pub looks-few : {marks : List ℕ} {search : Search} {job : Job} → Looks marks search job → search .count ≤ jobLimit
 looks-few looks = looks .right .few (looks .listed)
 
-pub next-fits : {search : Search} {round : Round} {job : Job} → LooksSomewhere search round job → search .next + 1 ≤ jobLimit
+pub next-fits : {search : Search} {stage : Stage} {job : Job} → LooksSomewhere search stage job → search .next + 1 ≤ jobLimit
 next-fits somewhere = let looks = somewhere .looks-at .looks in omega (arith, looks-few looks, looks .listed)
 
 -- The job that is looked at has sizes in range once all have,
@@ -357,7 +357,7 @@ looked-lent {marks} {search} looks placing =
 pub inside-kept : {search : Search} {job : Job} → LooksSomewhere search Inside job → sizesKept job ≡ true
 inside-kept somewhere =
     let at = somewhere .looks-at in
-    looked-kept (at .looks) (known-in (at .looks .right) (at .looks .listed) (at .round-is) .kept)
+    looked-kept (at .looks) (known-in (at .looks .right) (at .looks .listed) (at .stage-is) .kept)
 
 module _ {search : Search} {i : ℕ} {held job : Job} (somewhere : LooksSomewhere search (Apart i held) job) where
   looks : Looks (somewhere .marks) search job
@@ -365,7 +365,7 @@ module _ {search : Search} {i : ℕ} {held job : Job} (somewhere : LooksSomewher
 
   comparing : Comparing (looks .jobs) (length (somewhere .marks)) i held (search .next)
   unfolding looks
-  comparing = known-in (looks .right) (looks .listed) (somewhere .looks-at .round-is)
+  comparing = known-in (looks .right) (looks .listed) (somewhere .looks-at .stage-is)
 
   pub pair-kept : (sizesKept held ≡ true) × (sizesKept job ≡ true)
   unfolding looks
@@ -379,11 +379,11 @@ module _ {search : Search} {i : ℕ} {held job : Job} (somewhere : LooksSomewher
   held-fits = omega (arith, comparing .listed, looks .right .counted, looks-few looks)
 
 pub marks-lent : {marks : List ℕ} {search : Search} {least : ℕ} {job : Job} → LooksAt marks search (Marks least) job → JobLent job (length marks)
-marks-lent at = looked-lent (at .looks) (known-in (at .looks .right) (at .looks .listed) (at .round-is) .placing)
+marks-lent at = looked-lent (at .looks) (known-in (at .looks .right) (at .looks .listed) (at .stage-is) .placing)
 
 module _ {marks : List ℕ} {search : Search} {passed : ℕ} {job : Job} (at : LooksAt marks search (Tasks passed) job) where
   turning : Turning (at .looks .jobs) (at .looks .last) marks (search .next) passed
-  turning = known-in (at .looks .right) (at .looks .listed) (at .round-is)
+  turning = known-in (at .looks .right) (at .looks .listed) (at .stage-is)
 
   pub tasks-lent : JobLent job (length marks)
   tasks-lent = looked-lent (at .looks) (turning .placing)
