@@ -10,7 +10,8 @@
  *
  * Outputs outside the map count as 0, and all words are taken modulo 2^64. The passes run over the whole map in one
  * call (mzg_serial), or block by block in any order that respects the tasks' needs (mzg_start, mzg_task, mzg_report). A
- * block that is scanned again is recalled (mzg_recall), and only what depends on it is done again.
+ * block that is scanned again is recalled (mzg_recall), and only what depends on it is done again. Several jobs on one
+ * control take turns (mzg_dispatch).
  *
  * Dropouts. Where the laser's beam gets no return, the height is MZG_DROPOUT. The passes read it as 0, in mzg_serial as
  * in mzg_task: outputs, tables and totals are those of the map with every dropout replaced by 0, and none of them shows
@@ -21,34 +22,37 @@
  *
  * Answers. Every function answers 0 where the call is accepted, else number * 2^32 + place: the cause, by the numbers
  * in the enum below, and where it is. MZG_NUMBER and MZG_PLACE take an answer apart. Keep it in a uint64_t: its low 32
- * bits are 0 for most refusals. Words, blocks, rows and columns count from 0.
+ * bits are 0 for most refusals. Words, blocks, rows, columns and jobs count from 0.
  *
  * Where several causes hold, the one that is tested first refuses the call. mzg_plan_read is refused by the first of 1,
- * 2, 3 from left to right (2 before 3 at one word), then 5, then 4. Every other call tests the record (6), then the
- * lengths of the buffers that it is lent (7, 14, 15, 16), and only then the rest, by rising numbers (8 to 12, 17): a
- * short output is 16 also where the task does not exist. The numbers after `Refused:` stand in that order.
+ * 2, 3 from left to right (2 before 3 at one word), then 5, then 4. Every other call tests the record (6; mzg_dispatch
+ * its list of records), then the lengths of the buffers that it is lent (7, 14, 15, 16; mzg_dispatch where the marks of
+ * its jobs stand, 18), and only then the rest, by rising numbers (8 to 12, 17): a short output is 16 also where the
+ * task does not exist. The numbers after `Refused:` stand in that order.
  *
  * So a buffer that is too short has one of four numbers: 14, 15 and 16 for the strips, the map and the output, 7 for
  * the words of mzg_plan_write, the marks or the table, whichever the call is lent. The first that is too short is
- * named; mzg_plan_sizes gives the lengths that all of them need.
+ * named; mzg_plan_sizes gives the lengths that all of them need. A list of marks that several jobs share and that ends
+ * before a job's marks do is 18.
  *
  * Buffers. A buffer is lent as a pointer and its length, in elements of the pointer's type; those past the needed
  * length do not matter and are never altered. A refused call leaves every lent buffer as it was. What a call answers
- * beside its number (plan, sizes, progress, sum, states, values, count) is written whole on every call: all zeros
- * beside a refusal.
+ * beside its number (plan, sizes, progress, turn, sum, states, values, count) is written whole on every call: all
+ * zeros beside a refusal.
  *
  * Pointers are not tested, nor that a buffer is as long as is said. None may be null, each must be aligned for its
- * type, and no two of a call may overlap, the plan record and what is answered (plan, sizes, progress, sum, states,
+ * type, and no two of a call may overlap, the records and what is answered (plan, sizes, progress, turn, sum, states,
  * values, count) among them.
  * Where no strip word is needed (all orders 0), lend the address of any 64-bit word with length 0, which overlaps
- * nothing.
+ * nothing; where there are no jobs, that of any mzg_job.
  *
  * The functions keep no state between calls. Calls that share no buffer that one of them writes may run at the same
- * time; of one job, no two calls of mzg_task or mzg_recall may, nor mzg_report beside one of them. A job may be broken
- * off between any two calls: keep plan, map, marks, strips and output. Of a job that is taken up again only the kind
- * and the spare bits of its marks are tested, not that its buffers belong together: put a checksum over what you save.
- * mzg_task takes less than 26 KiB of stack, every other call less than 4 KiB (the C library may take some 3 KiB more
- * where it binds memcpy or memset at their first call).
+ * time; of one job, no two calls of mzg_task or mzg_recall may, nor mzg_report beside one of them; nor may mzg_dispatch
+ * beside mzg_start, mzg_task or mzg_recall of a job in its list. A job may be broken off between any two calls: keep
+ * plan, map, marks, strips and output. Of a job that is taken up again only the kind and the spare bits of its marks
+ * are tested, not that its buffers belong together: put a checksum over what you save. mzg_task takes less than 26 KiB
+ * of stack, every other call less than 4 KiB (the C library may take some 3 KiB more where it binds memcpy or memset at
+ * their first call).
  */
 #ifndef MULZHEGAT_H
 #define MULZHEGAT_H
@@ -68,10 +72,11 @@ enum {
     MZG_OUT_OF_RANGE = 3,       /* payload or order out of range, or wrong pass; place: the word */
     MZG_SIDE_BELOW_ORDER = 4,   /* the block side is below an order; place: 1 */
     MZG_WORDS_AFTER_END = 5,    /* words after the end word; place: the first of them */
-    MZG_RECORD_BREAKS_RULE = 6, /* the plan record breaks a rule (see mzg_plan) */
+    MZG_RECORD_BREAKS_RULE = 6, /* a record breaks a rule (see mzg_plan, mzg_job), or there are more than 8 jobs */
     MZG_BUFFER_TOO_SHORT = 7,   /* marks, words of mzg_plan_write or table too short (strips, map, output: 14 to 16) */
     MZG_NO_SUCH_TASK = 8,       /* no such block, or the block has no such task */
-    MZG_MARK_BROKEN = 9,        /* a mark looked at has a wrong kind or a spare bit; place: the least such block */
+    MZG_MARK_BROKEN = 9,        /* a mark looked at has a wrong kind or a spare bit; place: the least such block, of
+                                 * mzg_dispatch the least such index in the list of marks */
     MZG_ALREADY_MARKED = 10,    /* the task is already marked */
     MZG_NEED_UNMARKED = 11,     /* a need of the task is not marked yet */
     MZG_RECTANGLE_OUTSIDE = 12, /* top > bottom, left > right, bottom > rows or right > columns */
@@ -79,7 +84,8 @@ enum {
     MZG_STRIPS_TOO_SHORT = 14,  /* the strips are too short */
     MZG_MAP_TOO_SHORT = 15,     /* the map is too short */
     MZG_OUTPUT_TOO_SHORT = 16,  /* the output is too short */
-    MZG_BLOCK_NOT_COLLECTED = 17 /* the block to recall is not collected */
+    MZG_BLOCK_NOT_COLLECTED = 17, /* the block to recall is not collected */
+    MZG_JOB_MISPLACED = 18      /* a job's marks run past the list or overlap another's; place: the least such job */
 };
 
 /* What the head writes for the height of a pixel where the laser's beam gets no return: -2147483648. No other height is
@@ -126,6 +132,13 @@ typedef struct {
     uint64_t ready;          /* 1 if task and block name a ready task; 0 beside an accepted call: all tasks are done */
     uint64_t task, block;    /* the ready task with the least number, then the least block; 0 and 0 if none */
 } mzg_progress;
+
+/* One of several jobs on a control: the sizes of its plan, and where its marks begin in the list of marks that all jobs
+ * share. The rules: rows and columns 1 to 4,096, side 1 to 32. Orders are not in it. */
+typedef struct {
+    uint64_t rows, columns, side;
+    uint64_t marks_start;    /* from here on the job has its sizes.marks marks */
+} mzg_job;
 
 /* Reads a plan from its words. A plan has 11 to 11 + 4 * MZG_ORDER_LIMIT = 43 of them; any number may be lent. The top
  * four bits of a word are its kind, the low 28 its payload:
@@ -223,6 +236,64 @@ uint64_t mzg_report(const mzg_plan *plan, const uint32_t *marks, size_t marks_le
  * Needs sizes.marks marks and looks at all of them.
  * Refused: 6, 7 (marks), 8 (no such block), 9, 17 (the block is not collected). */
 uint64_t mzg_recall(const mzg_plan *plan, size_t block, uint32_t *marks, size_t marks_len);
+
+/* Says whose turn it is of up to eight jobs on one control: the next job after `last`, going round, that has unmarked
+ * tasks, with the task that mzg_report names for it. The turn is 1, the job's index in the list, task and block; or
+ * four zeros, none, exactly where every job is done or the list is empty. `last` is the job that was named last; any
+ * number from jobs_len on means none yet, and the search begins with job 0.
+ *
+ * The jobs share one list of marks. Their parts may stand there in any order; marks that belong to no job do not
+ * matter. Each job has a plan, map, strips and output of its own, and its own calls (mzg_start, mzg_task, mzg_report,
+ * mzg_recall) are lent its part of the marks: marks + marks_start of its record, and sizes.marks as the length (more is
+ * accepted, but is then a buffer shared with the jobs behind). The records of some jobs, whose parts stand one behind
+ * another, and the loop of a control, with all jobs started and with the plan, the sizes and the buffers of each at its
+ * index:
+ *
+ *     for (size_t i = 0; i < jobs_len; i++) {
+ *         jobs[i].rows = (uint64_t)plans[i].rows;
+ *         jobs[i].columns = (uint64_t)plans[i].columns;
+ *         jobs[i].side = (uint64_t)plans[i].side;
+ *         jobs[i].marks_start = marks_len; // 0 before the first
+ *         marks_len += sizes[i].marks;
+ *     }
+ *
+ *     size_t last = jobs_len; // no job was named yet
+ *     uint64_t answer = MZG_ACCEPTED, turn[4];
+ *     while (answer == MZG_ACCEPTED
+ *            && (answer = mzg_dispatch(jobs, jobs_len, last, marks, marks_len, turn)) == MZG_ACCEPTED && turn[0]) {
+ *         last = turn[1];
+ *         answer = mzg_task(&plans[last], turn[2], turn[3], maps[last], sizes[last].pixels,
+ *                           marks + jobs[last].marks_start, sizes[last].marks, strips[last], sizes[last].strips,
+ *                           outputs[last], sizes[last].pixels);
+ *     }
+ *     if (answer != MZG_ACCEPTED)
+ *         stop_for_the_operator();
+ *
+ * It is fair, as long as each turn gets the job named before it and the list stays the same: of jobs_len accepted turns
+ * one names any job that has unmarked tasks at each of them, whatever changes marks in between. And if marks change
+ * only by performing tasks that these turns name, a job that has unmarked tasks at the first of them is named by one of
+ * them. Turns are counted, not their time. With the same `last` every time, the first unfinished job after it is named
+ * every time.
+ *
+ * Nothing is kept between calls: until the named task is done, the job's turn names that task again, or one that a
+ * recall has cleared. So there is no second task of a job for a second worker, and no two calls of one job may run at
+ * the same time. For several workers: ask for turns until a job comes that one of them holds already, or none; perform
+ * these tasks at the same time; wait for all; ask again. After a recall or a new start of a job forget its turns that
+ * are not performed yet: they can be refused by 11. To pass over a job that waits for a scan, set `last` and perform
+ * nothing; where only such jobs are named, wait.
+ *
+ * Every call that 6 and 18 let through looks at all marks of all jobs, and takes about as long as a report on each.
+ * With more than some hundred blocks in all, perform several ready tasks of the named job, in the order that mzg_task
+ * names, before you ask again. That a record has the sizes of the job's plan is not tested.
+ *
+ * Refused: 6 (a size breaks a rule, or there are more than eight records; place 0), 18 (place: the least job whose
+ * marks run past the list, also where their end overflows, or overlap another's; both jobs of a pair that overlaps are
+ * such, so that the one to move may be the later one), 9 (place: the least index in the list; of the job with
+ * marks_start at or before it, that many blocks on; all from 2^32 - 1 on are answered as that). The turn is then all
+ * zeros, as that of an accepted call can be: look at the answer first. An empty list is accepted, whatever the marks.
+ * */
+uint64_t mzg_dispatch(const mzg_job *jobs, size_t jobs_len, size_t last, const uint32_t *marks, size_t marks_len,
+                      uint64_t turn[4]);
 
 /* Runs the four passes over the whole map, dropouts read as 0. Needs sizes.pixels map and output words.
  * Refused: 6, 15 (map), 16 (output). */

@@ -6,6 +6,7 @@
 //! - [`dropouts`]: how many pixels of a rectangle the laser's head has not seen.
 //! - [`job`]: start a job, perform its tasks in any order that respects their needs, report progress, recall a block
 //!   that is scanned again.
+//! - [`dispatch`]: whose turn it is of several jobs on one control.
 //!
 //! A map has rows * columns heights, row after row. Where the beam gets no return the head writes
 //! [`dropouts::DROPOUT`]: collect and finish of a job and the serial passes read it as 0, and every other height as it
@@ -19,6 +20,7 @@
 //! of stack, every other call less than 4 KiB (the C library may take some 3 KiB more where it binds `memcpy` or
 //! `memset` at their first call).
 
+pub mod dispatch;
 pub mod dropouts;
 pub mod job;
 pub mod macros;

@@ -16,14 +16,16 @@ pub enum Refusal {
     SideBelowOrder,
     /// 5: words after the end word; the first of them.
     WordsAfterEnd(u32),
-    /// 6: the plan record breaks a rule.
+    /// 6: the plan record or a job record breaks a rule, or there are more than eight job records.
     RecordBreaksRule,
     /// 7: the marks, the plan writer's words or the rectangle's table are too short; strips, map and output have
     /// numbers of their own.
     BufferTooShort,
     /// 8: no such block, or the block has no such task.
     NoSuchTask,
-    /// 9: a mark looked at has a wrong kind or a spare bit; the least such block.
+    /// 9: a mark looked at has a wrong kind or a spare bit; the least such block, or, of
+    /// [`dispatch::next_turn`](crate::dispatch::next_turn), the least such index in the common list of marks. Indices
+    /// from `u32::MAX` on, which only lists of 2^32 marks or more have, are all answered as `u32::MAX`.
     MarkBroken(u32),
     /// 10: the task is already marked.
     AlreadyMarked,
@@ -39,6 +41,8 @@ pub enum Refusal {
     OutputTooShort,
     /// 17: the block to recall is not collected.
     BlockNotCollected,
+    /// 18: the marks of a job run past the common list or overlap another's; the least such job.
+    JobMisplaced(usize),
     /// An answer with a number, or a place beside its number, that no call gives.
     Unknown(u64),
 }
@@ -65,11 +69,12 @@ impl Refusal {
             (15, 0) => Refusal::MapTooShort,
             (16, 0) => Refusal::OutputTooShort,
             (17, 0) => Refusal::BlockNotCollected,
+            (18, 0..=7) => Refusal::JobMisplaced(place as usize),
             _ => Refusal::Unknown(answer),
         })
     }
 
-    /// The number of the cause: 1 to 12 or 14 to 17, since no call of this crate answers the program's own 13; of
+    /// The number of the cause: 1 to 12 or 14 to 18, since no call of this crate answers the program's own 13; of
     /// [`Refusal::Unknown`] the number that was answered.
     pub fn number(self) -> u32 {
         match self {
@@ -89,6 +94,7 @@ impl Refusal {
             Refusal::MapTooShort => 15,
             Refusal::OutputTooShort => 16,
             Refusal::BlockNotCollected => 17,
+            Refusal::JobMisplaced(_) => 18,
             Refusal::Unknown(answer) => (answer >> 32) as u32,
         }
     }
@@ -102,6 +108,7 @@ impl Refusal {
             | Refusal::WordsAfterEnd(place)
             | Refusal::MarkBroken(place) => place,
             Refusal::SideBelowOrder => 1,
+            Refusal::JobMisplaced(job) => job as u32,
             Refusal::Unknown(answer) => answer as u32,
             _ => 0,
         }
@@ -125,22 +132,23 @@ mod tests {
     fn refusals_are_shown_with_number_place_and_name() {
         assert_eq!(Refusal::StripsTooShort.to_string(), "refused 14 at 0: StripsTooShort");
         assert_eq!(Refusal::MarkBroken(5).to_string(), "refused 9 at 5: MarkBroken(5)");
+        assert_eq!(Refusal::JobMisplaced(7).to_string(), "refused 18 at 7: JobMisplaced(7)");
     }
 
     #[test]
     fn answers_are_read_and_written_back() {
         assert_eq!(Refusal::check(0), Ok(()));
         for number in 0..20u64 {
-            for place in [0u64, 1, 2, 4096, u64::from(u32::MAX)] {
+            for place in [0u64, 1, 2, 7, 8, 4096, u64::from(u32::MAX)] {
                 let answer = number << 32 | place;
                 if answer == 0 {
                     continue;
                 }
                 let refusal = Refusal::check(answer).expect_err("only 0 is accepted");
                 assert_eq!(u64::from(refusal.number()) << 32 | u64::from(refusal.place()), answer);
-                let place_is_free = matches!(number, 1 | 2 | 3 | 5 | 9);
+                let place_is_free = matches!(number, 1 | 2 | 3 | 5 | 9) || number == 18 && place < 8;
                 let place_is_right = place_is_free || place == u64::from(number == 4);
-                let known = matches!(number, 1..=12 | 14..=17) && place_is_right;
+                let known = matches!(number, 1..=12 | 14..=18) && place_is_right;
                 assert_eq!(refusal == Refusal::Unknown(answer), !known, "{refusal}");
             }
         }

@@ -1,16 +1,21 @@
 //! What the tests and the benchmarks of `mulzhegat` stand on. Nothing here is part of the product.
 //!
-//! - [`reference`](mod@reference), a second serial program, and [`model`], a slow model of all calls: both are written
-//!   from the paper that defines the calls, not from the library, and call nothing of it.
+//! - [`reference`](mod@reference), a second serial program, [`model`], a slow model of all calls on one plan, and
+//!   [`dispatcher`], one of the turns of several jobs: all are written from the paper that defines the calls, not from
+//!   the library, and call nothing of it.
 //! - [`needs`]: the table of needs, told again apart from the model.
 //! - [`random`]: numbers, plans and maps from a seed that is printed.
 //! - [`lent`]: buffers with watched words around them. [`short`]: calls that are lent too few words.
 //! - [`trial`]: a job run by the library and by the model side by side.
 //! - [`rectangles`]: four numbers inside and around a map, and tables whose corners make a word.
 //! - [`records`]: plan records as words, and damage to them.
+//! - [`control`]: jobs that share a list of marks. [`job_lists`]: lists of them, right or built to be refused.
 //! - [`measured`] and [`block_job`]: what the benchmarks measure.
 
 pub mod block_job;
+pub mod control;
+pub mod dispatcher;
+pub mod job_lists;
 pub mod lent;
 pub mod measured;
 pub mod model;

@@ -1,4 +1,5 @@
-//! A model of all calls, written from the paper that defines them: simple rather than fast, and apart from the library.
+//! A model of all calls on one plan, written from the paper that defines them: simple rather than fast, and apart from
+//! the library.
 //!
 //! Each call has the answer and leaves the buffers as the library's call of the same name should. Block results come
 //! from the passes over one block with words standing around it ([`Job::filter`]), strip places from one formula

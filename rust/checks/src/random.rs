@@ -3,7 +3,8 @@
 use crate::model::ORDER_LIMIT;
 use crate::reference::DROPOUT;
 use mulzhegat::{Pass, Plan, DOWN, UP};
-use std::{io::Write, iter::repeat_with, sync::Once};
+use std::collections::{BTreeMap, BTreeSet};
+use std::{fmt::Debug, io::Write, iter::repeat_with, sync::Once};
 
 /// The seed of a default run.
 pub const DEFAULT_SEED: u64 = 20240229;
@@ -189,6 +190,29 @@ impl MapsSeen {
     /// Each of the three kinds came up so many times at least.
     pub fn expect_each(&self, times: usize) {
         assert!(self.0.iter().all(|&seen| seen >= times), "{self:?}");
+    }
+}
+
+/// How often each of some things came up.
+#[derive(Debug, Default)]
+pub struct Seen<T>(BTreeMap<T, usize>);
+
+impl<T: Ord + Copy + Debug> Seen<T> {
+    /// Nothing yet.
+    pub fn new() -> Seen<T> {
+        Seen(BTreeMap::new())
+    }
+
+    /// Counts a thing.
+    pub fn note(&mut self, thing: T) {
+        *self.0.entry(thing).or_insert(0) += 1;
+    }
+
+    /// Just these things came up, each so many times at least.
+    #[track_caller]
+    pub fn expect(&self, things: impl IntoIterator<Item = T>, times: usize) {
+        assert_eq!(BTreeSet::from_iter(self.0.keys().copied()), BTreeSet::from_iter(things));
+        assert!(self.0.values().all(|&seen| seen >= times), "{:?}", self.0);
     }
 }
 

@@ -50,6 +50,7 @@ fn c_and_cpp_take_the_header_without_warnings() {
     assert_eq!(size_of::<mulzhegat::Pass>(), 10 * 8);
     assert_eq!(size_of::<mulzhegat::Sizes>(), 7 * 8);
     assert_eq!(size_of::<mulzhegat::Progress>(), 5 * 8);
+    assert_eq!(size_of::<mulzhegat::dispatch::Job>(), 4 * 8);
 }
 
 #[test]

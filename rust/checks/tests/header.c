@@ -12,6 +12,8 @@ CLAIM(sizes_are_7_words, sizeof(mzg_sizes) == 7 * 8);
 CLAIM(tasks_are_the_last_size, offsetof(mzg_sizes, tasks) == 6 * 8);
 CLAIM(progress_is_5_words, sizeof(mzg_progress) == 5 * 8);
 CLAIM(ready_is_word_2, offsetof(mzg_progress, ready) == 2 * 8);
+CLAIM(job_is_4_words, sizeof(mzg_job) == 4 * 8);
+CLAIM(marks_start_is_the_last_of_a_job, offsetof(mzg_job, marks_start) == 3 * 8);
 
 /* A total is signed. */
 int64_t total_of(const mzg_plan *plan, const uint64_t *table);
@@ -61,6 +63,43 @@ int may_be_scanned(const mzg_plan *plan, size_t block, uint32_t *marks, size_t m
 {
     uint64_t answer = mzg_recall(plan, block, marks, marks_len);
     return answer == MZG_ACCEPTED || MZG_NUMBER(answer) == MZG_BLOCK_NOT_COLLECTED;
+}
+
+/* The records of several jobs, their parts one behind another, as the header has it. */
+size_t fill_records(mzg_job *jobs, size_t jobs_len, const mzg_plan *plans, const mzg_sizes *sizes);
+
+size_t fill_records(mzg_job *jobs, size_t jobs_len, const mzg_plan *plans, const mzg_sizes *sizes)
+{
+    size_t marks_len = 0;
+    for (size_t i = 0; i < jobs_len; i++) {
+        jobs[i].rows = (uint64_t)plans[i].rows;
+        jobs[i].columns = (uint64_t)plans[i].columns;
+        jobs[i].side = (uint64_t)plans[i].side;
+        jobs[i].marks_start = marks_len; // 0 before the first
+        marks_len += sizes[i].marks;
+    }
+    return marks_len;
+}
+
+/* The loop of a control over several jobs, as the header has it. */
+uint64_t run_by_turns(const mzg_job *jobs, size_t jobs_len, const mzg_plan *plans, const mzg_sizes *sizes,
+                      const int32_t *const *maps, uint32_t *marks, size_t marks_len,
+                      uint64_t *const *strips, uint64_t *const *outputs);
+
+uint64_t run_by_turns(const mzg_job *jobs, size_t jobs_len, const mzg_plan *plans, const mzg_sizes *sizes,
+                      const int32_t *const *maps, uint32_t *marks, size_t marks_len,
+                      uint64_t *const *strips, uint64_t *const *outputs)
+{
+    size_t last = jobs_len; // no job was named yet
+    uint64_t answer = MZG_ACCEPTED, turn[4];
+    while (answer == MZG_ACCEPTED
+           && (answer = mzg_dispatch(jobs, jobs_len, last, marks, marks_len, turn)) == MZG_ACCEPTED && turn[0]) {
+        last = turn[1];
+        answer = mzg_task(&plans[last], turn[2], turn[3], maps[last], sizes[last].pixels,
+                          marks + jobs[last].marks_start, sizes[last].marks, strips[last], sizes[last].strips,
+                          outputs[last], sizes[last].pixels);
+    }
+    return answer;
 }
 
 /* Answers are compared with the constants, and taken apart, without a cast. */
