@@ -1,4 +1,5 @@
--- A run of turns on one list of jobs, and what is claimed of it: no job waits for more turns than there are jobs. Document 02, CR 9.
+-- A run of turns on one list of jobs, and what is claimed of it: no job waits for more turns than there are jobs. Document 02,
+-- CR 9.
 use mathlib.Core.Path.{_≡_}
 use mathlib.Core.Logic.{_↔_}
 use mathlib.Core.Bool.{true, false, cond}
