@@ -288,10 +288,10 @@ uint64_t mzg_recall(const mzg_plan *plan, size_t block, uint32_t *marks, size_t 
  *
  * Refused: 6 (a size breaks a rule, or there are more than eight records; place 0), 18 (place: the least job whose
  * marks run past the list, also where their end overflows, or overlap another's; both jobs of a pair that overlaps are
- * such, so that the one to move may be the later one), 9 (place: the least index in the list; of the job with
- * marks_start at or before it, that many blocks on; all from 2^32 - 1 on are answered as that). The turn is then all
- * zeros, as that of an accepted call can be: look at the answer first. An empty list is accepted, whatever the marks.
- * */
+ * such, so that the one to move may be the later one), 9 (place: the least index in the list; less the
+ * marks_start of the job that it belongs to, it is the block; indices from 2^32 - 1 on are all answered as 2^32 - 1).
+ * The turn is then all zeros, as that of an accepted call can be: look at the answer first. An empty list is accepted,
+ * whatever the marks. */
 uint64_t mzg_dispatch(const mzg_job *jobs, size_t jobs_len, size_t last, const uint32_t *marks, size_t marks_len,
                       uint64_t turn[4]);
 
