@@ -12,7 +12,7 @@ use lib.ListN.{length}
 use borrow.Author.Tests.{lt-ltb, le-ltb, lt-leb}
 use Rattle.refusal.specs.declared.Refusal.the-variants.{RecordBreaksRule, MarkBroken, JobMisplaced}
 use Rattle.number.specs.Numbers.{allBelow}
-use Rattle.number.proofs.Tests.{lt-or-ge, all-fails}
+use Rattle.number.proofs.Tests.{all-fails}
 use Rattle.turns.specs.declared.Job.{Job}
 use Rattle.turns.specs.declared.Turn.{Turn}
 use Rattle.turns.specs.declared.Turn.the-variants.{EveryJobDone}
@@ -22,7 +22,8 @@ use Rattle.turns.specs.Jobs.{jobLimit, leastFrom, jobAt, sizesKept, jobsKept, w
 use Rattle.turns.specs.Turn.{jobDone, goingRound, waits, passedOver, turnOf, turn}
 use Rattle.turns.specs.Dispatch.{dispatchGiven, dispatchRows, dispatch}
 use Rattle.turns.proofs.Parts.{kept-tested}
-use Rattle.turns.proofs.Least.{least-below, least-holds, least-none, least-most, least-is}
+use Rattle.turns.proofs.Turns.{turn-found, turn-none}
+use Rattle.turns.proofs.Least.{least-none, least-is, least-either}
 use Rattle.dispatch.specs.declared.search.Stage.{Stage}
 use Rattle.dispatch.specs.declared.search.Stage.the-variants.{Sizes, Inside, Apart, Marks, Tasks}
 use Rattle.dispatch.specs.declared.search.Search.{Search}
@@ -76,46 +77,23 @@ module _ (jobs : List Job) (last : ℕ) (marks : List ℕ) where
 
 module _ (jobs : List Job) (last : ℕ) (marks : List ℕ) (passed : ℕ)
     (done : (d : ℕ) → d < passed → jobDone (jobAt jobs (goingRound jobs last d)) marks ≡ true) where
-  -- The first job that is not done is turnWith,
-  pub turn-here : passed < length jobs → jobDone (jobAt jobs (goingRound jobs last passed)) marks ≡ false
+  -- The first job that is not done is named,
+  pub named-here : passed < length jobs → jobDone (jobAt jobs (goingRound jobs last passed)) marks ≡ false
       → turnOf (goingRound jobs last passed) (jobAt jobs (goingRound jobs last passed)) marks ≡ turn jobs last marks
-  unfolding turn passedOver
-  turn-here l e =
-      let first : leastFrom (waits jobs last marks) 0 (length jobs) ≡ passed =
+  unfolding passedOver
+  named-here l e =
+      let first : passedOver jobs last marks ≡ passed =
       least-is (waits jobs last marks) (length jobs) passed (omega arith) (λ d h. rw (done d h)) (λ h. rw e) in
-      rw (first, lt-ltb passed (length jobs) l)
+      sym (rw first at (turn-found jobs last marks (omega arith)))
 
   -- and none where all are done.
-  pub turn-none : length jobs ≤ passed → EveryJobDone ≡ turn jobs last marks
-  unfolding turn passedOver
-  turn-none l =
+  pub none-named : length jobs ≤ passed → EveryJobDone ≡ turn jobs last marks
+  unfolding passedOver
+  none-named l =
       let none = least-none (waits jobs last marks) 0 (length jobs) (λ d h m. rw (done d (omega arith))) in
-      rw (le-ltb (leastFrom (waits jobs last marks) 0 (length jobs)) (length jobs) (omega arith))
+      sym (turn-none jobs last marks (omega arith))
 
 -- ---- the least broken place, job by job
-
--- The least number of which one of two tests holds is the lesser of the least of each.
-least-either : (f g either : ℕ → Bool) (n : ℕ) → ((k : ℕ) → either k ≡ (f k || g k))
-    → min (leastFrom f 0 n) (leastFrom g 0 n) ≡ leastFrom either 0 n
-least-either f g either n is =
-    let a = leastFrom f 0 n in
-    let b = leastFrom g 0 n in
-    let a-most = least-most f 0 n in
-    let b-most = least-most g 0 n in
-    sym
-    (least-is either n (min a b) (omega arith)
-    (λ k h. rw (is k, least-below f 0 n k (omega arith) (omega arith), least-below g 0 n k (omega arith) (omega arith)))
-    (λ h.
-    ⊎-elim
-    (λ (l : a < b). let e : min a b ≡ a = omega arith in rw (e, is a, least-holds f 0 n (omega arith)))
-    (λ (l : b ≤ a).
-    let e : min a b ≡ b = omega arith in
-    rw (e, is b, least-holds g 0 n (omega arith)) (or-true (f b)))
-    (lt-or-ge a b)))
-  where
-    or-true : (x : Bool) → (x || true) ≡ true
-    or-true true = refl
-    or-true false = refl
 
 module _ (jobs : List Job) (marks : List ℕ) where
   pub broken-none : length marks ≡ brokenUpto jobs marks 0

@@ -28,7 +28,7 @@ use Rattle.dispatch.specs.declared.search.Stage.the-variants.{Sizes, Ins
 use Rattle.dispatch.specs.declared.search.Search.{Search}
 use Rattle.dispatch.specs.Part.{JobLent, brokenOf}
 use Rattle.dispatch.specs.Search.{lookingAt, withAnswer, lookFromOf, placesOn, KeptUpto, Placing, Comparing, Reading, Turning, Known, Right, Looks, LooksAt, LooksSomewhere, Follows, FollowsEverywhere}
-use Rattle.dispatch.proofs.Searching.{Says, upto-more, too-many, size-broken, misplaced, mark-broken, made, turn-here, turn-none, broken-none, broken-all, broken-more, goes-on, answers}
+use Rattle.dispatch.proofs.Searching.{Says, upto-more, too-many, size-broken, misplaced, mark-broken, made, named-here, none-named, broken-none, broken-all, broken-more, goes-on, answers}
 
 -- What is known in a stage.
 known-in : {jobs : List Job} {last : ℕ} {marks : List ℕ} {search : Search} {stage : Stage} → Right jobs last marks search
@@ -255,7 +255,7 @@ module _ (search : Search) (job : Job) where
           let at = sym (ap (jobAt jobs) (known .next-is)) ∙ sym is in
           answers right listed (Made (Named (search .next) t k))
           (made jobs last marks (omega arith) (known .placing) (known .sound) (Named (search .next) t k)
-          (rw (known .next-is) (rw (at, found) at (turn-here jobs last marks passed (known .done) (known .inside) (rw at waiting)))))
+          (rw (known .next-is) (rw (at, found) at (named-here jobs last marks passed (known .done) (known .inside) (rw at waiting)))))
 
     module _ (none : firstReady (gridOf job) (markedIn job marks) ≡ Nothing) where
       more-done : {jobs : List Job} {last : ℕ} → Right jobs last marks search → search .next < search .count
@@ -287,7 +287,7 @@ module _ (search : Search) (job : Job) where
           let known = known-in right listed stage in
           answers right listed (Made EveryJobDone)
           (made jobs last marks (omega arith) (known .placing) (known .sound) EveryJobDone
-          (turn-none jobs last marks (passed + 1) (more-done right listed is) (omega arith)))
+          (none-named jobs last marks (passed + 1) (more-done right listed is) (omega arith)))
 
 -- ---- the beginning
 
@@ -310,7 +310,7 @@ begins jobs last marks search counted last-is sized first stage answer few =
         let placing : Placing jobs (length marks) (length jobs) =
         record { kept = λ i h. absurd (omega arith); placed = λ i h. absurd (omega arith) } in
         made jobs last marks few placing (sym (broken-all jobs marks) ∙ rw none (sym (broken-none jobs marks))) EveryJobDone
-        (turn-none jobs last marks 0 (λ d h. absurd (omega arith)) (omega arith))
+        (none-named jobs last marks 0 (λ d h. absurd (omega arith)) (omega arith))
 
 -- More jobs than eight are refused at once.
 pub begins-refused : (jobs : List Job) (last : ℕ) (marks : List ℕ) (search : Search) → search .count ≡ length jobs → search .last ≡ last

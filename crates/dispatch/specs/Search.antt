@@ -111,7 +111,7 @@ pub record Right (jobs : List Job) (last : ℕ) (marks : List ℕ) (search : Sea
 
 -- ---- what each function keeps
 
--- How many looks are left at most.
+-- A number that falls with each look: within a stage, and from one stage to the next, since there are at most eight jobs.
 abbrev pub leftInStage : Stage → (count next : ℕ) → ℕ
 leftInStage Sizes count next = 400 + (count - next)
 leftInStage Inside count next = 100 + (20 * (count - next) + 10)
@@ -119,7 +119,7 @@ leftInStage (Apart i held) count next = 100 + (20 * (count - i) + (count - next)
 leftInStage (Marks least) count next = 20 + (count - next)
 leftInStage (Tasks passed) count next = 1 + (count - passed)
 
--- The same of a search; none once it has its answer.
+-- The same of a search; 0 once it has its answer.
 unfoldable pub looksLeft : Search → ℕ
 looksLeft search =
     cond (ltb (search .next) (search .count)) (leftInStage (search .stage) (search .count) (search .next)) 0

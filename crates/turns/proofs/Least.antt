@@ -1,10 +1,9 @@
--- The search for the least number of which a test holds: what it finds, and a step of its loop. Assumes nothing.
+-- The search for the least number of which a test holds: what it finds, for one test and for either of two. Assumes nothing.
 use mathlib.Core.Path.{_≡_, refl, sym, ap, _∙_}
 use mathlib.Core.Logic.{⊎-elim}
-use mathlib.Core.Bool.{Bool, true, false, cond, true≢false}
-use Prim.Native.Nat.{ℕ, zero, suc, _+_, _-_, _<_, _≤_}
+use mathlib.Core.Bool.{Bool, true, false, _||_, cond, true≢false}
+use Prim.Native.Nat.{ℕ, zero, suc, _+_, _<_, _≤_, min}
 use native.Mathlib.Nat.{eq-or-lt-of-le}
-use native.Mathlib.Numerals.{add-one}
 use native.Mathlib.Omega.{arith}
 use lib.Dec.{ltb}
 use borrow.Author.Tests.{ltb-false}
@@ -16,8 +15,6 @@ pub clash : {A : Type 0} {a : Bool} → a ≡ true → a ≡ false → A
 clash p q = absurd (true≢false (sym p ∙ q))
 
 module _ (test : ℕ → Bool) where
-  -- ---- what is found
-
   -- The search ends at i or later,
   pub least-from : (i n : ℕ) → i ≤ leastFrom test i n
   unfolding leastFrom
@@ -86,17 +83,25 @@ module _ (test : ℕ → Bool) where
       (lt-or-ge x w))
       (lt-or-ge w x)
 
-  -- ---- a step of the loop over i below n
-
-  pub least-here : (i n : ℕ) → i < n → test i ≡ true → leastFrom test i (n - i) ≡ i
-  unfolding leastFrom
-  least-here i n h e = let q : n - i ≡ suc (n - (i + 1)) = omega arith in rw (q, e)
-
-  pub least-further : (i n : ℕ) → i < n → test i ≡ false
-      → leastFrom test i (n - i) ≡ leastFrom test (i + 1) (n - (i + 1))
-  unfolding leastFrom
-  least-further i n h e = let q : n - i ≡ suc (n - (i + 1)) = omega arith in rw (q, e, add-one)
-
-  pub least-end : (i n : ℕ) → n ≤ i → leastFrom test i (n - i) ≡ i
-  unfolding leastFrom
-  least-end i n h = let q : n - i ≡ 0 = omega arith in rw q
+-- The least number of which one of two tests holds is the lesser of the least of each.
+pub least-either : (f g either : ℕ → Bool) (n : ℕ) → ((k : ℕ) → either k ≡ (f k || g k))
+    → min (leastFrom f 0 n) (leastFrom g 0 n) ≡ leastFrom either 0 n
+least-either f g either n is =
+    let a = leastFrom f 0 n in
+    let b = leastFrom g 0 n in
+    let a-most = least-most f 0 n in
+    let b-most = least-most g 0 n in
+    sym
+    (least-is either n (min a b) (omega arith)
+    (λ k h. rw (is k, least-below f 0 n k (omega arith) (omega arith), least-below g 0 n k (omega arith) (omega arith)))
+    (λ h.
+    ⊎-elim
+    (λ (l : a < b). let e : min a b ≡ a = omega arith in rw (e, is a, least-holds f 0 n (omega arith)))
+    (λ (l : b ≤ a).
+    let e : min a b ≡ b = omega arith in
+    rw (e, is b, least-holds g 0 n (omega arith)) (or-true (f b)))
+    (lt-or-ge a b)))
+  where
+    or-true : (x : Bool) → (x || true) ≡ true
+    or-true true = refl
+    or-true false = refl
