@@ -34,9 +34,10 @@ def read(path):
 files = []
 for folder, dirs, names in os.walk("crates"):
     dirs[:] = sorted(d for d in dirs if d != "out")
-    files += [os.path.join(folder, n) for n in sorted(names) if n.endswith((".rt", ".antt", ".edit"))]
+    files += [os.path.join(folder, n) for n in sorted(names) if n.endswith((".rt", ".antt"))]
 is_proof = lambda p: os.path.basename(p) == "Proof.antt"
 text = {p: read(p) for p in files}
+crates = set(os.listdir("crates"))
 
 declared, fields, types = set(), set(), set()
 for p in files:
@@ -71,6 +72,19 @@ for p in files:
         functions |= {f.replace("_", "-") for f in re.findall(r"\bfn\s+(\w+)", text[p])}
 
 
+def kit_imports(path):
+    """Where a file imports from the kit's library, and the names that it has from there: one of the repository's may be spelled alike."""
+    spans, found = [], set()
+    for m in re.finditer(r"^(?:ghost )?use ([^{\s;]+)\.\{(.*?)\}", text[path], re.M | re.S):
+        parts = m.group(1).split(".")
+        if parts[0] != "Rattle" or parts[1] not in crates:
+            spans.append(m.span())
+            for it in m.group(2).split(","):
+                if " as " not in it:
+                    found |= set(TOKEN.findall(it))
+    return spans, found
+
+
 def local_names(path):
     """Names with a dash or in camel case that are bound within a file: neither declared nor imported."""
     body = re.sub(r"--.*", "", text[path])
@@ -89,7 +103,8 @@ def local_names(path):
 
 def turn(path):
     t = text[path]
-    names = dict(turned)
+    spans, kits = kit_imports(path)
+    names = {n: new for n, new in turned.items() if n not in kits}
     if path.endswith(".antt") and not is_proof(path):
         names |= local_names(path)
 
@@ -97,6 +112,8 @@ def turn(path):
         n = m.group(0)
         new = names.get(n)
         if new is None:
+            return n
+        if any(a <= m.start() < b for a, b in spans):
             return n
         before = t[: m.start()]
         if n in together and path.endswith(".rt"):

@@ -3,7 +3,7 @@ use mathlib.Core.Path.{◌≡◌, refl, sym, ap, ap₂, ◌∙◌}
 use mathlib.Core.Bool.{Bool, true, false, true≢false}
 use mathlib.Core.List.{List}
 use Prim.Native.Nat.{ℕ, zero, suc, ◌+◌, ◌-◌, ◌*◌, ◌≤◌, ◌<◌}
-use native.Mathlib.Nat.{mul_zero, mul_add, mul_comm}
+use native.Mathlib.Nat.{mul-zero, mul-add, mul_comm}
 use native.Mathlib.Omega.{arith}
 use lib.IntN.{ℤ, pos, neg_ℤ, ◌+ℤ◌, ◌-ℤ◌, +ℤ_idl, +ℤ_idr, +ℤ_assoc, +ℤ_comm, neg_ℤ-+ℤ}
 use Rattle.number.specs.Numbers.{total, one}
@@ -33,11 +33,11 @@ less_both y x p q =
 sum_less : (each : ℕ) (x y : ℕ → ℤ) (f : ℕ → ℕ) → ((k : ℕ) → x k ≡ y k -ℤ pos (each * f k))
     → (n : ℕ) → signed_sum_of n x ≡ signed_sum_of n y -ℤ pos (each * total f n)
 unfolding signed_sum_of total
-sum_less each x y f e zero = rw (mul_zero each)
+sum_less each x y f e zero = rw (mul-zero each)
 sum_less each x y f e (suc n) =
     ap₂ ◌+ℤ◌ (sum_less each x y f e n) (e n)
     ∙ less_both (signed_sum_of n y) (y n) (each * total f n) (each * f n)
-    ∙ ap (λ (z : ℕ). (signed_sum_of n y +ℤ y n) -ℤ pos z) (sym (mul_add each (total f n) (f n)))
+    ∙ ap (λ (z : ℕ). (signed_sum_of n y +ℤ y n) -ℤ pos z) (sym (mul-add each (total f n) (f n)))
 
 sum_of_zeros : (z : ℕ → ℤ) (n : ℕ) → ((k : ℕ) → k < n → z k ≡ pos 0) → signed_sum_of n z ≡ pos 0
 unfolding signed_sum_of

@@ -3,7 +3,7 @@ use mathlib.Core.Path.{◌≡◌, refl, sym, ap, ◌∙◌, subst}
 use mathlib.Core.List.{List}
 use mathlib.Core.Logic.{⊎_elim}
 use Prim.Native.Nat.{ℕ, zero, suc, ◌-◌, ◌*◌, ◌≤◌, ◌^◌}
-use native.Mathlib.Nat.{one_mul, mul-pos, mul_assoc, mul_comm, eq-zero-or-pos}
+use native.Mathlib.Nat.{one-mul, mul-pos, mul_assoc, mul_comm, eq-zero-or-pos}
 use native.Mathlib.Omega.{arith}
 use lib.IntN.{ℤ, pos, ◌+ℤ◌}
 use Rattle.refusal.specs.Refusals.{Answer, accepted, refused}
@@ -116,7 +116,7 @@ module _ (top left bottom right : ℕ) where
   ones_counted =
       let rows = bottom - top in
       sym
-      (ap (λ (z : ℤ). signed_sum_of (right - left) (λ k. z)) (same_sum 1 rows ∙ ap pos (one_mul rows))
+      (ap (λ (z : ℤ). signed_sum_of (right - left) (λ k. z)) (same_sum 1 rows ∙ ap pos (one-mul rows))
       ∙ same_sum rows (right - left))
 
   empty_if_none : top ≤ bottom → left ≤ right → pixel_count top left bottom right ≡ 0 → Empty top left bottom right

@@ -1,7 +1,7 @@
 -- A quantity by the tests that are made of it; what the calls answer, by what the rectangle sum answers. Assumes
 -- nothing.
 use mathlib.Core.Path.{◌≡◌, refl, sym, ap}
-use mathlib.Core.Bool.{Bool, true, false, ◌||◌, cond, or_true}
+use mathlib.Core.Bool.{Bool, true, false, ◌||◌, cond, or-true}
 use mathlib.Core.List.{List}
 use Prim.Native.Nat.{ℕ, ◌*◌, ◌≤◌}
 use native.Mathlib.Nat.{mul-le-mul}
@@ -50,7 +50,7 @@ module _ (quantity : Quantity) (sum : ℤ) (top left bottom right : ℕ) where
 
   pub value_no_column : left ≡ right → quantity_value quantity sum top left bottom right ≡ vacant
   unfolding quantity_value
-  value_no_column e = rw (eq-eqb left right e, or_true (eqb top bottom))
+  value_no_column e = rw (eq-eqb left right e, or-true (eqb top bottom))
 
   pub value_not_empty : (top ≡ bottom → ⊥) → (left ≡ right → ⊥)
       → quantity_value quantity sum top left bottom right ≡ non_empty_value quantity sum (pixel_count top left bottom right)

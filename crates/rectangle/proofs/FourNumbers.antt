@@ -1,7 +1,7 @@
 -- What the call answers to its four numbers. Assumes nothing.
 use mathlib.Core.Path.{◌≡◌, sym}
 use Prim.Native.Nat.{ℕ, ◌-◌, ◌*◌}
-use native.Mathlib.Nat.{zero_mul, mul_zero}
+use native.Mathlib.Nat.{zero-mul, mul-zero}
 use native.Mathlib.Omega.{arith}
 use Rattle.passes.specs.Table.{rectangle_sum}
 use Rattle.passes.proofs.Table.{no_row_sum, no_column_sum}
@@ -12,8 +12,8 @@ use Rattle.rectangle.proofs.SumAnswers.{accepted_when, refused_when, given_refus
 use Rattle.rectangle.proofs.Heights.{sums_at_ends}
 
 pub no_pixels : (top left bottom right : ℕ) → Empty top left bottom right → (bottom - top) * (right - left) ≡ 0
-no_pixels top left bottom right (no_row e) = let none : bottom - top ≡ 0 = omega arith in rw none (zero_mul (right - left))
-no_pixels top left bottom right (no_column e) = let none : right - left ≡ 0 = omega arith in rw none (mul_zero (bottom - top))
+no_pixels top left bottom right (no_row e) = let none : bottom - top ≡ 0 = omega arith in rw none (zero-mul (right - left))
+no_pixels top left bottom right (no_column e) = let none : right - left ≡ 0 = omega arith in rw none (mul-zero (bottom - top))
 
 empty_sum : (S : ℕ → ℕ → ℕ) (top left bottom right : ℕ) → Empty top left bottom right
     → rectangle_sum S top left bottom right ≡ 0

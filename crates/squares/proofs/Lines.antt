@@ -5,7 +5,7 @@ use mathlib.Core.Logic.{◌≢◌}
 use Prim.Native.Nat.{ℕ, zero, suc, ◌+◌, ◌-◌, ◌<◌, ◌≤◌}
 use native.Mathlib.Omega.{arith}
 use native.Mathlib.Decide.{dec_lt}
-use native.Mathlib.Nat.{zero_add}
+use native.Mathlib.Nat.{zero-add}
 use borrow.Author.Tests.{lt-ltb, le-ltb}
 use lib.ListN.{length}
 use Rattle.plan.specs.Rules.{order_limit}
@@ -138,14 +138,14 @@ module _ (filters : ℕ → Filter) (places t m : ℕ) (before : List ℕ) where
                   let more : (m + 1) - s ≡ suc (m - s) = omega arith in
                   let here : t + s + (m - s) ≡ t + m = omega arith in
                   ap (λ z. word_at z (row_major row_words l (order_limit + i))) e
-                  ∙ ap (λ z. word_at passed (row_major row_words z (order_limit + i))) (sym (zero_add l))
+                  ∙ ap (λ z. word_at passed (row_major row_words z (order_limit + i))) (sym (zero-add l))
                   ∙ now.at l i in_rows c
                   ∙ filter_line_reads (direction_of (t + m)) (filters (t + m)) places _ _ _ _
                   (λ k q.
-                  ap (λ z. word_at b (row_major row_words z (beyond (direction_of (t + m)) order_limit places k))) (zero_add l)
+                  ap (λ z. word_at b (row_major row_words z (beyond (direction_of (t + m)) order_limit places k))) (zero-add l)
                   ∙ held.beside (direction_of (t + m)) l k (omega (arith, fit.order_limited (t + m) h)))
                   (λ j q.
-                  ap (λ z. word_at b (row_major row_words z (order_limit + j))) (zero_add l)
+                  ap (λ z. word_at b (row_major row_words z (order_limit + j))) (zero-add l)
                   ∙ held.at s l j early
                   (record {
                     not_before = joins.not_before;

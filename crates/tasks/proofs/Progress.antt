@@ -1,7 +1,7 @@
 -- One more task done: what is then done, counted and shown; and what any number of ready tasks keeps. Assumes nothing.
 use mathlib.Core.Path.{◌≡◌, refl, sym, ap, ◌∙◌}
 use mathlib.Core.Logic.{◌⊎◌, inl, inr, ⊎_elim, ◌≢◌}
-use mathlib.Core.Bool.{Bool, true, false, ◌&&◌, ◌||◌, or-false, or_true, true≢false}
+use mathlib.Core.Bool.{Bool, true, false, ◌&&◌, ◌||◌, or-false, or-true, true≢false}
 use mathlib.Core.List.{List}
 use Prim.Native.Nat.{ℕ, ◌+◌, ◌*◌, ◌^◌, ◌<◌, ◌≤◌}
 use native.Mathlib.Omega.{arith}
@@ -25,7 +25,7 @@ use Rattle.tasks.proofs.Marking.{mark_same}
 module _ (done : ℕ → ℕ → Bool) (t k : ℕ) where
   pub also_new : also_done done t k t k ≡ true
   unfolding also_done
-  also_new = rw (eq-eqb t t refl, eq-eqb k k refl) (or_true (done t k))
+  also_new = rw (eq-eqb t t refl, eq-eqb k k refl) (or-true (done t k))
 
   pub also_kept : (u j : ℕ) → done u j ≡ true → also_done done t k u j ≡ true
   unfolding also_done

@@ -4,7 +4,7 @@ use mathlib.Core.Path.{◌≡◌, refl, ap, sym, ◌∙◌}
 use Prim.Native.Nat.{ℕ, ◌+◌, ◌*◌, ◌<◌, ◌≤◌}
 use native.Mathlib.Omega.{arith}
 use native.Mathlib.Numerals.{add-one}
-use native.Mathlib.Nat.{zero_add}
+use native.Mathlib.Nat.{zero-add}
 use lib.ListN.{length}
 use Rattle.plan.specs.Rules.{order_limit}
 use Rattle.buffer.specs.Lists.{word_at}
@@ -160,7 +160,7 @@ module _ (filters : ℕ → Filter) (course : Course) (H : ℕ → ℕ → ℕ �
             filter_line (direction_of v) (filters v) course.lines
             (λ k. row_end filters course.places course.pass (index_at course place) (λ j. H v j k))
             (λ y. crossed_to pass y (index_at course place)) line)
-            (sym (zero_add pass));
+            (sym (zero-add pass));
       })
 
   pub cross_all : {pass : ℕ} {buffer : List ℕ} → CourseFits course → Held course (crossed_to pass) buffer

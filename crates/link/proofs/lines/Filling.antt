@@ -6,7 +6,7 @@ use mathlib.Core.Path.{◌≡◌, refl, ap, ap₂, sym, ◌∙◌}
 use Prim.Native.Nat.{ℕ, ◌+◌, ◌-◌, ◌*◌, ◌<◌, ◌≤◌}
 use native.Mathlib.Decide.{dec_lt}
 use native.Mathlib.Omega.{arith}
-use native.Mathlib.Nat.{add-zero, sub_zero, mul-le-mul_right}
+use native.Mathlib.Nat.{add-zero, sub-zero, mul-le-mul_right}
 use borrow.Author.Tests.{lt-ltb, le-ltb}
 use lib.ListN.{length}
 use Rattle.word.specs.Word.{◌⊗◌}
@@ -191,7 +191,7 @@ lines_ready filters course H fits orders {before} {after} filled lined =
           ∙ ap₂ (λ P x. line_passes filters course.places P x (course.first + 0) (course.passes - 0) i)
           (strip_history course H pass k h) (strip_input course H pass k h)
           ∙ ap₂ (λ t m. line_passes filters course.places (λ v k. 0) (λ j. H pass j k) t m i)
-          (add-zero course.first ∙ fits.first_is) (sub_zero course.passes ∙ fits.passes_are);
+          (add-zero course.first ∙ fits.first_is) (sub-zero course.passes ∙ fits.passes_are);
       squares = λ pass k i h b c d.
           let s : ℕ = pass - course.first in
           let at : course.first + s ≡ pass = omega arith in
