@@ -6,6 +6,7 @@
 // past the limits below is not looked at. A job that needs more marks or strips than there is room for is refused by 7 or 14 at
 // its start; with too many pixels, or heights missing, each call of a task is refused by 15 and none is accepted, so that no
 // block is collected and each recall is refused too.
+#![tactic(auto)]
 ghost use Rattle.std.specs.Prelude.{◌≤◌, length};
 
 use libc::{STDIN_FILENO, STDOUT_FILENO};

@@ -1,5 +1,6 @@
 // Collect and finish: the passes over one block, in a work array with a margin of words around the block.
 // An inner crate: what its functions require, their callers in this repository show.
+#![tactic(auto)]
 ghost use Rattle.std.specs.Prelude.{◌≡◌, ◌+◌, ◌<◌, ◌≤◌, length};
 ghost use Rattle.axis.specs.Axis.{axis_of, direction_of};
 ghost use Rattle.filter.specs.FilterWords.{filter_with};
@@ -31,7 +32,7 @@ const LINE_HEIGHTS: usize = 16;
 const LINE_PAIRS: usize = 8;
 
 // The rows of a rectangle in a buffer: where the first begins, and how far apart they begin.
-#[derive(Drop)]
+#[derive(Clone, Copy)]
 struct Rows {
     start: usize,
     stride: usize,

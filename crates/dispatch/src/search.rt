@@ -12,7 +12,7 @@ use turns::{DispatchAnswer, Job, Turn};
 pub const JOB_LIMIT: usize = 8;
 
 // What is looked at of a job.
-#[derive(Drop)]
+#[derive(Clone, Copy)]
 pub enum Stage {
     // Its sizes.
     Sizes,
@@ -28,7 +28,7 @@ pub enum Stage {
 
 // How far a call has come. There are `count` jobs and `size` common marks, and `last` was named last. Looked at next is job
 // `next`; where that is past the list, nothing is left to look at, and the answer stands.
-#[derive(Drop)]
+#[derive(Clone, Copy)]
 pub struct Search {
     pub count: usize,
     pub last: usize,

@@ -1,4 +1,5 @@
 // The number of dropouts of the laser in a rectangle of a map.
+#![tactic(auto)]
 ghost use Rattle.std.specs.Prelude.{◌≡◌, ◌+◌, ◌≤◌, length};
 ghost use Rattle.plan.specs.Sizes.{needed_pixels};
 ghost use Rattle.rectangle.specs.Rectangle.{Inside};
@@ -9,7 +10,7 @@ use plan::{BufferOf7, Length, Lengths, Plan};
 use refusal::{Outcome, Refusal};
 
 // The count, or why there is none.
-#[derive(Drop)]
+#[derive(Clone, Copy)]
 pub enum DropoutCount {
     Count(usize),
     Refused(Refusal),

@@ -1,5 +1,6 @@
 // The kernel of every pass: one recursive filter over the lines of a window of a buffer, in place.
 // An inner crate: what its functions require, their callers in this repository show.
+#![tactic(auto)]
 ghost use Rattle.std.specs.Prelude.{◌≡◌, cond, ◌&&◌, leb, ltb, ◌+◌, ◌-◌, ◌*◌, ◌^◌, ◌<◌, ◌≤◌, length};
 ghost use Rattle.word.specs.Word.{residue};
 ghost use Rattle.plan.specs.Rules.{order_limit};
@@ -13,7 +14,7 @@ ghost use Rattle.filter.specs.Kernel.{feedback_from, output_at, next_output_at, 
 ghost use Rattle.filter.specs.Windows.{window_lines, window_pass, window_scaled, WindowFits};
 
 // A filter: the gain and the coefficients of a pass as residues modulo 2^64.
-#[derive(Drop)]
+#[derive(Clone, Copy)]
 pub struct FilterWords {
     pub gain: u64,
     pub order: usize,
@@ -21,7 +22,7 @@ pub struct FilterWords {
 }
 
 // A rectangle of a buffer of rows of `stride` words.
-#[derive(Drop)]
+#[derive(Clone, Copy)]
 pub struct Window {
     pub stride: usize,
     pub top: usize,
@@ -32,7 +33,7 @@ pub struct Window {
 
 // Lines in a buffer: the first begins at `first`, each other lies `apart` above the one before, and each place of a
 // line lies `forth` above the one before, or `back` below it.
-#[derive(Drop)]
+#[derive(Clone, Copy)]
 struct Lines {
     first: usize,
     forth: usize,

@@ -1,5 +1,6 @@
 // The blocks of a map: how many, where each lies, and its neighbours along a pass. The one geometry of the library.
 // What a function requires, its callers in this repository show.
+#![tactic(auto)]
 ghost use Rattle.std.specs.Prelude.{◌≡◌, ◌<◌, true};
 ghost use Rattle.axis.specs.Axis.{direction_of};
 ghost use Rattle.grid.specs.Grid.{block_count, block_extent, grid_kept, block_rows_of, block_columns_of, block_total, block_height, block_width, block_area, line_count, has_after, neighbour};
@@ -12,7 +13,7 @@ pub const SIZE_LIMIT: usize = 4096;
 pub const SIDE_LIMIT: usize = 32;
 
 // A map of rows and columns, cut into blocks of a side.
-#[derive(Drop)]
+#[derive(Clone, Copy)]
 pub struct Grid {
     pub rows: usize,
     pub columns: usize,
@@ -20,14 +21,14 @@ pub struct Grid {
 }
 
 // Where a block stands among the blocks: its row and its column of blocks.
-#[derive(Drop)]
+#[derive(Clone, Copy)]
 pub struct Position {
     pub row: usize,
     pub column: usize,
 }
 
 // Where a block's first pixel stands in a row-major map, and the block's extent.
-#[derive(Drop)]
+#[derive(Clone, Copy)]
 pub struct BlockShape {
     pub start: usize,
     pub rows: usize,
@@ -35,7 +36,7 @@ pub struct BlockShape {
 }
 
 // The block that a pass comes from, or none where the map ends.
-#[derive(Drop)]
+#[derive(Clone, Copy)]
 pub enum Neighbour {
     Block(usize),
     Beyond,
@@ -43,7 +44,7 @@ pub enum Neighbour {
 
 // A block among the blocks in line with it, along a pass: its number, whether another follows it in map order, and how far
 // apart their block numbers lie.
-#[derive(Drop)]
+#[derive(Clone, Copy)]
 struct BlockLine {
     index: usize,
     followed: bool,

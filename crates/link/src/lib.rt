@@ -2,6 +2,7 @@
 // the passes run along the unit histories of each pass, along the few lines past the block's edges, and over their ends. They
 // run with gain 1; the words past an edge take the gains of the passes after their own, up to the link's.
 // An inner crate: what its functions require, their callers in this repository show.
+#![tactic(auto)]
 mod ahead;
 mod carrying;
 mod crossing;
@@ -44,7 +45,7 @@ pub fn link(plan: Plan, k: usize, pass: usize, strips: &mut [u64])
 
 // The passes along the axis of a link, `passes` of them from `first` on; the lines that they run along and the places of each;
 // and the column, in a row of lines, of the first place of the strip.
-#[derive(Drop)]
+#[derive(Clone, Copy)]
 pub struct Course {
     pub pass: usize,
     pub first: usize,

@@ -1,4 +1,5 @@
 // Quantities of a rectangle as macro variables of a control: its total, and its number of pixels.
+#![tactic(auto)]
 ghost use Rattle.std.specs.Prelude.{◌≡◌};
 ghost use Rattle.rectangle.specs.Rectangle.{sum_given};
 ghost use Rattle.macro_values.specs.MacroValues.{float_of, total_value, quantity_value, value_by_sum, macro_call, pair_by_sum, pair_call, variable_of, value_given, pair_given};
@@ -10,7 +11,7 @@ use rectangle::RectangleSum;
 use refusal::Outcome;
 
 // A macro variable: vacant, the control's state for no value, or a quantity as a float that equals the whole number.
-#[derive(Drop)]
+#[derive(Clone, Copy)]
 pub enum Macro {
     Vacant,
     Total(f64),
@@ -18,28 +19,28 @@ pub enum Macro {
 }
 
 // Which quantity of a rectangle is wanted.
-#[derive(Drop)]
+#[derive(Clone, Copy)]
 pub enum Quantity {
     Total,
     Pixels,
 }
 
 // The variable that was read, and whether the call was accepted; vacant beside a refusal.
-#[derive(Drop)]
+#[derive(Clone, Copy)]
 pub struct MacroRead {
     pub outcome: Outcome,
     pub value: Macro,
 }
 
 // Both quantities of one rectangle.
-#[derive(Drop)]
+#[derive(Clone, Copy)]
 pub struct MacroPair {
     pub total: Macro,
     pub pixels: Macro,
 }
 
 // The pair that was read, and whether the call was accepted; both are vacant beside a refusal.
-#[derive(Drop)]
+#[derive(Clone, Copy)]
 pub struct PairRead {
     pub outcome: Outcome,
     pub pair: MacroPair,

@@ -1,5 +1,6 @@
 // The plan record, its check, the lengths of the buffers that a job needs, and the tests of record and lengths that every
 // call begins with.
+#![tactic(auto)]
 ghost use Rattle.std.specs.Prelude.{◌≡◌, true, cond, ◌<◌, ◌≤◌};
 ghost use Rattle.refusal.specs.declared.Refusal.TheVariants.{BufferTooShort};
 ghost use Rattle.refusal.specs.Refusals.{accepted, refused_for};
@@ -28,7 +29,7 @@ pub const WORD_LIMIT: usize = FIXED_WORDS + ORDER_SUM_LIMIT;
 pub const PADDED_LINE: usize = grid::SIDE_LIMIT + 2 * ORDER_LIMIT;
 
 // One pass: its order, its gain and its coefficients, zero past the order.
-#[derive(Drop)]
+#[derive(Clone, Copy)]
 pub struct Pass {
     pub order: usize,
     pub gain: i64,
@@ -36,14 +37,14 @@ pub struct Pass {
 }
 
 // A plan (document 01's term): the size of the map and the block side, and the passes down, up, right and left.
-#[derive(Drop)]
+#[derive(Clone, Copy)]
 pub struct Plan {
     pub grid: Grid,
     pub passes: [Pass; 4],
 }
 
 // What a plan needs: its own words, the block counts, the lengths of marks, strips and map, and the number of tasks.
-#[derive(Drop)]
+#[derive(Clone, Copy)]
 pub struct Sizes {
     pub words: usize,
     pub block_rows: usize,
@@ -54,14 +55,14 @@ pub struct Sizes {
     pub tasks: usize,
 }
 
-#[derive(Drop)]
+#[derive(Clone, Copy)]
 pub enum PlanSizes {
     Known(Sizes),
     Refused(Refusal),
 }
 
 // The length of a buffer that a call may be lent.
-#[derive(Drop)]
+#[derive(Clone, Copy)]
 pub enum Length {
     NotLent,
     Of(usize),
@@ -69,7 +70,7 @@ pub enum Length {
 
 // Which of the three buffers that 7 is for a call is lent, and its length: the words that a plan is written to, the
 // marks, or the table of a rectangle; or none of them.
-#[derive(Drop)]
+#[derive(Clone, Copy)]
 pub enum BufferOf7 {
     NoneOf7,
     Words(usize),
@@ -78,7 +79,7 @@ pub enum BufferOf7 {
 }
 
 // The lengths of the buffers that a call is lent, in the order in which they are tested.
-#[derive(Drop)]
+#[derive(Clone, Copy)]
 pub struct Lengths {
     pub of7: BufferOf7,
     pub strips: Length,

@@ -1,4 +1,5 @@
 // Reads a plan from its words.
+#![tactic(auto)]
 ghost use Rattle.std.specs.Prelude.{◌≡◌, ◌+◌, ◌<◌, ◌≤◌, ◌%◌};
 ghost use Rattle.refusal.specs.Table.{first_due, answer_of};
 ghost use Rattle.plan.specs.Rules.{order_limit};
@@ -15,7 +16,7 @@ use refusal::{Outcome, Refusal};
 pub const END_KIND: u32 = 6;
 
 // The plan that was read, or a plan of zeros beside a refusal.
-#[derive(Drop)]
+#[derive(Clone, Copy)]
 pub struct PlanRead {
     pub outcome: Outcome,
     pub plan: Plan,

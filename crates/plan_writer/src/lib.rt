@@ -1,4 +1,5 @@
 // Writes a plan as its words.
+#![tactic(auto)]
 ghost use Rattle.std.specs.Prelude.{◌≡◌, true, ◌+◌, ◌*◌, ◌<◌, ◌≤◌, [], ◌∷◌, length};
 ghost use Rattle.std.proofs.lemmas.List.Edits.{sets};
 ghost use Rattle.grid.specs.Grid.{size_limit, side_limit};
@@ -12,7 +13,7 @@ use plan::{BufferOf7, Pass, Plan, PlanSizes};
 use refusal::Refusal;
 
 // How many words were written, or why none was.
-#[derive(Drop)]
+#[derive(Clone, Copy)]
 pub enum PlanWritten {
     Words(usize),
     Refused(Refusal),

@@ -1,4 +1,5 @@
 // The sum over a rectangle of a summed-area table.
+#![tactic(auto)]
 ghost use Rattle.std.specs.Prelude.{◌≡◌, [], ◌∷◌, ◌≤◌, length};
 ghost use Rattle.refusal.specs.Table.{◌at◌when◌, first_due, answer_of};
 ghost use Rattle.plan.specs.Sizes.{needed_pixels};
@@ -10,7 +11,7 @@ use plan::{BufferOf7, Lengths, Plan, PlanSizes};
 use refusal::{Outcome, Refusal};
 
 // The sum, or why there is none.
-#[derive(Drop)]
+#[derive(Clone, Copy)]
 pub enum RectangleSum {
     Sum(i64),
     Refused(Refusal),

@@ -1,10 +1,11 @@
 // The one refusal type of the library, by the numbers of documents 01 and 02.
+#![tactic(auto)]
 ghost use Rattle.std.specs.Prelude.{◌≡◌, cond, ltb};
 ghost use Rattle.refusal.specs.Refusals.{number_of, place_of, accepted, refused_for};
 ghost use Rattle.refusal.specs.Table.{answer_of, first_of};
 
 // Why a call was refused. A case holds the place that goes with it where the place varies.
-#[derive(Drop)]
+#[derive(Clone, Copy)]
 pub enum Refusal {
     WordsEndEarly(usize),
     AnotherKindDue(usize),
@@ -29,14 +30,14 @@ pub enum Refusal {
 }
 
 // Whether a call was accepted.
-#[derive(Drop)]
+#[derive(Clone, Copy)]
 pub enum Outcome {
     Accepted,
     Refused(Refusal),
 }
 
 // What the documents return for a refusal: its number, and the place beside it.
-#[derive(Drop)]
+#[derive(Clone, Copy)]
 pub struct Reason {
     pub number: u32,
     pub place: usize,

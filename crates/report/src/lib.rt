@@ -1,5 +1,6 @@
 // The report on a job's marks: how many tasks are marked, the tally, and the first ready task. What the searches require,
 // their callers in this repository show.
+#![tactic(auto)]
 ghost use Rattle.std.specs.Prelude.{◌≡◌, ◌<◌, length};
 ghost use Rattle.tasks.specs.Counts.{done_at};
 ghost use Rattle.tasks.specs.Marks.{is_marked};
@@ -14,28 +15,28 @@ use plan::{BufferOf7, Plan, PlanSizes};
 use refusal::Refusal;
 
 // The ready task with the least number, then the least block: its task and its block.
-#[derive(Drop)]
+#[derive(Clone, Copy)]
 pub enum Next {
     Ready(usize, usize),
     Nothing,
 }
 
 // How many tasks are marked, the tally, and the task to do next.
-#[derive(Drop)]
+#[derive(Clone, Copy)]
 pub struct Progress {
     pub marked: usize,
     pub tally: usize,
     pub next: Next,
 }
 
-#[derive(Drop)]
+#[derive(Clone, Copy)]
 pub enum ReportAnswer {
     Refused(Refusal),
     Made(Progress),
 }
 
 // How many tasks of all blocks are marked, and the tally of all blocks.
-#[derive(Drop)]
+#[derive(Clone, Copy)]
 struct Sums {
     marked: usize,
     tally: usize,

@@ -1,5 +1,6 @@
 // The four passes over a whole map of heights or of words, in the lent output and in two sweeps through it: down from the
 // top, and up from the bottom with right and left behind it.
+#![tactic(auto)]
 ghost use Rattle.std.specs.Prelude.{◌≡◌, true, ◌++◌, ◌+◌, ◌<◌, ◌≤◌, length, drop};
 ghost use Rattle.refusal.specs.Table.{answer_of};
 ghost use Rattle.plan.specs.Rules.{keeps_rules};
@@ -20,7 +21,7 @@ use refusal::Outcome;
 const BAND: usize = plan::ORDER_LIMIT;
 
 // Where a band lies in the map, and how many rows it has.
-#[derive(Drop)]
+#[derive(Clone, Copy)]
 struct Band {
     top: usize,
     height: usize,
@@ -28,7 +29,7 @@ struct Band {
 
 // What a lent map is of: heights, which the pixel reader makes words of, or words. A function that takes both lists and a
 // source reads the one of that source.
-#[derive(Drop)]
+#[derive(Clone, Copy)]
 enum Source {
     Heights,
     Words,

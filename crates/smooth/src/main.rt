@@ -1,4 +1,5 @@
 // Document 01's program: a whole job from standard input, little-endian words of the plan and then the heights.
+#![tactic(auto)]
 ghost use Rattle.std.specs.Prelude.{◌*◌, ◌≤◌, length};
 ghost use Rattle.smooth_job.specs.Program.{input_limit, cut_limit};
 

@@ -1,4 +1,5 @@
 // Document 01's program on its input: the tests, the plan, the heights, and the whole job. Reading and printing are left to main.
+#![tactic(auto)]
 ghost use Rattle.std.specs.Prelude.{◌≡◌, true, ◌+◌, ◌*◌, ◌/◌, ◌<◌, ◌≤◌, length, replicate};
 ghost use Rattle.plan.specs.Rules.{keeps_rules};
 ghost use Rattle.refusal.specs.Refusals.{number_of, place_of};
@@ -25,7 +26,7 @@ pub const INPUT_LIMIT: usize = 4 * (plan::WORD_LIMIT + PIXEL_LIMIT);
 pub const CUT_LIMIT: usize = INPUT_LIMIT + 7;
 
 // The size, the tasks marked and the tally, or zeros beside a refusal.
-#[derive(Drop)]
+#[derive(Clone, Copy)]
 pub struct Smoothed {
     pub outcome: Outcome,
     pub rows: usize,

@@ -1,5 +1,6 @@
 // Strips in code: where the strip of a pass of a block lies in the list of strips, and what is read there.
 // An inner crate: what its functions require, their callers in this repository show.
+#![tactic(auto)]
 ghost use Rattle.std.specs.Prelude.{◌≡◌, true, ◌<◌, ◌^◌};
 ghost use Rattle.axis.specs.Axis.{direction_of};
 ghost use Rattle.plan.specs.Rules.{keeps_rules};
@@ -12,7 +13,7 @@ use task_words::Half;
 
 // A strip of lines: the word at a line and a place stands at `start + line * line_step + place * place_step`. The lines
 // below `lines` and the places from `first` to before `past` lie in the block.
-#[derive(Drop)]
+#[derive(Clone, Copy)]
 pub struct Strip {
     pub start: usize,
     pub line_step: usize,

@@ -1,10 +1,11 @@
 // Several jobs on one control: the record of a job and what a turn names, whose turn it is, as definitions (specs/), and that
 // no job waits for more turns than there are jobs (proofs/). It has no code.
+#![tactic(auto)]
 use refusal::Refusal;
 
 // A job: the sizes of its plan, and where its marks start in the common list. C's `mzg_job` is the same four words of 64 bits.
 #[repr(C)]
-#[derive(Drop)]
+#[derive(Clone, Copy)]
 pub struct Job {
     pub rows: usize,
     pub columns: usize,
@@ -13,13 +14,13 @@ pub struct Job {
 }
 
 // What a turn names: a job with a task and its block, or none, since all jobs are done.
-#[derive(Drop)]
+#[derive(Clone, Copy)]
 pub enum Turn {
     Named(usize, usize, usize),
     EveryJobDone,
 }
 
-#[derive(Drop)]
+#[derive(Clone, Copy)]
 pub enum DispatchAnswer {
     Refused(Refusal),
     Made(Turn),
