@@ -1,5 +1,6 @@
 // The axis and the direction of a pass, by its number: passes 0 down, 1 up, 2 right and 3 left.
 #![tactic(auto)]
+
 ghost use Rattle.std.specs.Prelude.{◌≡◌};
 ghost use Rattle.axis.specs.Axis.{axis_of, direction_of, along, across, is_backward, if_forward, if_backward};
 

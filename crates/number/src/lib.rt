@@ -1,6 +1,7 @@
 // Numbers: the lesser of two, yes and no as 1 and 0, a number or 0 by a test, a range from 1 on, and words of a kind and a
 // payload.
 #![tactic(auto)]
+
 ghost use Rattle.std.specs.Prelude.{◌≡◌, cond, ltb, eqb, ◌<◌, min};
 ghost use Rattle.number.specs.Numbers.{within, one};
 ghost use Rattle.number.specs.KindWords.{payload_limit, kind_of, payload_of, word_of};

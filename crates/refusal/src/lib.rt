@@ -1,5 +1,6 @@
 // The one refusal type of the library, by the numbers of documents 01 and 02.
 #![tactic(auto)]
+
 ghost use Rattle.std.specs.Prelude.{◌≡◌, cond, ltb};
 ghost use Rattle.refusal.specs.Refusals.{number_of, place_of, accepted, refused_for};
 ghost use Rattle.refusal.specs.Table.{answer_of, first_of};

@@ -1,5 +1,6 @@
 // Words of 64 bits modulo 2^64: sum, difference, product, the residues of signed numbers, and words read as signed.
 #![tactic(auto)]
+
 ghost use Rattle.std.specs.Prelude.{◌≡◌};
 ghost use Rattle.word.specs.Word.{◌⊕◌, ◌⊖◌, ◌⊗◌, residue, signed};
 
