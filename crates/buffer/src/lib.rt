@@ -1,6 +1,7 @@
 // Words of lent buffers: copied, scaled, cleared, and read from heights, of which some are dropouts. An inner crate:
 // what its functions require, their callers in this repository show.
 #![tactic(auto)]
+
 ghost use Rattle.std.specs.Prelude.{◌≡◌, ◌+◌, ◌*◌, ◌≤◌, length};
 ghost use Rattle.buffer.specs.Pixel.{is_dropout, pixel};
 ghost use Rattle.buffer.specs.Copies.{WordsFit, words_from, scaled_from, heights_from};

@@ -1,6 +1,7 @@
 // The blocks of a map: how many, where each lies, and its neighbours along a pass. The one geometry of the library.
 // What a function requires, its callers in this repository show.
 #![tactic(auto)]
+
 ghost use Rattle.std.specs.Prelude.{◌≡◌, ◌<◌, true};
 ghost use Rattle.axis.specs.Axis.{direction_of};
 ghost use Rattle.grid.specs.Grid.{block_count, block_extent, grid_kept, block_rows_of, block_columns_of, block_total, block_height, block_width, block_area, line_count, has_after, neighbour};

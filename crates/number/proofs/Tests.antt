@@ -1,13 +1,13 @@
 -- Laws of conjunction and disjunction, of comparing, of a range, and of a test of every number below a bound. Assumes nothing.
 use mathlib.Core.Path.{◌≡◌, refl, sym, ap, ◌∙◌}
 use mathlib.Core.Logic.{◌⊎◌, inl, inr, ⊎_elim}
-use mathlib.Core.Bool.{Bool, true, false, not, ◌&&◌, ◌||◌, and-false, true≢false}
+use mathlib.Core.Bool.{Bool, true, false, ◌&&◌, ◌||◌, and-false, true≢false}
 use Prim.Native.Nat.{ℕ, zero, suc, ◌+◌, ◌<◌, ◌≤◌}
 use native.Mathlib.Omega.{arith}
 use native.Mathlib.Nat.{eq-or-lt_of_le}
 use native.Mathlib.Numerals.{add-one}
 use lib.Dec.{ltb, leb}
-use borrow.Author.Tests.{ltb-true, ltb-false, leb-true, not-true, not-false}
+use borrow.Author.Tests.{ltb-true, ltb-false, leb-true}
 use Rattle.number.specs.Numbers.{within, all_below}
 
 pub and_left : (a b : Bool) → (a && b) ≡ true → a ≡ true
@@ -46,13 +46,13 @@ lt_or_ge m n = by (ltb m n) refl where
   by true e = inl (ltb-true m n e)
   by false e = inr (ltb-false m n e)
 
--- The code's negated test of an answer, as the value of what the answer is.
+-- The code's test of an answer, as the value of what the answer is.
 module _ {answer value : Bool} (e : answer ≡ value) where
-  pub failed : not answer ≡ true → value ≡ false
-  failed t = sym e ∙ not-true answer t
+  pub failed : answer ≡ false → value ≡ false
+  failed t = sym e ∙ t
 
-  pub passed : not answer ≡ false → value ≡ true
-  passed t = sym e ∙ not-false answer t
+  pub passed : answer ≡ true → value ≡ true
+  passed t = sym e ∙ t
 
 module _ (test : ℕ → Bool) where
   pub all_none : all_below test 0 ≡ true

@@ -9,8 +9,7 @@ use mir.ValLaws.{to_z-of_z}
 use Rattle.number.proofs.Tests.{same_test}
 use Rattle.buffer.specs.Pixel.{is_dropout}
 use Rattle.buffer.proofs.Pixel.{dropout_is, is_dropout_law}
-use Rattle.buffer.proofs.is_dropout.Statement.{statement}
-use Rattle.buffer.proofs.is_dropout.Tie as tie
+use Rattle.buffer.proofs.is_dropout.Goals as goal
 
 by_bits : (z : ℤ) → SFits w32 z → eqb (of_z w32 z) 2147483648 ≡ is_dropout z
 by_bits z fits =
@@ -18,8 +17,5 @@ by_bits z fits =
     (λ same. is_dropout_law z (sym (to_z-of_z w32 z fits) ∙ ap (to_z w32) (eqb-true (of_z w32 z) 2147483648 same)))
     (λ same. eq-eqb (of_z w32 z) 2147483648 (ap (of_z w32) (dropout_is z same)))
 
-returns : tie.Need-returns
+pub returns : goal.returns
 returns c = by_bits c.args.height c.ranges.height
-
-pub is-dropout-spec : {M : Type 1} → statement M
-is-dropout-spec = tie.close (tie.spec returns)

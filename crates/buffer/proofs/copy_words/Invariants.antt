@@ -1,0 +1,17 @@
+-- `copy_words` has copied the words passed so far.
+use mathlib.Core.Path.{◌≡◌, refl, ◌∙◌}
+use Prim.Native.Nat.{◌-◌, ◌≤◌}
+use native.Mathlib.Omega.{arith}
+use borrow.Author.Rules.{rules}
+use lib.ListN.{length, length-set}
+use Rattle.buffer.specs.Copies.{words_from}
+use Rattle.buffer.specs.Written.{row_written}
+use Rattle.buffer.proofs.Copies.{row_none, row_more}
+use Rattle.buffer.proofs.copy_words.Given as goal
+
+abbrev pub invariant-loop-i : goal.invariant-loop-i
+invariant-loop-i l =
+    (l.i ≤ l.count) × (length l.to ≡ length l.initial.to) × (l.to ≡ row_written l.to_start (words_from l.from l.from_start) l.i l.initial.to)
+
+abbrev pub decreases-loop-i : goal.decreases-loop-i
+decreases-loop-i l = l.count - l.i
