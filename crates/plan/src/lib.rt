@@ -1,6 +1,7 @@
 // The plan record, its check, the lengths of the buffers that a job needs, and the tests of record and lengths that every
 // call begins with.
 #![tactic(auto)]
+
 ghost use Rattle.std.specs.Prelude.{◌≡◌, true, cond, ◌<◌, ◌≤◌};
 ghost use Rattle.refusal.specs.declared.Refusal.TheVariants.{BufferTooShort};
 ghost use Rattle.refusal.specs.Refusals.{accepted, refused_for};
