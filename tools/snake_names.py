@@ -8,7 +8,7 @@ A lemma or field whose name falls together with a definition's gets `_law` behin
 import collections, os, re, sys
 
 TOKEN = re.compile(r"[A-Za-zα-ωΑ-Ω_ℕℤ][\w'₀-₉′ℤ]*(?:-[\w'₀-₉′ℤ]+)*")
-HEAD = re.compile(r"^(\s*)((?:abbrev|unfoldable|pub|private|opaque|axiom|data|record|mod)\s+)*([^\s:(]+)((?:\s*\([^)]*\))*|(?:\s+[\w'-]+)*)\s*:\s")
+HEAD = re.compile(r"^(\s*)((?:abbrev|unfoldable|pub|private|opaque|axiom|data|record|mod)\s+)*([^\s:(]+)((?:\s*\([^)]*\))*|(?:\s+[\w'-]+)*)\s*:(?:\s|$)")
 # A definition that would be named as a field of a struct.
 GIVEN = {"lineStep": "line_step_of", "blockRows": "block_rows_of", "blockColumns": "block_columns_of"}
 
@@ -105,8 +105,8 @@ def turn(path):
     t = text[path]
     spans, kits = kit_imports(path)
     names = {n: new for n, new in turned.items() if n not in kits}
-    if path.endswith(".antt") and not is_proof(path):
-        names |= local_names(path)
+    bound = local_names(path) if path.endswith(".antt") and not is_proof(path) else {}
+    names |= bound
 
     def one(m):
         n = m.group(0)
@@ -116,6 +116,8 @@ def turn(path):
         if any(a <= m.start() < b for a, b in spans):
             return n
         before = t[: m.start()]
+        if n in bound and before.endswith("."):
+            return n
         if n in together and path.endswith(".rt"):
             return n
         if is_proof(path):

@@ -1,5 +1,6 @@
 // Reads a plan from its words.
 #![tactic(auto)]
+
 ghost use Rattle.std.specs.Prelude.{◌≡◌, ◌+◌, ◌<◌, ◌≤◌, ◌%◌};
 ghost use Rattle.refusal.specs.Table.{first_due, answer_of};
 ghost use Rattle.plan.specs.Rules.{order_limit};

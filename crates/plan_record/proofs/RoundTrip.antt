@@ -10,9 +10,9 @@ use Rattle.plan.specs.declared.Plan.{Plan}
 use Rattle.plan.specs.Rules.{order_limit, pass_at, keeps_rules}
 use Rattle.plan.proofs.Record.{rules}
 use Rattle.buffer.specs.Lists.{joined, number_at}
-use Rattle.buffer.proofs.Listed.{listed-only}
+use Rattle.buffer.proofs.Listed.{listed_only}
 use Rattle.buffer.proofs.Joined.{joined_at}
-use Rattle.plan_reader.proofs.RecordParts.{same-pass, same_plan}
+use Rattle.plan_reader.proofs.RecordParts.{same_pass, same_plan}
 use Rattle.plan_writer.specs.RecordType.{WellShaped}
 use Rattle.plan_record.specs.Records.{pass_length, pass_start, size_from, pass_of_record, plan_of_record, number_from, record_of_pass, record_of_passes, record_of_plan}
 use Rattle.plan_record.proofs.RecordWords.{number_held}
@@ -53,10 +53,10 @@ module _ (plan : Plan) (shape : WellShaped plan) where
     pass_back i h =
         let e : pass_start i + 0 ≡ pass_start i = omega arith in
         sym
-        (same-pass
+        (same_pass
         (size_back (pass_at plan i).order (small i h) (rw e at (record_word i 0 h (omega arith))))
         (record_word i 1 h (omega arith))
-        (sym (listed-only _ (pass_at plan i).coefficients order_limit (pos 0) (shape.place_count i h)
+        (sym (listed_only _ (pass_at plan i).coefficients order_limit (pos 0) (shape.place_count i h)
         (λ j m.
         let f : pass_start i + 2 + j ≡ pass_start i + (2 + j) = omega arith in
         let g : 2 + j ≡ suc (suc j) = omega arith in
@@ -70,7 +70,7 @@ module _ (plan : Plan) (shape : WellShaped plan) where
     record_read_back rows columns side =
         same_plan (size_back plan.grid.rows rows refl) (size_back plan.grid.columns columns refl)
         (size_back plan.grid.side side refl)
-        (sym (listed-only _ plan.passes 4 (record { order = 0; gain = pos 0; coefficients = [] })
+        (sym (listed_only _ plan.passes 4 (record { order = 0; gain = pos 0; coefficients = [] })
         shape.pass_count pass_back))
 
 -- A plan that keeps the rules is such a plan.

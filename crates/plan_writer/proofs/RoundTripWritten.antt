@@ -23,11 +23,11 @@ use Rattle.buffer.specs.Lists.{word_at}
 use Rattle.number.proofs.Sums.{all_below_law, total_grows}
 use Rattle.number.proofs.Tests.{lt_or_ge, and_both}
 use Rattle.plan.proofs.Record.{PassRules, rules}
-use Rattle.buffer.proofs.Listed.{listed_at, listed-only}
+use Rattle.buffer.proofs.Listed.{listed_at, listed_only}
 use Rattle.buffer.proofs.Joined.{joined_at}
 use Rattle.plan_reader.specs.PlanWords.{rows_in, columns_in, signed28, pass_allowed, size_allowed}
 use Rattle.plan_reader.specs.ReadPlan.{payload_at, order_at, pass_place, head_rows, coefficient_rows, pass_rows, passes_rows, end_rows, side_reaches, side_rows, plan_rows, coefficient_in, pass_from, plan_from, read_plan}
-use Rattle.plan_reader.proofs.RecordParts.{coefficient_read, coefficient_zero, same-pass, same_plan}
+use Rattle.plan_reader.proofs.RecordParts.{coefficient_read, coefficient_zero, same_pass, same_plan}
 use Rattle.plan_reader.proofs.RefusalRows.{side_accepted, joined_accepted}
 use Rattle.plan_writer.specs.RecordType.{WellShaped}
 use Rattle.plan_writer.specs.WritePlan.{payload28, size_payload, pass_payload, coefficient_words, pass_words, passes_words, words_of}
@@ -150,10 +150,10 @@ module _ (plan : Plan) (i : ℕ) (h : i < 4) (kept : PassRules plan.grid.side (p
   pass_read : length pass.coefficients ≡ order_limit → pass ≡ pass_from (words_of plan) start
   unfolding pass_from
   pass_read places =
-      same-pass (sym order_read)
+      same_pass (sym order_read)
       (sym (ap signed28 (payload_written (words_of plan) (start + 1) 4 _ gain_at (payload_below _ kept.gain_kept))
       ∙ signed_payload _ kept.gain_kept))
-      (listed-only (coefficient_in (words_of plan) start) pass.coefficients order_limit (pos 0) places coefficient_back)
+      (listed_only (coefficient_in (words_of plan) start) pass.coefficients order_limit (pos 0) places coefficient_back)
 
 -- ---- the plan
 
@@ -240,7 +240,7 @@ module _ (plan : Plan) (kept : keeps_rules plan ≡ true) where
         let rows : rows_in (payload_at (words_of plan) 0) ≡ plan.grid.rows = rw size_payload_law (omega arith) in
         let columns : columns_in (payload_at (words_of plan) 0) ≡ plan.grid.columns = rw size_payload_law (omega arith) in
         same_plan rows columns side_payload
-        (sym (listed-only (λ i. pass_from (words_of plan) (pass_place (words_of plan) i)) plan.passes 4
+        (sym (listed_only (λ i. pass_from (words_of plan) (pass_place (words_of plan) i)) plan.passes 4
         (record { order = 0; gain = pos 0; coefficients = [] }) shape.pass_count pass_back))
 
 -- A plan that keeps the rules is read back from its words.

@@ -31,7 +31,7 @@ all_and p q (x ∷ xs) e f =
 pub all_member : (p : ℕ → ℕ → Bool) (needs : List BlockTask) → all_done p needs ≡ true → (need : BlockTask)
     → Memᴰ need needs → p need.task need.block ≡ true
 unfolding all_done
-all_member p [] e need m = absurd (Memᴰ.not_nil m)
+all_member p [] e need m = absurd (Memᴰ.not-nil m)
 all_member p (x ∷ xs) e need m =
     ⊎_elim (λ (i : need ≡ x). rw i (and_left (p x.task x.block) (all_done p xs) e))
     (λ (i : Memᴰ need xs). all_member p xs (and_right (p x.task x.block) (all_done p xs) e) need i)

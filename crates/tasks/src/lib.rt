@@ -1,6 +1,7 @@
 // Tasks of the blocks of a map: which exist, what they need, their marks, and what the marks say to a task call.
 // An inner crate: what its functions require, their callers in this repository show.
 #![tactic(auto)]
+
 ghost use Rattle.std.specs.Prelude.{◌≡◌, true, ◌<◌, ◌≤◌, ◌+◌, ◌^◌, min, length};
 ghost use Rattle.refusal.specs.Table.{first_due, answer_of};
 ghost use Rattle.number.specs.Numbers.{all_below};

@@ -3,7 +3,7 @@ use mathlib.Core.Path.{refl, ap, ◌∙◌}
 use Prim.Native.Nat.{◌+◌}
 use borrow.Author.Rules.{rules}
 use Rattle.number.proofs.SignedBits.{read_back_law}
-use Rattle.plan_reader.proofs.RecordParts.{same-pass}
+use Rattle.plan_reader.proofs.RecordParts.{same_pass}
 use Rattle.plan_record.specs.Records.{size_from, pass_of_record}
 use Rattle.plan_record.proofs.pass_of_record.Statement.{statement}
 use Rattle.plan_record.proofs.pass_of_record.Tie as tie
@@ -35,7 +35,7 @@ unfolding pass_of_record
 returns c =
     let s = c.before.before.before.before in
     let words = s.args.words.now in
-    same-pass (c.before.before.size-from.ensures
+    same_pass (c.before.before.size-from.ensures
     ∙ ap size_from (read_back_law {answer = number_at words s.args.place} (search rules) refl))
     (read_back_law {answer = number_at words (s.args.place + 1)} (search rules) refl)
     c.coefficients-of-record.ensures

@@ -5,7 +5,7 @@ use mathlib.Core.Path.{◌≡◌}
 use lib.ListN.{length, take}
 use Rattle.number.proofs.SignedBits.{read_back_law}
 use Rattle.plan_record.specs.Records.{pass_start, record_length}
-use Rattle.plan_record.proofs.RecordWords.{front, front-none, front-more, front_all}
+use Rattle.plan_record.proofs.RecordWords.{front, front_none, front_more, front_all}
 use borrow.Author.Rules.{rules}
 use Rattle.plan_record.proofs.record_of_plan.Statement.{statement}
 use Rattle.plan_record.proofs.record_of_plan.Tie as tie
@@ -39,7 +39,7 @@ loop-holds : tie.Need-loop-init invariant-loop decreases-loop
 loop-holds c = (
   omega arith,
   search rules,
-  front-none _ (read_back_law (search rules) c.before.before.number-from.ensures)
+  front_none _ (read_back_law (search rules) c.before.before.number-from.ensures)
       (read_back_law (search rules) c.before.number-from2.ensures)
       (read_back_law (search rules) c.number-from3.ensures),
 )
@@ -67,7 +67,7 @@ loop-again c =
     let start = c.before in (
       omega arith,
       c.with-pass.ensures.0,
-      front-more _ _ _ _ start.before.before.before.loop.invariant.2
+      front_more _ _ _ _ start.before.before.before.loop.invariant.2
           (rw start.pass-start.ensures at c.with-pass.ensures.1),
     )
 

@@ -10,7 +10,7 @@ use lib.IntN.{pos}
 use native.Mathlib.Nat.{add-zero}
 use Rattle.word.proofs.Signs.{read_back}
 use Rattle.number.proofs.SignedBits.{read_back_law}
-use Rattle.plan_record.proofs.RecordWords.{copied_more, pass-filled}
+use Rattle.plan_record.proofs.RecordWords.{copied_more, pass_filled}
 use Rattle.plan_record.specs.Records.{record_length}
 use borrow.Author.Rules.{rules}
 use Rattle.plan_record.proofs.with_pass.Statement.{statement}
@@ -89,7 +89,7 @@ returns c =
     let a = c.before.before.before.before.args in
     let e : l.j ≡ order_limit = omega arith in (
       l.invariant.1,
-      pass-filled a.words l.filled a.place a.t3 (read_back n.result) (read_back a.t3.gain) (search rules)
+      pass_filled a.words l.filled a.place a.t3 (read_back n.result) (read_back a.t3.gain) (search rules)
           (search rules)
           (read_back_law (search rules) n.ensures) (read_back_law (search rules) refl) (rw e at l.invariant.2),
     )

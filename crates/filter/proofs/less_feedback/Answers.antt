@@ -1,0 +1,63 @@
+-- `less_feedback` is the word less the feedback: after each tap the sum is the word less the feedback up to there.
+use mathlib.Core.Path.{◌≡◌}
+use Prim.Native.Nat.{◌+◌, ◌-◌, ◌≤◌, min}
+use native.Mathlib.Omega.{arith}
+use borrow.Author.Rules.{rules}
+use lib.ListN.{length}
+use Rattle.plan.specs.Rules.{order_limit}
+use Rattle.filter.specs.Kernel.{feedback_from, TapsFit}
+use Rattle.filter.proofs.Turns.{taps_fit, taps_none, tap_taken, tap_left}
+use Rattle.filter.proofs.less_feedback.Goals as goal
+use Rattle.filter.proofs.less_feedback.Goals.{Then-distance-order}
+
+-- The word of this turn's tap is in the buffer.
+tap-fits : (c : Then-distance-order)
+    → let a = c.args in
+    TapsFit (length a.buffer.now) a.place a.forth a.back (c.loop-tap.tap + 1)
+tap-fits c =
+    taps_fit c.requires.2 (c.loop-tap.tap + 1) (omega arith)
+
+pub loop-tap-init : goal.loop-tap-init
+loop-tap-init c = (omega arith, omega arith, taps_none _ _ _ _ _ _ _ _)
+
+pub overflow_mul-before : goal.overflow_mul-before
+overflow_mul-before c =
+    let h = tap-fits (goal.at.overflow_mul-before c).Then-distance-order in omega arith
+
+pub overflow_add-before : goal.overflow_add-before
+overflow_add-before c =
+    let h = tap-fits (goal.at.overflow_add-before c).Then-distance-order in omega arith
+
+pub overflow_mul-before-then-distance-order : goal.overflow_mul-before-then-distance-order
+overflow_mul-before-then-distance-order c =
+    let h = tap-fits (goal.at.overflow_mul-before-then-distance-order c).Then-distance-order in omega arith
+
+pub overflow_sub-before : goal.overflow_sub-before
+overflow_sub-before c =
+    let h = tap-fits (goal.at.overflow_sub-before c).Then-distance-order in omega arith
+
+pub offset_bounds-buffer-before : goal.offset_bounds-buffer-before
+offset_bounds-buffer-before c =
+    let h = tap-fits (goal.at.offset_bounds-buffer-before c).Then-distance-order in omega arith
+
+pub bounds-buffer-before : goal.bounds-buffer-before
+bounds-buffer-before c =
+    let h = tap-fits (goal.at.bounds-buffer-before c).Then-distance-order in omega arith
+
+pub loop-tap-preserved-then-distance-order : goal.loop-tap-preserved-then-distance-order
+loop-tap-preserved-then-distance-order c = (
+  omega arith,
+  omega arith,
+  tap_taken _ _ _ _ _ _ _ _ c.loop-tap.tap _ _ _ (omega arith) (omega arith) c.loop-tap.invariant.2 c.mul.ensures
+      c.sub-sum.ensures,
+)
+
+pub loop-tap-preserved : goal.loop-tap-preserved
+loop-tap-preserved c =
+    (omega arith, omega arith, tap_left _ _ _ _ _ _ _ _ c.loop-tap.tap _ (omega arith) c.loop-tap.invariant.2)
+
+pub returns : goal.returns
+returns c =
+    let z : min c.args.order c.loop-tap.tap ≡ c.args.order =
+    omega arith in
+    rw z at c.loop-tap.invariant.2

@@ -1,0 +1,13 @@
+-- `output_at` is the output of the filter of gain 1: the word at the place, less all its feedback.
+use mathlib.Core.Path.{◌∙◌}
+use borrow.Author.Rules.{rules}
+use native.Mathlib.Omega.{arith}
+use Rattle.filter.proofs.Turns.{taps_all}
+use Rattle.filter.proofs.output_at.Goals as goal
+
+pub returns : goal.returns
+returns c =
+    let a = c.args in
+    c.less_feedback.ensures
+    ∙ taps_all a.coefficients.now a.order a.forth a.back a.buffer.now a.place
+    (omega (arith, c.shared_slice_known-1.given a.place))

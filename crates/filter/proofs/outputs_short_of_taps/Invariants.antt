@@ -1,0 +1,19 @@
+-- `outputs_short_of_taps` has done the places passed so far of all lines.
+use mathlib.Core.Path.{◌≡◌, refl}
+use Prim.Native.Nat.{ℕ, ◌+◌, ◌-◌, ◌≤◌, min}
+use native.Mathlib.Omega.{arith}
+use borrow.Author.Rules.{rules}
+use lib.ListN.{length}
+use Rattle.filter.specs.FilterWords.{filter_by}
+use Rattle.filter.specs.Kernel.{filter_in_place}
+use Rattle.filter.proofs.Turns.{lines_fit_fewer, place_more}
+use Rattle.filter.proofs.outputs_short_of_taps.Given as goal
+
+abbrev pub invariant-loop-done : goal.invariant-loop-done
+invariant-loop-done l =
+    (l.done ≤ l.places)
+    × (length l.buffer ≡ length l.initial.buffer)
+    × (l.buffer ≡ filter_in_place l.lines (filter_by 1 l.order l.coefficients) l.history l.done l.initial.buffer)
+
+abbrev pub decreases-loop-done : goal.decreases-loop-done
+decreases-loop-done l = l.places - l.done

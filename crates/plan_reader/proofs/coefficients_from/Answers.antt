@@ -1,0 +1,29 @@
+-- `plan_reader::coefficients_from` meets its contract: the first j places are filled. Assumes nothing.
+use mathlib.Core.Path.{◌≡◌, sym}
+use Prim.Native.Nat.{◌-◌, ◌≤◌}
+use native.Mathlib.Omega.{arith}
+use borrow.Author.Rules.{rules}
+use lib.ListN.{length, take, length-set}
+use Rattle.plan.specs.Rules.{order_limit}
+use Rattle.buffer.specs.Lists.{list_of}
+use Rattle.buffer.proofs.Listed.{listed_none, filled_more, filled_all}
+use Rattle.plan_reader.specs.ReadPlan.{coefficient_in, pass_from}
+use Rattle.number.proofs.SignedBits.{read_back_law}
+use Rattle.plan_reader.proofs.coefficients_from.Goals as goal
+
+pub loop-j-init : goal.loop-j-init
+loop-j-init c = (omega arith, search rules, sym (listed_none _))
+
+pub loop-j-preserved : goal.loop-j-preserved
+loop-j-preserved c = (
+  omega arith,
+  simp length-set (omega arith),
+  filled_more _ _ _ _ (omega arith) (read_back_law (search rules) c.coefficient_in-value.ensures) c.loop-j.invariant.2,
+)
+
+pub returns : goal.returns
+unfolding pass_from
+returns c =
+    let l = c.loop-j in
+    let e : l.j ≡ order_limit = omega arith in
+    filled_all _ _ order_limit l.invariant.1 (rw e at l.invariant.2)

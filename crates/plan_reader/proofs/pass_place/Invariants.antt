@@ -1,0 +1,14 @@
+-- `plan_reader::pass_place` meets its contract: `place` is that of pass j. Assumes nothing.
+use mathlib.Core.Path.{◌≡◌, sym}
+use Prim.Native.Nat.{◌-◌, ◌≤◌}
+use native.Mathlib.Omega.{arith}
+use borrow.Author.Rules.{rules}
+use Rattle.plan_reader.specs.ReadPlan.{pass_place}
+use Rattle.plan_reader.proofs.PassPlaces.{pass_place_first, pass_place_next, pass_place_bounded}
+use Rattle.plan_reader.proofs.pass_place.Given as goal
+
+abbrev pub invariant-loop-j : goal.invariant-loop-j
+invariant-loop-j l = (l.j ≤ l.i) × (l.place ≡ pass_place l.words l.j)
+
+abbrev pub decreases-loop-j : goal.decreases-loop-j
+decreases-loop-j l = l.i - l.j

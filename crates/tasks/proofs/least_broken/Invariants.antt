@@ -1,0 +1,14 @@
+-- Invariant: the least broken mark among the block's own and those of its neighbours for the passes so far.
+use mathlib.Core.Path.{◌∙◌, ◌≡◌, sym}
+use Prim.Native.Nat.{◌-◌, ◌≤◌, min}
+use native.Mathlib.Omega.{arith}
+use borrow.Author.Rules.{rules}
+use Rattle.tasks.proofs.Verdicts.{around_is, around_none, around_on, least_around}
+use Rattle.tasks.proofs.least_broken.Given as goal
+
+abbrev pub invariant-loop-pass : goal.invariant-loop-pass
+invariant-loop-pass l =
+    (l.pass ≤ l.passes) × (l.passes ≤ 4) × (l.least ≡ least_around l.grid l.marks l.block l.pass)
+
+abbrev pub decreases-loop-pass : goal.decreases-loop-pass
+decreases-loop-pass l = l.passes - l.pass

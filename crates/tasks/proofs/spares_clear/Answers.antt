@@ -1,0 +1,26 @@
+-- Invariant: the bits so far are clear where they are spare.
+use mathlib.Core.Bool.{true}
+use mathlib.Core.Path.{◌≡◌, sym}
+use Prim.Native.Nat.{◌-◌, ◌≤◌}
+use native.Mathlib.Omega.{arith}
+use borrow.Author.Rules.{rules}
+use Rattle.number.proofs.Tests.{all_fails, all_more, all_none, failed, passed}
+use Rattle.number.specs.Numbers.{all_below}
+use Rattle.tasks.specs.Marks.{spare_clear}
+use Rattle.tasks.proofs.spares_clear.Goals as goal
+
+pub loop-task-init : goal.loop-task-init
+loop-task-init c = (omega arith, all_none _)
+
+pub returns-then-not-spare_clear : goal.returns-then-not-spare_clear
+returns-then-not-spare_clear c =
+    sym (all_fails _ 6 _ (omega arith) (failed c.spare_clear.ensures c.if-not-spare_clear.true))
+
+pub loop-task-preserved : goal.loop-task-preserved
+loop-task-preserved c = (
+  omega arith,
+  all_more _ _ c.loop-task.invariant.1 (passed c.spare_clear.ensures c.if-not-spare_clear.false),
+)
+
+pub returns : goal.returns
+returns c = let end : c.loop-task.task ≡ 6 = omega arith in sym (rw end at c.loop-task.invariant.1)
