@@ -1,6 +1,7 @@
 // The four passes over a whole map of heights or of words, in the lent output and in two sweeps through it: down from the
 // top, and up from the bottom with right and left behind it.
 #![tactic(auto)]
+
 ghost use Rattle.std.specs.Prelude.{◌≡◌, true, ◌++◌, ◌+◌, ◌<◌, ◌≤◌, length, drop};
 ghost use Rattle.refusal.specs.Table.{answer_of};
 ghost use Rattle.plan.specs.Rules.{keeps_rules};

@@ -1,6 +1,7 @@
 // Passes along single lines, and the squares of the links: how a history moves across a line of zeros.
 // An inner crate: what its functions require, their callers in this repository show.
 #![tactic(auto)]
+
 ghost use Rattle.std.specs.Prelude.{◌≡◌, ℕ, ◌+◌, ◌*◌, ◌<◌, ◌≤◌, length};
 ghost use Rattle.number.specs.Numbers.{row_major};
 ghost use Rattle.grid.specs.Grid.{side_limit};

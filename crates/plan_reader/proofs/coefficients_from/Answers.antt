@@ -1,4 +1,5 @@
 -- `plan_reader::coefficients_from` meets its contract: the first j places are filled. Assumes nothing.
+use Rattle.std.proofs.Common.{w64}
 use mathlib.Core.Path.{◌≡◌, sym}
 use Prim.Native.Nat.{◌-◌, ◌≤◌}
 use native.Mathlib.Omega.{arith}
@@ -18,7 +19,7 @@ pub loop-j-preserved : goal.loop-j-preserved
 loop-j-preserved c = (
   omega arith,
   simp length-set (omega arith),
-  filled_more _ _ _ _ (omega arith) (read_back_law (search rules) c.coefficient_in-value.ensures) c.loop-j.invariant.2,
+  filled_more _ _ _ _ (omega arith) (read_back_law {w = w64} (search rules) c.coefficient_in-value.ensures) c.loop-j.invariant.2,
 )
 
 pub returns : goal.returns

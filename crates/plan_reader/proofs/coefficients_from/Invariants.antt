@@ -1,4 +1,5 @@
 -- `plan_reader::coefficients_from` meets its contract: the first j places are filled. Assumes nothing.
+use Rattle.std.proofs.Common.{w64}
 use mathlib.Core.Path.{◌≡◌, sym}
 use Prim.Native.Nat.{◌-◌, ◌≤◌}
 use native.Mathlib.Omega.{arith}

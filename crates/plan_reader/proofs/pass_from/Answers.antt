@@ -1,4 +1,5 @@
 -- `plan_reader::pass_from` meets its contract, field by field. Assumes nothing.
+use Rattle.std.proofs.Common.{w64}
 use mathlib.Core.Path.{ap, ◌∙◌}
 use borrow.Author.Rules.{rules}
 use Rattle.plan_reader.specs.PlanWords.{signed28}
@@ -11,5 +12,5 @@ pub returns : goal.returns
 unfolding pass_from
 returns c =
     same_pass c.order_at-order.ensures
-    (read_back_law (search rules) (c.decode_signed28-gain.ensures ∙ ap signed28 c.payload_at.ensures))
+    (read_back_law {w = w64} (search rules) (c.decode_signed28-gain.ensures ∙ ap signed28 c.payload_at.ensures))
     c.coefficients_from-coefficients.ensures

@@ -1,0 +1,10 @@
+-- `filter_map` goes the steps of the serial passes.
+use borrow.Author.Rules.{rules}
+use Rattle.serial.specs.Stages.{map_words}
+use Rattle.serial.proofs.Serial.{steps_reach}
+use Rattle.serial.proofs.filter_map.Goals as goal
+
+pub returns : goal.returns
+returns c =
+    steps_reach c.args.plan (map_words c.args.source c.args.heights.now c.args.words.now) c.requires.kept c.args.output.now c.requires.output_long
+    c.read_down.ensures c.finish_up.ensures

@@ -1,0 +1,23 @@
+-- `pass_over_rows` is the pass over the window of those rows with the plan's filter, the gains in the first pass.
+use borrow.Author.Rules.{rules}
+use lib.ListN.{length}
+use Rattle.plan.proofs.Record.{order_limited_at}
+use Rattle.filter.proofs.Filters.{gains_first_words_order}
+use Rattle.serial.proofs.Stages.{rows_fit, rows_passed_law}
+use Rattle.serial.proofs.pass_over_rows.Goals as goal
+
+pub run_pass-requires : goal.run_pass-requires
+run_pass-requires c =
+    let a = c.args in (
+      rw (c.gains_first-filter.ensures, gains_first_words_order a.plan a.pass)
+          (order_limited_at a.plan c.requires.kept a.pass c.requires.is_pass),
+      rw c.history_rows-history.ensures
+          (rows_fit a.plan c.requires.kept (length a.output.now) a.top a.height c.requires.tall c.requires.in_map
+          c.requires.output_long _ _),
+    )
+
+pub returns : goal.returns
+returns c =
+    let a = c.args in
+    rows_passed_law a.plan a.top a.height a.pass a.output.now c.gains_first-filter.ensures
+    c.history_rows-history.ensures c.run_pass.ensures

@@ -1,0 +1,17 @@
+-- `run_lines` has done the passes so far along the lines.
+use mathlib.Core.Path.{◌≡◌}
+use Prim.Native.Nat.{◌+◌, ◌-◌, ◌≤◌}
+use native.Mathlib.Omega.{arith}
+use borrow.Author.Rules.{rules}
+use Rattle.squares.specs.LineBuffers.{filter_at}
+use Rattle.squares.specs.Rows.{LinesPassed}
+use Rattle.squares.proofs.Lines.{passed_none, passed_next}
+use Rattle.squares.proofs.LineRows.{rows_few}
+use Rattle.squares.proofs.run_lines.Given as goal
+
+abbrev pub invariant-loop-done : goal.invariant-loop-done
+invariant-loop-done l =
+    (l.done ≤ l.count) × LinesPassed (filter_at l.filters) l.places l.first l.done l.initial.lines l.lines
+
+abbrev pub decreases-loop-done : goal.decreases-loop-done
+decreases-loop-done l = l.count - l.done

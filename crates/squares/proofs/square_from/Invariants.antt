@@ -1,0 +1,22 @@
+-- `square_from` has the rows of the lines passed so far.
+use mathlib.Core.Path.{◌≡◌, refl, ap, ◌∙◌}
+use Prim.Native.Nat.{ℕ, ◌+◌, ◌-◌, ◌<◌, ◌≤◌}
+use native.Mathlib.Omega.{arith}
+use borrow.Author.Rules.{rules}
+use lib.ListN.{length, length-set}
+use Rattle.plan.specs.Rules.{order_limit}
+use Rattle.buffer.specs.Lists.{word_at}
+use Rattle.squares.specs.LineBuffers.{row_words, square_at}
+use Rattle.squares.proofs.Units.{square_next}
+use Rattle.number.specs.Numbers.{row_major}
+use Rattle.squares.proofs.square_from.Given as goal
+
+abbrev pub invariant-loop-line : goal.invariant-loop-line
+invariant-loop-line l =
+    (l.line ≤ l.count)
+    × (length l.square ≡ order_limit)
+    × ((l p : ℕ) → l < l.line → p < order_limit
+    → square_at l.square l p ≡ word_at l.lines (row_major row_words (l.row + l) (l.from + p)))
+
+abbrev pub decreases-loop-line : goal.decreases-loop-line
+decreases-loop-line l = l.count - l.line

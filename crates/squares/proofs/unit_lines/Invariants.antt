@@ -1,0 +1,19 @@
+-- `unit_lines` has set the units of the lines so far.
+use mathlib.Core.Path.{◌≡◌, refl, ◌∙◌}
+use Prim.Native.Nat.{◌-◌, ◌<◌, ◌≤◌}
+use native.Mathlib.Omega.{arith}
+use borrow.Author.Rules.{rules}
+use lib.ListN.{length, length-set}
+use Rattle.axis.specs.Axis.{direction_of}
+use Rattle.buffer.specs.Written.{written}
+use Rattle.squares.specs.LineBuffers.{row_words, unit_lines}
+use Rattle.squares.proofs.Lines.{margin_below}
+use Rattle.squares.proofs.Units.{units_next}
+use Rattle.squares.proofs.unit_lines.Given as goal
+
+abbrev pub invariant-loop-line : goal.invariant-loop-line
+invariant-loop-line l =
+    (l.line ≤ l.order) × (length l.lines ≡ length l.initial.lines) × (l.lines ≡ unit_lines (direction_of l.pass) l.row l.places l.line l.initial.lines)
+
+abbrev pub decreases-loop-line : goal.decreases-loop-line
+decreases-loop-line l = l.order - l.line
