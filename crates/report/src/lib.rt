@@ -1,6 +1,7 @@
 // The report on a job's marks: how many tasks are marked, the tally, and the first ready task. What the searches require,
 // their callers in this repository show.
 #![tactic(auto)]
+
 ghost use Rattle.std.specs.Prelude.{◌≡◌, ◌<◌, length};
 ghost use Rattle.tasks.specs.Counts.{done_at};
 ghost use Rattle.tasks.specs.Marks.{is_marked};

@@ -1,6 +1,7 @@
 // Strips in code: where the strip of a pass of a block lies in the list of strips, and what is read there.
 // An inner crate: what its functions require, their callers in this repository show.
 #![tactic(auto)]
+
 ghost use Rattle.std.specs.Prelude.{◌≡◌, true, ◌<◌, ◌^◌};
 ghost use Rattle.axis.specs.Axis.{direction_of};
 ghost use Rattle.plan.specs.Rules.{keeps_rules};
