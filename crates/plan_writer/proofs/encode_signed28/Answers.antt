@@ -4,7 +4,6 @@ use lib.IntN.{nat_abs}
 use mir.Syntax.{w64}
 use mir.Val.{to_z, of_z}
 use mir.ValLaws.{to_z-of_z}
-use borrow.Author.Rules.{rules}
 use Rattle.plan_writer.proofs.Payload.{sum_fits, sum_back, sum_cast, same_value, same_cast}
 use Rattle.plan_writer.proofs.encode_signed28.Goals as goal
 use Rattle.plan_writer.proofs.encode_signed28.Goals.{Start}

@@ -3,7 +3,6 @@ use mathlib.Core.Path.{◌≡◌, ap, ◌∙◌}
 use native.Mathlib.Omega.{arith}
 use mir.Syntax.{w64}
 use mir.ValLaws.{to_z-of_z}
-use borrow.Author.Rules.{rules}
 use Rattle.plan_writer.specs.WritePlan.{payload28}
 use Rattle.plan_writer.proofs.Payload.{payload_below}
 use Rattle.number.specs.KindWords.{word_of}

@@ -8,7 +8,7 @@ use lib.Seq.{sets, length-sets}
 use mir.Syntax.{w64}
 use mir.Val.{to_z, of_z}
 use mir.ValLaws.{to_z-of_z}
-use borrow.Author.Rules.{rules, sfits_of}
+use borrow.Author.Rules.{sfits_of}
 use Rattle.plan.specs.Rules.{in_signed28, coefficient_at}
 use Rattle.plan_writer.specs.WritePlan.{payload28, coefficient_words}
 use Rattle.plan_writer.proofs.WrittenWords.{coefficient_signed, no_coefficients, more_coefficients}

@@ -5,7 +5,6 @@ use Prim.Native.Nat.{◌+◌, ◌-◌, ◌*◌, ◌≤◌}
 use native.Mathlib.Omega.{arith}
 use lib.ListN.{length}
 use lib.Seq.{sets, length-sets}
-use borrow.Author.Rules.{rules}
 use Rattle.number.proofs.Sums.{total_none, total_grows}
 use Rattle.plan.specs.Sizes.{order_of, order_sum}
 use Rattle.plan_writer.specs.WritePlan.{passes_words}

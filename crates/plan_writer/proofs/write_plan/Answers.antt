@@ -1,7 +1,6 @@
 -- `write_plan` meets its contract: refused by the record or the room, or the words are written. Assumes nothing.
 use mathlib.Core.Path.{◌≡◌, ◌∙◌}
 use lib.ListN.{length}
-use borrow.Author.Rules.{rules}
 use Rattle.plan.specs.FirstTests.{sizes_for, sizes_given}
 use Rattle.plan_writer.specs.WritePlan.{lent_to_writer}
 use Rattle.plan_writer.proofs.WriteAnswers.{call_refused, writable, written_call}
@@ -20,11 +19,12 @@ write_words-requires c =
 
 pub returns-in-Refused : goal.returns-in-Refused
 returns-in-Refused c =
-    call_refused _ _ _ (tested (goal.at.returns-in-Refused c).After-sizes_for-known) _ c.in-Refused.is
+    let both = call_refused _ _ _ (tested (goal.at.returns-in-Refused c).After-sizes_for-known) _ c.in-Refused.is in
+    record { answer = both.0; written = both.1 }
 
 pub returns-in-Known : goal.returns-in-Known
 returns-in-Known c =
     let call =
     written_call _ c.args.words.now _ (tested (goal.at.returns-in-Known c).After-sizes_for-known) _
     c.in-Known.is in
-    (call.0, c.write_words.ensures ∙ call.1)
+    record { answer = call.0; written = c.write_words.ensures ∙ call.1 }

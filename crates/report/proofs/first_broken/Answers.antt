@@ -2,7 +2,6 @@
 use mathlib.Core.Path.{◌∙◌, ◌≡◌, ap, sym}
 use Prim.Native.Nat.{◌-◌, ◌≤◌}
 use native.Mathlib.Omega.{arith}
-use borrow.Author.Rules.{rules}
 use Rattle.number.proofs.Tests.{failed, passed}
 use Rattle.grid.specs.Grid.{block_total}
 use Rattle.tasks.proofs.Verdicts.{least_below, below_none, below_valid, below_all, first_least}

@@ -2,7 +2,6 @@
 use mathlib.Core.Path.{◌∙◌, ◌≡◌, sym}
 use Prim.Native.Nat.{◌+◌, ◌-◌, ◌≤◌}
 use native.Mathlib.Omega.{arith}
-use borrow.Author.Rules.{rules}
 use Rattle.report.proofs.Search.{row_end_law, row_hit, row_miss, task_end, task_row}
 use Rattle.report.specs.Report.{first_block, first_ready, first_task, or_else}
 use Rattle.tasks.specs.Marks.{is_marked}

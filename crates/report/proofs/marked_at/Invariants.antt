@@ -2,7 +2,6 @@
 use mathlib.Core.Path.{◌∙◌, ◌≡◌, ap, sym}
 use Prim.Native.Nat.{◌-◌, ◌≤◌}
 use native.Mathlib.Omega.{arith}
-use borrow.Author.Rules.{rules}
 use Rattle.number.proofs.Sums.{one_most, sum_on, total_none}
 use Rattle.tasks.specs.Counts.{done_at, one_at}
 use Rattle.number.specs.Numbers.{one, total}

@@ -1,6 +1,5 @@
 -- Refused by the record or by the length of the marks, else the report on them.
 use mathlib.Core.Path.{◌≡◌}
-use borrow.Author.Rules.{rules}
 use Rattle.plan.specs.FirstTests.{sizes_for, sizes_given}
 use Rattle.report.specs.Report.{lent_to_report}
 use Rattle.report.proofs.ReportAnswers.{not_tested, marks_lent, tested_report}

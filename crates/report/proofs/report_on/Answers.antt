@@ -1,6 +1,5 @@
 -- Each way out is one law of `ReportAnswers`.
 use native.Mathlib.Omega.{arith}
-use borrow.Author.Rules.{rules}
 use Rattle.report.proofs.ReportAnswers.{made, mark_broken}
 use Rattle.report.proofs.report_on.Goals as goal
 

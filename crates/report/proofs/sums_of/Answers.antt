@@ -4,7 +4,6 @@ use mathlib.Core.Bool.{Bool}
 use Prim.Native.Nat.{ℕ, ◌+◌, ◌-◌, ◌≤◌}
 use native.Mathlib.Omega.{arith}
 use lib.ListN.{length}
-use borrow.Author.Rules.{rules}
 use Rattle.number.proofs.Sums.{sum_on, total_most, total_none}
 use Rattle.number.specs.Numbers.{total}
 use Rattle.grid.proofs.Blocks.{ranges}
@@ -18,10 +17,6 @@ use Rattle.report.specs.Tally.{tally, tally_at}
 use Rattle.report.proofs.sums_of.Goals as goal
 use Rattle.report.proofs.sums_of.Goals.{After-marked_at-marked, After-tally_at-tally, At-loop-block, In-loop-block}
 
--- What is marked.
-abbrev done : At-loop-block → ℕ → ℕ → Bool
-done c = is_marked c.args.marks.now
-
 few : (c : At-loop-block) → c.blocks-blocks.result ≤ 16777216
 few c = omega (arith, c.blocks-blocks.ensures, (ranges _ c.requires.kept).total_high)
 
@@ -31,11 +26,11 @@ inside c = record { lent = c.requires; inside = omega (arith, c.blocks-blocks.en
 
 -- Both sums with this block.
 counted : (c : After-marked_at-marked)
-    → c.loop-block.marked + c.marked_at-marked.result ≡ total (done_at (done c.before.before)) (c.loop-block.block + 1)
+    → c.loop-block.marked + c.marked_at-marked.result ≡ total (done_at (is_marked c.args.marks.now)) (c.loop-block.block + 1)
 counted c = sum_on _ _ _ _ c.loop-block.invariant.1 c.marked_at-marked.ensures
 
 tallied : (c : After-tally_at-tally)
-    → c.loop-block.tally + c.tally_at-tally.result ≡ total (tally_at c.args.grid (done c.before.before.before)) (c.loop-block.block + 1)
+    → c.loop-block.tally + c.tally_at-tally.result ≡ total (tally_at c.args.grid (is_marked c.args.marks.now)) (c.loop-block.block + 1)
 tallied c = sum_on _ _ _ _ c.loop-block.invariant.2 c.tally_at-tally.ensures
 
 pub loop-block-init : goal.loop-block-init
@@ -47,7 +42,7 @@ marked_at-marked-requires c =
 
 pub overflow_add-marked : goal.overflow_add-marked
 overflow_add-marked c =
-    let most = total_most (done_at (done (goal.at.overflow_add-marked c).At-loop-block)) 6 (c.loop-block.block + 1) (λ k l. done_at_most (done (goal.at.overflow_add-marked c).At-loop-block) k) in
+    let most = total_most (done_at (is_marked c.args.marks.now)) 6 (c.loop-block.block + 1) (λ k l. done_at_most (is_marked c.args.marks.now) k) in
     omega (arith, few (goal.at.overflow_add-marked c).At-loop-block, counted (goal.at.overflow_add-marked c).After-marked_at-marked)
 
 pub tally_at-tally-requires : goal.tally_at-tally-requires
@@ -57,7 +52,7 @@ pub overflow_add-tally : goal.overflow_add-tally
 overflow_add-tally c =
     let grid = c.args.grid in
     let each = tally_at_most grid (ranges grid c.requires.kept).side_high in
-    let most = total_most (tally_at grid (done (goal.at.overflow_add-tally c).At-loop-block)) 2048 (c.loop-block.block + 1) (λ k l. each k (done (goal.at.overflow_add-tally c).At-loop-block)) in
+    let most = total_most (tally_at grid (is_marked c.args.marks.now)) 2048 (c.loop-block.block + 1) (λ k l. each k (is_marked c.args.marks.now)) in
     omega (arith, few (goal.at.overflow_add-tally c).At-loop-block, tallied (goal.at.overflow_add-tally c).After-tally_at-tally)
 
 pub loop-block-preserved : goal.loop-block-preserved

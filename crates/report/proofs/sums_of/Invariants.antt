@@ -4,7 +4,6 @@ use mathlib.Core.Bool.{Bool}
 use Prim.Native.Nat.{ℕ, ◌+◌, ◌-◌, ◌≤◌}
 use native.Mathlib.Omega.{arith}
 use lib.ListN.{length}
-use borrow.Author.Rules.{rules}
 use Rattle.number.proofs.Sums.{sum_on, total_most, total_none}
 use Rattle.number.specs.Numbers.{total}
 use Rattle.grid.proofs.Blocks.{ranges}

@@ -1,6 +1,5 @@
 -- `band_of` is the block of the map's rows: a counted block starts inside the map.
 use native.Mathlib.Omega.{arith}
-use borrow.Author.Rules.{rules}
 use Rattle.grid.proofs.Extents.{counted_start}
 use Rattle.serial.specs.Stages.{band_rows}
 use Rattle.serial.proofs.band_of.Goals as goal

@@ -1,5 +1,4 @@
 -- `filter_map` goes the steps of the serial passes.
-use borrow.Author.Rules.{rules}
 use Rattle.serial.specs.Stages.{map_words}
 use Rattle.serial.proofs.Serial.{steps_reach}
 use Rattle.serial.proofs.filter_map.Goals as goal

@@ -2,7 +2,6 @@
 use mathlib.Core.Path.{◌≡◌, refl}
 use Prim.Native.Nat.{◌-◌, ◌≤◌}
 use native.Mathlib.Omega.{arith}
-use borrow.Author.Rules.{rules}
 use lib.ListN.{length}
 use Rattle.serial.specs.Stages.{bands_passed_up}
 use Rattle.serial.proofs.Stages.{some_bands, band_up_more, bands_up_all}

@@ -2,7 +2,6 @@
 use mathlib.Core.Path.{◌≡◌, sym, ◌∙◌}
 use Prim.Native.Nat.{ℕ, ◌-◌}
 use native.Mathlib.Omega.{arith}
-use borrow.Author.Rules.{rules}
 use Rattle.axis.specs.Axis.{Axis, columns, rows, forward, backward, along, axis_of, direction_of}
 use Rattle.axis.proofs.Passes.{runs_forward, runs_backward}
 use Rattle.serial.specs.Stages.{history_rows}

@@ -1,5 +1,4 @@
 -- `map_length` is the length of the source's own list.
-use borrow.Author.Rules.{rules}
 use Rattle.serial.proofs.Sources.{heights_length, words_length}
 use Rattle.serial.proofs.map_length.Goals as goal
 

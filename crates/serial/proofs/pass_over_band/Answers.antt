@@ -1,5 +1,4 @@
 -- `pass_over_band` is the pass over the rows of the band.
-use borrow.Author.Rules.{rules}
 use Rattle.serial.proofs.Stages.{band_fits}
 use Rattle.serial.proofs.pass_over_band.Goals as goal
 

@@ -1,5 +1,4 @@
 -- `pass_over_rows` is the pass over the window of those rows with the plan's filter, the gains in the first pass.
-use borrow.Author.Rules.{rules}
 use lib.ListN.{length}
 use Rattle.plan.proofs.Record.{order_limited_at}
 use Rattle.filter.proofs.Filters.{gains_first_words_order}

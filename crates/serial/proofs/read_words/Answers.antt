@@ -1,6 +1,5 @@
 -- `read_words` reads heights as pixels and words as they are.
 use native.Mathlib.Omega.{arith}
-use borrow.Author.Rules.{rules}
 use Rattle.serial.proofs.Sources.{heights_length, words_length, heights_read, words_read_law}
 use Rattle.serial.proofs.read_words.Goals as goal
 

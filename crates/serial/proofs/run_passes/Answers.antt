@@ -1,30 +1,26 @@
 -- `run_passes` answers as it is defined, and leaves the output as it is defined.
 use mathlib.Core.List.{List}
 use Prim.Native.Nat.{ℕ}
-use borrow.Author.Rules.{rules}
 use Rattle.serial.specs.Stages.{map_words}
 use Rattle.serial.proofs.SerialAnswers.{passes_refused, map_fits, passes_accepted}
 use Rattle.serial.proofs.run_passes.Goals as goal
-use Rattle.serial.proofs.run_passes.Goals.{After-sizes_for-known}
-
--- The words of the map that is lent.
-abbrev lent-words : After-sizes_for-known → List ℕ
-lent-words c = let a = c.args in map_words a.source a.heights.now a.words.now
 
 pub filter_map-requires : goal.filter_map-requires
 filter_map-requires c =
     let a = c.args in
-    map_fits a.plan (lent-words (goal.at.filter_map-requires c).After-sizes_for-known) a.output.now _ _ c.map_length.ensures
+    map_fits a.plan (let a = c.args in map_words a.source a.heights.now a.words.now) a.output.now _ _ c.map_length.ensures
     c.sizes_for-known.ensures _ c.in-Known.is
 
 pub returns-in-Refused : goal.returns-in-Refused
 returns-in-Refused c =
     let a = c.args in
-    passes_refused a.plan (lent-words (goal.at.returns-in-Refused c).After-sizes_for-known) a.output.now _ _ c.map_length.ensures
-    c.sizes_for-known.ensures _ c.in-Refused.is
+    let both = passes_refused a.plan (let a = c.args in map_words a.source a.heights.now a.words.now) a.output.now _ _ c.map_length.ensures
+    c.sizes_for-known.ensures _ c.in-Refused.is in
+    record { answer = both.0; result = both.1 }
 
 pub returns-in-Known : goal.returns-in-Known
 returns-in-Known c =
     let a = c.args in
-    passes_accepted a.plan (lent-words (goal.at.returns-in-Known c).After-sizes_for-known) a.output.now _ _ c.map_length.ensures
-    c.sizes_for-known.ensures _ c.in-Known.is _ c.filter_map.ensures
+    let both = passes_accepted a.plan (let a = c.args in map_words a.source a.heights.now a.words.now) a.output.now _ _ c.map_length.ensures
+    c.sizes_for-known.ensures _ c.in-Known.is _ c.filter_map.ensures in
+    record { answer = both.0; result = both.1 }

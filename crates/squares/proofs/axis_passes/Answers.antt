@@ -1,6 +1,5 @@
 -- `axis_passes` counts two passes up to a backward one, and one up to a forward one.
 use mathlib.Core.Path.{sym, ◌∙◌}
-use borrow.Author.Rules.{rules}
 use Rattle.axis.specs.Axis.{direction_of}
 use Rattle.axis.proofs.Passes.{runs_forward, runs_backward}
 use Rattle.squares.proofs.axis_passes.Goals as goal

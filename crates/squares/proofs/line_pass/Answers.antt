@@ -1,7 +1,6 @@
 -- `line_pass` runs a pass along its rows, or leaves the buffer as it is where there are none.
 use Prim.Native.Nat.{◌+◌}
 use native.Mathlib.Omega.{arith}
-use borrow.Author.Rules.{rules}
 use Rattle.squares.specs.LineBuffers.{filter_at}
 use Rattle.squares.proofs.Lines.{lines_fit, pass_some, pass_none}
 use Rattle.squares.proofs.LinePasses.{passes_in_axis}

@@ -1,7 +1,6 @@
 -- `margin` is the place beyond an extent, by the direction of the pass.
 use mathlib.Core.Path.{sym, ◌∙◌}
 use native.Mathlib.Omega.{arith}
-use borrow.Author.Rules.{rules}
 use Rattle.axis.specs.Axis.{direction_of}
 use Rattle.axis.proofs.Passes.{runs_forward, runs_backward}
 use Rattle.squares.proofs.margin.Goals as goal

@@ -2,7 +2,6 @@
 use mathlib.Core.Path.{◌≡◌, sym}
 use Prim.Native.Nat.{◌-◌, ◌*◌, ◌≤◌}
 use native.Mathlib.Omega.{arith}
-use borrow.Author.Rules.{rules}
 use Rattle.number.proofs.Sums.{total_none}
 use Rattle.plan.specs.Rules.{order_limit}
 use Rattle.squares.specs.LineBuffers.{filter_at, rows_before}

@@ -2,7 +2,6 @@
 use mathlib.Core.Path.{◌≡◌}
 use Prim.Native.Nat.{◌+◌, ◌-◌, ◌≤◌}
 use native.Mathlib.Omega.{arith}
-use borrow.Author.Rules.{rules}
 use Rattle.squares.specs.LineBuffers.{filter_at}
 use Rattle.squares.specs.Rows.{LinesPassed}
 use Rattle.squares.proofs.Lines.{passed_none, passed_next}

@@ -2,7 +2,6 @@
 use mathlib.Core.Path.{◌≡◌, refl, ap, ◌∙◌}
 use Prim.Native.Nat.{ℕ, ◌+◌, ◌-◌, ◌<◌, ◌≤◌}
 use native.Mathlib.Omega.{arith}
-use borrow.Author.Rules.{rules}
 use lib.ListN.{length, length-set}
 use Rattle.plan.specs.Rules.{order_limit}
 use Rattle.buffer.specs.Lists.{word_at}
@@ -12,11 +11,11 @@ use Rattle.number.specs.Numbers.{row_major}
 use Rattle.squares.proofs.square_from.Given as goal
 
 abbrev pub invariant-loop-line : goal.invariant-loop-line
-invariant-loop-line l =
-    (l.line ≤ l.count)
-    × (length l.square ≡ order_limit)
-    × ((l p : ℕ) → l < l.line → p < order_limit
-    → square_at l.square l p ≡ word_at l.lines (row_major row_words (l.row + l) (l.from + p)))
+invariant-loop-line turn =
+    (turn.line ≤ turn.count)
+    × (length turn.square ≡ order_limit)
+    × ((l p : ℕ) → l < turn.line → p < order_limit
+    → square_at turn.square l p ≡ word_at turn.lines (row_major row_words (turn.row + l) (turn.from + p)))
 
 abbrev pub decreases-loop-line : goal.decreases-loop-line
 decreases-loop-line l = l.count - l.line

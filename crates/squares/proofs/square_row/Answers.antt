@@ -1,6 +1,5 @@
 -- `square_row` has copied its words.
 use native.Mathlib.Omega.{arith}
-use borrow.Author.Rules.{rules}
 use Rattle.buffer.proofs.Copies.{row_at}
 use Rattle.squares.proofs.square_row.Goals as goal
 
