@@ -1,5 +1,6 @@
 // Recall of a block that is scanned again: the bits of its tasks and of every task that needs one of them are cleared.
 #![tactic(auto)]
+
 ghost use Rattle.std.specs.Prelude.{◌≡◌, ◌≤◌, ◌%◌, ◌^◌, length};
 ghost use Rattle.number.specs.KindWords.{word_of};
 ghost use Rattle.refusal.specs.Table.{first_due, answer_of};

@@ -1,5 +1,6 @@
 // The sum over a rectangle of a summed-area table.
 #![tactic(auto)]
+
 ghost use Rattle.std.specs.Prelude.{◌≡◌, [], ◌∷◌, ◌≤◌, length};
 ghost use Rattle.refusal.specs.Table.{◌at◌when◌, first_due, answer_of};
 ghost use Rattle.plan.specs.Sizes.{needed_pixels};

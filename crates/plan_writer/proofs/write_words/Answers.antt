@@ -1,7 +1,6 @@
 -- `write_words` meets its contract: size word, block word, passes and end word, one after the other, are the words of the
 -- plan. Assumes nothing.
 use native.Mathlib.Omega.{arith}
-use borrow.Author.Rules.{rules}
 use Rattle.plan.proofs.Record.{rules}
 use Rattle.plan_writer.proofs.WrittenWords.{plan_parts}
 use Rattle.plan_writer.proofs.write_words.Goals as goal
