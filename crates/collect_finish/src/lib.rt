@@ -1,6 +1,7 @@
 // Collect and finish: the passes over one block, in a work array with a margin of words around the block.
 // An inner crate: what its functions require, their callers in this repository show.
 #![tactic(auto)]
+
 ghost use Rattle.std.specs.Prelude.{◌≡◌, ◌+◌, ◌<◌, ◌≤◌, length};
 ghost use Rattle.axis.specs.Axis.{axis_of, direction_of};
 ghost use Rattle.filter.specs.FilterWords.{filter_with};

@@ -3,6 +3,7 @@
 // run with gain 1; the words past an edge take the gains of the passes after their own, up to the link's.
 // An inner crate: what its functions require, their callers in this repository show.
 #![tactic(auto)]
+
 mod ahead;
 mod carrying;
 mod crossing;

@@ -1,5 +1,6 @@
 // The C record of a plan: an array of signed numbers, and the plan that it stands for.
 #![tactic(auto)]
+
 ghost use Rattle.std.specs.Prelude.{◌≡◌, ◌++◌, ◌≤◌, ◌<◌, ◌+◌, length, take};
 ghost use Rattle.plan_record.specs.Records.{record_length, pass_length, pass_start, size_from, number_from, pass_of_record, plan_of_record, record_of_pass, record_of_plan};
 

@@ -1,0 +1,45 @@
+-- `collect` has written the strips of the passes so far; the work array holds the block filtered alone, with gain 1.
+use Prim.Native.Nat.{◌-◌}
+use native.Mathlib.Omega.{arith}
+use Rattle.plan.proofs.Record.{in_grid}
+use Rattle.filter.specs.PlanFilters.{map_of}
+use Rattle.collect_finish.specs.WorkFits.{ShapedBlock}
+use Rattle.collect_finish.proofs.WorkPlaces.{shape_in_work, block_in_work, block_in_map}
+use Rattle.collect_finish.proofs.WorkCells.{blank_sized}
+use Rattle.collect_finish.proofs.Collecting.{Collecting, collect_start, collect_pass, collect_strip, collect_turn, collect_end}
+use Rattle.collect_finish.proofs.collect.Goals as goal
+use Rattle.collect_finish.proofs.collect.Goals.{After-block_shape-shape}
+
+-- ---- where the block lies
+placed : (c : After-block_shape-shape)
+    → ShapedBlock c.args.plan c.args.k c.block_shape-shape.result
+placed c = record { block = c.requires.block; shaped = c.block_shape-shape.ensures }
+
+-- ---- needs
+pub block_shape-shape-requires : goal.block_shape-shape-requires
+block_shape-shape-requires c = let block = c.requires.block in in_grid _ block.kept _ block.counted
+
+pub load_block-requires : goal.load_block-requires
+load_block-requires c =
+    (block_in_map (placed (goal.at.load_block-requires c).After-block_shape-shape) c.requires.map_long, block_in_work (placed (goal.at.load_block-requires c).After-block_shape-shape) blank_sized, shape_in_work (placed (goal.at.load_block-requires c).After-block_shape-shape))
+
+pub loop-pass-init : goal.loop-pass-init
+loop-pass-init c =
+    collect_start (placed (goal.at.loop-pass-init c).After-block_shape-shape) c.args.map.now c.load_block.ensures
+
+pub run_block_pass-requires : goal.run_block_pass-requires
+run_block_pass-requires c =
+    collect_pass (placed (goal.at.run_block_pass-requires c).After-block_shape-shape) c.loop-pass.invariant c.loop-pass-test.taken c.filter_with_gain-words.ensures
+
+pub write_strip-requires : goal.write_strip-requires
+write_strip-requires c =
+    collect_strip (placed (goal.at.write_strip-requires c).After-block_shape-shape) c.loop-pass.invariant c.loop-pass-test.taken c.filter_with_gain-words.ensures
+    c.run_block_pass.ensures c.requires.strips_long
+
+pub loop-pass-preserved : goal.loop-pass-preserved
+loop-pass-preserved c =
+    collect_turn (placed (goal.at.loop-pass-preserved c).After-block_shape-shape) c.loop-pass.invariant c.loop-pass-test.taken c.filter_with_gain-words.ensures
+    c.run_block_pass.ensures c.gains_from-gain.ensures c.write_strip.ensures
+
+pub returns : goal.returns
+returns c = collect_end c.loop-pass.invariant c.loop-pass-test.false

@@ -1,0 +1,29 @@
+-- `load_pair` stores the words of two heights.
+use mathlib.Core.Path.{◌≡◌, ap, ◌∙◌}
+use Prim.Native.Nat.{◌+◌}
+use native.Mathlib.Omega.{arith}
+use lib.ListN.{length-set}
+use mir.Syntax.{w32}
+use mir.ValLaws.{to_z-of_z}
+use Rattle.buffer.specs.Lists.{number_at}
+use Rattle.buffer.specs.Pixel.{pixel}
+use Rattle.buffer.specs.Copies.{heights_from}
+use Rattle.buffer.proofs.Copies.{row_two}
+use Rattle.collect_finish.proofs.load_pair.Goals as goal
+
+pub bounds-work-work_start-2 : goal.bounds-work-work_start-2
+bounds-work-work_start-2 c =
+    let a = c.args in
+    rw (length-set a.work.now a.work_start c.read_pixel-first.result) (omega arith)
+
+pub returns : goal.returns
+returns c =
+    let a = c.args in
+    let first = number_at a.map.now a.map-start in
+    let second = number_at a.map.now (a.map-start + 1) in
+    let begins : a.map-start ≡ a.map-start + 0 = omega arith in
+    row_two a.work_start (heights_from a.map.now a.map-start) a.work.now _ _
+    (c.read_pixel-first.ensures
+    ∙ ap pixel (to_z-of_z w32 first (record { sfits = c.read_pixel-arg-1.given }))
+    ∙ ap (λ place. pixel (number_at a.map.now place)) begins)
+    (c.read_pixel-second.ensures ∙ ap pixel (to_z-of_z w32 second (record { sfits = c.read_pixel-arg-2-1.given })))

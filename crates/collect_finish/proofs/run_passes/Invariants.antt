@@ -1,0 +1,12 @@
+-- `run_passes` has run the passes so far in the work array with all gains in the first, the neighbours' strips past the
+-- block's edges times the gains of the passes after each.
+use Prim.Native.Nat.{◌-◌}
+use native.Mathlib.Omega.{arith}
+use Rattle.collect_finish.proofs.Finishing.{Finishing, passes_start, finish_margin, finish_pass, finish_turn, passes_end}
+use Rattle.collect_finish.proofs.run_passes.Given as goal
+
+abbrev pub invariant-loop-pass : goal.invariant-loop-pass
+invariant-loop-pass l = Finishing l.plan l.k l.strips l.initial.work l.count l.pass l.work
+
+abbrev pub decreases-loop-pass : goal.decreases-loop-pass
+decreases-loop-pass l = l.count - l.pass

@@ -1,0 +1,14 @@
+-- `from_edge` is the place at a distance, by the direction of the pass.
+use mathlib.Core.Path.{sym, ◌∙◌}
+use native.Mathlib.Omega.{arith}
+use Rattle.axis.specs.Axis.{direction_of}
+use Rattle.axis.proofs.Passes.{runs_forward, runs_backward}
+use Rattle.link.proofs.lines.from_edge.Goals as goal
+
+pub returns-then-is_backward : goal.returns-then-is_backward
+returns-then-is_backward c =
+    rw (runs_backward (direction_of c.args.pass) (sym c.is_backward.ensures ∙ c.if-is_backward.true))
+
+pub returns-else-is_backward : goal.returns-else-is_backward
+returns-else-is_backward c =
+    rw (runs_forward (direction_of c.args.pass) (sym c.is_backward.ensures ∙ c.if-is_backward.false)) (omega arith)

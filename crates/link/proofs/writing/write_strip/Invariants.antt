@@ -1,0 +1,15 @@
+-- `write_strip` has written the places so far.
+use mathlib.Core.Path.{◌≡◌}
+use Prim.Native.Nat.{◌+◌, ◌-◌, ◌≤◌}
+use native.Mathlib.Omega.{arith}
+use lib.ListN.{length}
+use Rattle.link.specs.Writing.{linked_word, StripLaid, PlacesWritten}
+use Rattle.link.proofs.writing.Places.{laid_fewer, places_none, places_next}
+use Rattle.link.proofs.writing.write_strip.Given as goal
+
+abbrev pub invariant-loop-place : goal.invariant-loop-place
+invariant-loop-place l =
+    (l.place ≤ l.order) × PlacesWritten l.lone l.shift l.side l.place (linked_word l.lone l.initial.strips l.responses) l.initial.strips l.strips
+
+abbrev pub decreases-loop-place : goal.decreases-loop-place
+decreases-loop-place l = l.order - l.place
