@@ -29,16 +29,16 @@ loop-pass-init c =
 
 pub run_block_pass-requires : goal.run_block_pass-requires
 run_block_pass-requires c =
-    collect_pass (placed (goal.at.run_block_pass-requires c).After-block_shape-shape) c.loop-pass.invariant c.loop-pass-test.taken c.filter_with_gain-words.ensures
+    collect_pass (placed (goal.at.run_block_pass-requires c).After-block_shape-shape) c.loop-pass.invariant c.loop-pass-test.true c.filter_with_gain-words.ensures
 
 pub write_strip-requires : goal.write_strip-requires
 write_strip-requires c =
-    collect_strip (placed (goal.at.write_strip-requires c).After-block_shape-shape) c.loop-pass.invariant c.loop-pass-test.taken c.filter_with_gain-words.ensures
+    collect_strip (placed (goal.at.write_strip-requires c).After-block_shape-shape) c.loop-pass.invariant c.loop-pass-test.true c.filter_with_gain-words.ensures
     c.run_block_pass.ensures c.requires.strips_long
 
 pub loop-pass-preserved : goal.loop-pass-preserved
 loop-pass-preserved c =
-    collect_turn (placed (goal.at.loop-pass-preserved c).After-block_shape-shape) c.loop-pass.invariant c.loop-pass-test.taken c.filter_with_gain-words.ensures
+    collect_turn (placed (goal.at.loop-pass-preserved c).After-block_shape-shape) c.loop-pass.invariant c.loop-pass-test.true c.filter_with_gain-words.ensures
     c.run_block_pass.ensures c.gains_from-gain.ensures c.write_strip.ensures
 
 pub returns : goal.returns

@@ -38,7 +38,7 @@ scale_words-requires c =
 pub loop-column-preserved : goal.loop-column-preserved
 loop-column-preserved c =
     let a = c.args in
-    columns_more a.gain a.from.now a.source.start a.source.stride c.loop-column.invariant c.loop-column-test.taken
+    columns_more a.gain a.from.now a.source.start a.source.stride c.loop-column.invariant c.loop-column-test.true
     c.requires.2 c.scale_words.ensures
 
 pub returns : goal.returns

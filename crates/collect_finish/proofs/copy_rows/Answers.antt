@@ -42,7 +42,7 @@ copy_row-requires c =
 pub loop-row-preserved : goal.loop-row-preserved
 loop-row-preserved c =
     let a = c.args in
-    scaled_more a.gain a.from.now a.source.start a.source.stride c.loop-row.invariant c.loop-row-test.taken
+    scaled_more a.gain a.from.now a.source.start a.source.stride c.loop-row.invariant c.loop-row-test.true
     c.copy_row.ensures
 
 pub returns : goal.returns

@@ -11,7 +11,7 @@ use Rattle.collect_finish.proofs.load_columns.Goals.{In-loop-row}
 -- ---- this row is in both buffers
 row_in_map : (c : In-loop-row)
     → let a = c.args in
-    a.map-start + c.loop-row.row * a.map-stride + a.width ≤ length a.map.now
+    a.map_start + c.loop-row.row * a.map-stride + a.width ≤ length a.map.now
 row_in_map c = c.requires.0.row _ c.loop-row-test.true
 
 row-in-work : (c : In-loop-row)
@@ -43,7 +43,7 @@ load_row-requires c =
     (row_in_map (goal.at.load_row-requires c).In-loop-row, rw c.loop-row.invariant.length_kept (row-in-work (goal.at.load_row-requires c).In-loop-row))
 
 pub loop-row-preserved : goal.loop-row-preserved
-loop-row-preserved c = rows_more c.loop-row.invariant c.loop-row-test.taken c.load_row.ensures
+loop-row-preserved c = rows_more c.loop-row.invariant c.loop-row-test.true c.load_row.ensures
 
 pub returns : goal.returns
 returns c = rows_all c.loop-row.invariant c.loop-row-test.false

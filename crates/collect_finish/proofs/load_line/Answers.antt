@@ -16,7 +16,7 @@ loop-pair-init c = (omega arith, refl, row_none _ (heights_from c.args.map.now c
 pub loop-pair-preserved : goal.loop-pair-preserved
 loop-pair-preserved c =
     let a = c.args in
-    let read : ℕ → ℕ = heights_from a.map.now a.map-start in
+    let read : ℕ → ℕ = heights_from a.map.now a.map_start in
     let both : 2 * c.loop-pair.pair + 2 ≡ 2 * (c.loop-pair.pair + 1) = omega arith in
     let loaded = row_parts a.work_start read _ (2 * c.loop-pair.pair) 2 a.work.now _ _ c.loop-pair.invariant.2
     (λ i. ap (λ place. pixel (number_at a.map.now place)) (omega arith)) c.load_pair.ensures in

@@ -19,10 +19,10 @@ bounds-work-work_start-2 c =
 pub returns : goal.returns
 returns c =
     let a = c.args in
-    let first = number_at a.map.now a.map-start in
-    let second = number_at a.map.now (a.map-start + 1) in
-    let begins : a.map-start ≡ a.map-start + 0 = omega arith in
-    row_two a.work_start (heights_from a.map.now a.map-start) a.work.now _ _
+    let first = number_at a.map.now a.map_start in
+    let second = number_at a.map.now (a.map_start + 1) in
+    let begins : a.map_start ≡ a.map_start + 0 = omega arith in
+    row_two a.work_start (heights_from a.map.now a.map_start) a.work.now _ _
     (c.read_pixel-first.ensures
     ∙ ap pixel (to_z-of_z w32 first (record { sfits = c.read_pixel-arg-1.given }))
     ∙ ap (λ place. pixel (number_at a.map.now place)) begins)

@@ -12,18 +12,18 @@ loop-pass-init c = passes_start c.requires
 pub load_margin-requires : goal.load_margin-requires
 load_margin-requires c =
     let ready = c.requires in
-    finish_margin ready c.loop-pass.invariant c.loop-pass-test.taken ready.strips_long
+    finish_margin ready c.loop-pass.invariant c.loop-pass-test.true ready.strips_long
 
 pub run_block_pass-requires : goal.run_block_pass-requires
 run_block_pass-requires c =
     let ready = c.requires in
-    finish_pass ready c.loop-pass.invariant c.loop-pass-test.taken c.gains_after-gain.ensures
+    finish_pass ready c.loop-pass.invariant c.loop-pass-test.true c.gains_after-gain.ensures
     c.load_margin.ensures c.gains_first-words.ensures
 
 pub loop-pass-preserved : goal.loop-pass-preserved
 loop-pass-preserved c =
     let ready = c.requires in
-    finish_turn ready c.loop-pass.invariant c.loop-pass-test.taken c.gains_after-gain.ensures
+    finish_turn ready c.loop-pass.invariant c.loop-pass-test.true c.gains_after-gain.ensures
     c.load_margin.ensures c.gains_first-words.ensures c.run_block_pass.ensures
 
 pub returns : goal.returns

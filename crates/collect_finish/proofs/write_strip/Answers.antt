@@ -73,7 +73,7 @@ pub returns-then-not-needed : goal.returns-then-not-needed
 returns-then-not-needed c =
     let a = c.args in
     cleared_strip c.requires c.strip_start-start.ensures a.gain a.work.now a.strips.now
-    (failed (goes-on-is (goal.at.returns-then-not-needed c).After-goes_on-needed) c.if-not-needed.taken) (rw (order_is (goal.at.returns-then-not-needed c).After-strip_start-start) at c.clear_words.ensures)
+    (failed (goes-on-is (goal.at.returns-then-not-needed c).After-goes_on-needed) c.if-not-needed.true) (rw (order_is (goal.at.returns-then-not-needed c).After-strip_start-start) at c.clear_words.ensures)
 
 pub edge_start-index-requires : goal.edge_start-index-requires
 edge_start-index-requires c =

@@ -31,7 +31,7 @@ first_tasks_of-requires c =
 pub loop-block-preserved : goal.loop-block-preserved
 loop-block-preserved c =
     let a = c.args in
-    let inside : c.loop-block.block < block_total a.grid = omega (arith, c.before.blocks2.ensures) in (
+    let inside : c.loop-block.block < block_total a.grid = omega (arith, c.blocks-blocks.ensures) in (
       omega arith,
       length-set c.loop-block.marks _ _ ∙ c.loop-block.invariant.1,
       recalled_next a.grid a.recalled a.marks.now c.requires.valid _ inside _ c.loop-block.invariant.2

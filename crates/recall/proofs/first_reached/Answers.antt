@@ -15,8 +15,8 @@ unfolding first_reached
 in-column c =
     rw (
       le-ltb _ _ c.if-at-recalled.false,
-      le-ltb _ _ c.if-recalled-at.left,
-      le-ltb _ _ c.if-at-recalled-2.left,
+      le-ltb _ _ c.if-recalled-at.false,
+      le-ltb _ _ c.if-at-recalled-2.false,
     )
 
 -- ---- needs
@@ -31,7 +31,7 @@ returns-then-recalled-at c = rw (le-ltb _ _ c.if-at-recalled.false, lt-ltb _ _ c
 pub returns-then-at-recalled-2 : goal.returns-then-at-recalled-2
 unfolding first_reached
 returns-then-at-recalled-2 c =
-    rw (le-ltb _ _ c.if-at-recalled.false, le-ltb _ _ c.if-recalled-at.left, lt-ltb _ _ c.if-at-recalled-2.true)
+    rw (le-ltb _ _ c.if-at-recalled.false, le-ltb _ _ c.if-recalled-at.false, lt-ltb _ _ c.if-at-recalled-2.true)
 
 pub returns-then-recalled-at-2 : goal.returns-then-recalled-at-2
 returns-then-recalled-at-2 c =
