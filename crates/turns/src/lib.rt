@@ -1,6 +1,7 @@
 // Several jobs on one control: the record of a job and what a turn names, whose turn it is, as definitions (specs/), and that
 // no job waits for more turns than there are jobs (proofs/). It has no code.
 #![tactic(auto)]
+
 use refusal::Refusal;
 
 // A job: the sizes of its plan, and where its marks start in the common list. C's `mzg_job` is the same four words of 64 bits.

@@ -11,7 +11,7 @@ use Rattle.collect_finish.proofs.load_columns.Goals.{In-loop-row}
 -- ---- this row is in both buffers
 row_in_map : (c : In-loop-row)
     → let a = c.args in
-    a.map_start + c.loop-row.row * a.map-stride + a.width ≤ length a.map.now
+    a.map_start + c.loop-row.row * a.map_stride + a.width ≤ length a.map.now
 row_in_map c = c.requires.0.row _ c.loop-row-test.true
 
 row-in-work : (c : In-loop-row)

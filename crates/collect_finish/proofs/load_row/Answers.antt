@@ -2,4 +2,4 @@
 use Rattle.collect_finish.proofs.load_row.Goals as goal
 
 pub returns-then-count-eq-LINE_HEIGHTS : goal.returns-then-count-eq-LINE_HEIGHTS
-returns-then-count-eq-LINE_HEIGHTS c = rw c.if-count-eq-LINE_HEIGHTS.true c.Load-Line.ensures
+returns-then-count-eq-LINE_HEIGHTS c = rw c.if-count-eq-LINE_HEIGHTS.true c.load_line.ensures

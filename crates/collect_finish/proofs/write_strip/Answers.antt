@@ -14,24 +14,18 @@ use Rattle.collect_finish.specs.Work.{edge_first}
 use Rattle.collect_finish.proofs.WorkPlaces.{move_limited, edge_asked}
 use Rattle.collect_finish.proofs.WorkEdges.{edge_in_work, edge_fits, words_in_strips, strip_in_strips, cleared_strip, copied_strip}
 use Rattle.collect_finish.proofs.write_strip.Goals as goal
-use Rattle.collect_finish.proofs.write_strip.Goals.{After-across-width, After-along-height, After-edge_start-index, After-goes_on-needed, After-strip_start-start}
-
--- The order of the pass.
-order_is : (c : After-strip_start-start)
-    → let a = c.args in
-    c.order-order.result ≡ order_of a.plan a.pass
-order_is c = c.order-order.ensures
+use Rattle.collect_finish.proofs.write_strip.Goals.{After-across-width, After-along-height, After-edge_start-index, After-goes_on-needed}
 
 -- The strip's width and height in the work array.
 width_is : (c : After-across-width)
     → let a = c.args in
     c.across-width.result ≡ across (axis_of a.pass) (order_of a.plan a.pass) a.plan.grid.side
-width_is c = rw (order_is c.before.before.before.before) at c.across-width.ensures
+width_is c = rw c.order-order.ensures at c.across-width.ensures
 
 height-is : (c : After-along-height)
     → let a = c.args in
     c.along-height.result ≡ along (axis_of a.pass) (order_of a.plan a.pass) a.plan.grid.side
-height-is c = rw (order_is c.before.before.before.before.before) at c.along-height.ensures
+height-is c = rw c.order-order.ensures at c.along-height.ensures
 
 -- Where the strip starts in the work array.
 edge_is : (c : After-edge_start-index)
@@ -40,7 +34,7 @@ edge_is : (c : After-edge_start-index)
 edge_is c =
     let a = c.args in
     c.edge_start-index.ensures
-    ∙ ap₂ (edge_start (direction_of a.pass)) (order_is c.before.before.before) c.extent.ensures
+    ∙ ap₂ (edge_start (direction_of a.pass)) c.order-order.ensures c.extent.ensures
 
 -- Whether a neighbour needs it.
 goes-on-is : (c : After-goes_on-needed)
@@ -62,22 +56,22 @@ goes_on-needed-requires c =
 
 pub overflow_mul-side : goal.overflow_mul-side
 overflow_mul-side c =
-    rw (order_is (goal.at.overflow_mul-side c).After-strip_start-start)
+    rw c.order-order.ensures
     (omega (arith, mul-le-mul (rules c.args.plan c.requires.placed.block.kept).side_high (move_limited c.requires)))
 
 pub clear_words-requires : goal.clear_words-requires
 clear_words-requires c =
-    rw (order_is (goal.at.clear_words-requires c).After-strip_start-start) (words_fit _ _ _ (words_in_strips c.requires c.strip_start-start.ensures))
+    rw c.order-order.ensures (words_fit _ _ _ (words_in_strips c.requires c.strip_start-start.ensures))
 
 pub returns-then-not-needed : goal.returns-then-not-needed
 returns-then-not-needed c =
     let a = c.args in
     cleared_strip c.requires c.strip_start-start.ensures a.gain a.work.now a.strips.now
-    (failed (goes-on-is (goal.at.returns-then-not-needed c).After-goes_on-needed) c.if-not-needed.true) (rw (order_is (goal.at.returns-then-not-needed c).After-strip_start-start) at c.clear_words.ensures)
+    (failed (goes-on-is (goal.at.returns-then-not-needed c).After-goes_on-needed) c.if-not-needed.true) (rw c.order-order.ensures at c.clear_words.ensures)
 
 pub edge_start-index-requires : goal.edge_start-index-requires
 edge_start-index-requires c =
-    rw (order_is (goal.at.edge_start-index-requires c).After-strip_start-start) (edge_asked c.requires c.extent.ensures)
+    rw c.order-order.ensures (edge_asked c.requires c.extent.ensures)
 
 pub work_place-requires : goal.work_place-requires
 work_place-requires c =

@@ -29,7 +29,7 @@ loop-j-preserved c =
       omega arith,
       simp length-set (omega arith),
       copied_more (take (a.place + 2) filled) a.pass.coefficients (a.place + 2) l.j l.filled (read_back value) (pos 0)
-          (omega arith) (search rules) (read_back_law {z = value} (search rules) refl) l.invariant.2,
+          (omega arith) (search rules) (read_back_law {w = w64} {z = value} (search rules) refl) l.invariant.2,
     )
 
 pub returns : goal.returns

@@ -9,7 +9,7 @@ use Rattle.link.proofs.carrying.carry_pass.Goals as goal
 use Rattle.link.proofs.carrying.carry_pass.Goals.{Start}
 
 pass_below : (c : Start) → c.args.pass < 4
-pass_below c = omega (arith, c.requires.1.in_course, c.requires.0.link_fits.course_fits.passes_counted)
+pass_below c = omega (arith, c.requires.pass_to_carry.in_course, c.requires.carry_fits.link_fits.course_fits.passes_counted)
 
 pub rows_before-row-requires : goal.rows_before-row-requires
 rows_before-row-requires c =

@@ -31,7 +31,7 @@ copy_words-requires c =
     let h = row_below (goal.at.copy_words-requires c).After-margin-to in
     let pre = c.requires in
     let fits = pre.course_fits in (
-      omega (arith, pre.rows_in, pre.lines_long, fits.inside, fits.few_places, fits.order_limited),
+      omega (arith, pre.rows_in_law, pre.lines_long, fits.inside, fits.few_places, fits.order_limited),
       omega (arith, pre.responses_long, c.loop-distance.invariant.length_kept, fits.order_limited),
     )
 

@@ -22,7 +22,7 @@ run_pass-requires c =
     let cross = c.requires.0 in (
       cross.orders.order_limited c.args.pass (omega arith),
       response_fits _ c.args.pass c.args.course cross.course_fits
-          (omega (arith, c.copy_ends.kept, cross.responses_long)) (omega arith),
+          (omega (arith, c.copy_ends.auto, cross.responses_long)) (omega arith),
     )
 
 pub returns : goal.returns

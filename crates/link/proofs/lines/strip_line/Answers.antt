@@ -18,7 +18,7 @@ scale_words-requires c = (
   row-words-fit _ _ _
       (omega (
         arith,
-        c.requires.rows_in,
+        c.requires.rows_in_law,
         c.requires.long,
         c.requires.few_places,
         c.lines_inside-count.ensures,

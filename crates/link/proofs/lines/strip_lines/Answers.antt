@@ -20,7 +20,7 @@ pub strip_line-requires : goal.strip_line-requires
 strip_line-requires c =
     let pre = c.requires in
     record {
-      rows_in_law = omega (arith, pre.rows_in);
+      rows_in_law = omega (arith, pre.rows_in_law);
       few_places = pre.few_places;
       long = omega (arith, pre.long, c.loop-distance.invariant.length_kept);
       strip_fits = pre.strip_fits;

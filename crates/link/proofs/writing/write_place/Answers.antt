@@ -60,7 +60,7 @@ pub clear_words-requires : goal.clear_words-requires
 clear_words-requires c =
     record {
       inside = λ line h.
-          omega (arith, there (goal.at.clear_words-requires c).After-lines_inside-lines (c.lines_inside-lines.result + line) (omega (arith, few (goal.at.clear_words-requires c).After-lines_inside-lines)), c.add_responses.kept);
+          omega (arith, there (goal.at.clear_words-requires c).After-lines_inside-lines (c.lines_inside-lines.result + line) (omega (arith, few (goal.at.clear_words-requires c).After-lines_inside-lines)), c.add_responses.auto);
     }
 
 pub returns-then-lines-side : goal.returns-then-lines-side
