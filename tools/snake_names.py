@@ -9,8 +9,8 @@ import collections, os, re, sys
 
 TOKEN = re.compile(r"[A-Za-zα-ωΑ-Ω_ℕℤ][\w'₀-₉′ℤ]*(?:-[\w'₀-₉′ℤ]+)*")
 HEAD = re.compile(r"^(\s*)((?:abbrev|unfoldable|pub|private|opaque|axiom|data|record|mod)\s+)*([^\s:(]+)((?:\s*\([^)]*\))*|(?:\s+[\w'-]+)*)\s*:(?:\s|$)")
-# A definition that would be named as a field of a struct.
-GIVEN = {"lineStep": "line_step_of", "blockRows": "block_rows_of", "blockColumns": "block_columns_of"}
+# Names that would fall together with a field of a struct or with a name of the kit.
+GIVEN = {"in-float": "machine_converts", "lineStep": "line_step_of", "blockRows": "block_rows_of", "blockColumns": "block_columns_of"}
 
 
 def snake(name):

@@ -1,5 +1,6 @@
 // The number of dropouts of the laser in a rectangle of a map.
 #![tactic(auto)]
+
 ghost use Rattle.std.specs.Prelude.{◌≡◌, ◌+◌, ◌≤◌, length};
 ghost use Rattle.plan.specs.Sizes.{needed_pixels};
 ghost use Rattle.rectangle.specs.Rectangle.{Inside};

@@ -32,7 +32,7 @@ module _ (plan : Plan) (heights : List ℤ) where
   pub unchanged_on_map : (i : ℕ) (done : ℕ → ℕ → Bool) (calls : List BlockTask) → UnchangedFrom plan heights i done (on_map heights calls)
   unfolding UnchangedFrom on_map
   unchanged_on_map i done [] = tt
-  unchanged_on_map i done (call ∷ calls) = (λ stays long y x a b. refl, unchanged_on_map i _ calls)
+  unchanged_on_map i done (call ∷ calls) = (λ stays long y x a b. refl, unchanged_on_map i (done_by_step plan done (perform heights call.task call.block)) calls)
 
   -- A call takes nothing away.
   call_keeps : (done : ℕ → ℕ → Bool) (t k u j : ℕ) → done u j ≡ true → done_by_step plan done (perform heights t k) u j ≡ true

@@ -57,10 +57,10 @@ size_in_range (negsuc n) range = omega (arith, leb→le n 9007199254740991 range
 -- ---- the float of a whole number
 
 -- The machine converts such a number.
-pub in_float : (number : ℤ) → InFloatRange number → T (in_float binary64 number)
+pub machine_converts : (number : ℤ) → InFloatRange number → T (in_float binary64 number)
 unfolding in_float
-in_float (pos n) range = le→leb n (2 ^ 53) (size_in_range (pos n) range)
-in_float (negsuc n) range = lt→ltb n (2 ^ 53) (size_in_range (negsuc n) range)
+machine_converts (pos n) range = le→leb n (2 ^ 53) (size_in_range (pos n) range)
+machine_converts (negsuc n) range = lt→ltb n (2 ^ 53) (size_in_range (negsuc n) range)
 
 equals_whole : (number : ℤ) → nat_abs number ≤ 2 ^ 53 → EqualsWhole (float_of number) number
 unfolding of_int

@@ -1,5 +1,6 @@
 // Quantities of a rectangle as macro variables of a control: its total, and its number of pixels.
 #![tactic(auto)]
+
 ghost use Rattle.std.specs.Prelude.{◌≡◌};
 ghost use Rattle.rectangle.specs.Rectangle.{sum_given};
 ghost use Rattle.macro_values.specs.MacroValues.{float_of, total_value, quantity_value, value_by_sum, macro_call, pair_by_sum, pair_call, variable_of, value_given, pair_given};

@@ -1,0 +1,18 @@
+-- `count_row` has counted the dropouts passed so far.
+use mathlib.Core.Path.{◌≡◌, sym, ap, ◌∙◌}
+use Prim.Native.Nat.{◌+◌, ◌-◌, ◌≤◌}
+use native.Mathlib.Omega.{arith}
+use mir.Syntax.{w32}
+use mir.ValLaws.{to_z-of_z}
+use Rattle.number.specs.Numbers.{one}
+use Rattle.number.proofs.Sums.{one_most, sum_on, total_none}
+use Rattle.buffer.specs.Lists.{number_at}
+use Rattle.buffer.specs.Pixel.{is_dropout}
+use Rattle.dropouts.specs.Rows.{dropouts_from}
+use Rattle.dropouts.proofs.count_row.Given as goal
+
+abbrev pub invariant-loop-i : goal.invariant-loop-i
+invariant-loop-i l = (l.i ≤ l.count) × (l.found ≡ dropouts_from l.map l.start l.i) × (l.found ≤ l.i)
+
+abbrev pub decreases-loop-i : goal.decreases-loop-i
+decreases-loop-i l = l.count - l.i

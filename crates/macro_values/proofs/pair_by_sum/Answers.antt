@@ -1,0 +1,20 @@
+-- `macro_values::pair_by_sum` meets its contract: both quantities where there is a sum, both vacant beside a refusal.
+-- Assumes nothing.
+use borrow.Author.Rules.{rules}
+use Rattle.macro_values.proofs.Quantities.{value_read_back, pair_of_sum, pair_of_refusal}
+use Rattle.macro_values.proofs.pair_by_sum.Goals as goal
+
+pub quantity_value-requires : goal.quantity_value-requires
+quantity_value-requires c = rw c.in-Sum.is at c.requires
+
+pub quantity_value-requires-in-Sum : goal.quantity_value-requires-in-Sum
+quantity_value-requires-in-Sum c = rw c.in-Sum.is at c.requires
+
+pub returns-in-Sum : goal.returns-in-Sum
+returns-in-Sum c =
+    pair_of_sum _ _ _ _ _ c.in-Sum.is
+    (value_read_back _ _ _ _ _ _ (search rules) c.quantity_value.ensures)
+    (value_read_back _ _ _ _ _ _ (search rules) c.quantity_value-in-Sum.ensures)
+
+pub returns-in-Refused : goal.returns-in-Refused
+returns-in-Refused c = pair_of_refusal _ _ _ _ _ c.in-Refused.is
