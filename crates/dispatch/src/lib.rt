@@ -1,6 +1,7 @@
 // The dispatcher of several jobs on one control: whose turn it is, and with which task. One function alone walks over the
 // lent list, and hands its jobs on by value.
 #![tactic(auto)]
+
 mod part;
 mod search;
 

@@ -1,5 +1,6 @@
 // The calls of a job: the start, one task, and a list of tasks, or of tasks and recalls, one after another.
 #![tactic(auto)]
+
 ghost use Rattle.std.specs.Prelude.{◌≡◌, ◌≤◌, length};
 ghost use Rattle.refusal.specs.Refusals.{accepted};
 ghost use Rattle.refusal.specs.Table.{answer_of, if_accepted};
