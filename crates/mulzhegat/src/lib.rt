@@ -2,6 +2,7 @@
 // variables the two that it is made of, and answers one number: 0 where the call is accepted, else the documents' number
 // of the refusal times 2^32, plus its place.
 #![tactic(auto)]
+
 ghost use Rattle.std.specs.Prelude.{◌≡◌, length};
 ghost use Rattle.refusal.specs.Refusals.{refused_for};
 ghost use Rattle.refusal.specs.Table.{answer_of};

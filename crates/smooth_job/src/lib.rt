@@ -1,5 +1,6 @@
 // Document 01's program on its input: the tests, the plan, the heights, and the whole job. Reading and printing are left to main.
 #![tactic(auto)]
+
 ghost use Rattle.std.specs.Prelude.{◌≡◌, true, ◌+◌, ◌*◌, ◌/◌, ◌<◌, ◌≤◌, length, replicate};
 ghost use Rattle.plan.specs.Rules.{keeps_rules};
 ghost use Rattle.refusal.specs.Refusals.{number_of, place_of};

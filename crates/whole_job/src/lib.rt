@@ -1,5 +1,6 @@
 // A whole job: what the report names is performed, as often as there are tasks, after which it names none.
 #![tactic(auto)]
+
 ghost use Rattle.std.specs.Prelude.{◌≡◌};
 ghost use Rattle.refusal.specs.Table.{answer_of};
 ghost use Rattle.job_spec.specs.Calls.{lists};
