@@ -1,0 +1,32 @@
+-- `smooth_job::plan_in` meets its contract: the first i words are filled in. Assumes nothing.
+use mathlib.Core.Path.{◌≡◌, sym, ap, ◌∙◌}
+use Prim.Native.Nat.{◌-◌, ◌≤◌}
+use native.Mathlib.Omega.{arith}
+use lib.ListN.{length, take, length-set}
+use lib.Seq.{length-take-le}
+use Rattle.buffer.specs.Lists.{list_of}
+use Rattle.buffer.proofs.Listed.{listed_none, filled_more}
+use Rattle.plan_reader.specs.ReadPlan.{read_plan}
+use Rattle.plan.specs.Sizes.{word_limit}
+use Rattle.smooth_job.specs.Program.{word_in}
+use borrow.Author.Rules.{rules}
+use Rattle.smooth_job.proofs.plan_in.Goals as goal
+
+pub loop-i-init : goal.loop-i-init
+loop-i-init c = (omega arith, search rules, sym (listed_none _))
+
+pub loop-i-preserved : goal.loop-i-preserved
+loop-i-preserved c = (
+  omega arith,
+  simp length-set (omega arith),
+  filled_more _ _ _ _ (omega arith) c.word_at-word.ensures c.loop-i.invariant.2,
+)
+
+pub slice_bounds-read_plan-end : goal.slice_bounds-read_plan-end
+slice_bounds-read_plan-end c = sym (length-take-le _ _ (omega arith))
+
+pub returns : goal.returns
+returns c =
+    let l = c.loop-i in
+    let e : l.i ≡ c.args.count = omega arith in
+    c.read_plan.ensures ∙ ap read_plan (rw e at l.invariant.2)

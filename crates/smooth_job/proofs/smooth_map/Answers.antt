@@ -1,0 +1,34 @@
+-- `smooth_job::smooth_map` meets its contract: the first q heights are filled in. Assumes nothing.
+use Rattle.std.proofs.Common.{w32}
+use mathlib.Core.Path.{◌≡◌, sym}
+use Prim.Native.Nat.{◌-◌, ◌≤◌}
+use native.Mathlib.Omega.{arith}
+use lib.ListN.{length, take, length-set}
+use lib.Seq.{length-take-le}
+use Rattle.buffer.proofs.Listed.{listed_none, filled_more}
+use Rattle.smooth_job.specs.Program.{pixel_limit, heights_in}
+use Rattle.number.proofs.SignedBits.{read_back_law}
+use borrow.Author.Rules.{rules}
+use Rattle.smooth_job.proofs.smooth_map.Goals as goal
+
+pub loop-q-init : goal.loop-q-init
+unfolding heights_in
+loop-q-init c = (omega arith, search rules, sym (listed_none _))
+
+pub loop-q-preserved : goal.loop-q-preserved
+unfolding heights_in
+loop-q-preserved c = (
+  omega arith,
+  simp length-set (omega arith),
+  filled_more _ _ _ _ (omega arith) (read_back_law {w = w32} (search rules) c.height_at-height.ensures) c.loop-q.invariant.2,
+)
+
+pub slice_bounds-smooth_heights-end : goal.slice_bounds-smooth_heights-end
+slice_bounds-smooth_heights-end c = sym (length-take-le _ _ (omega arith))
+
+pub returns : goal.returns
+returns c =
+    let l = c.loop-q in
+    let e : l.q ≡ c.args.pixels = omega arith in
+    let heights = rw e at l.invariant.2 in
+    record { answer = rw heights at c.smooth_heights.ensures.answer; output = rw heights at c.smooth_heights.ensures.output }
