@@ -9,7 +9,7 @@ test:
 
 # target/staticlib/libmulzhegat.a, from the proved crates.
 library:
-	@rt staticlib mulzhegat
+	@scripts/library
 
 bench: library
 	@cd rust && cargo run --release --offline --quiet --bin bench -- --svg ../docs/benchmarks.svg
@@ -17,8 +17,8 @@ bench: library
 
 # The random tests for longer than the gate does; one of them runs the program calls_run.
 soak: library
-	@rt check calls_run
+	@scripts/programs
 	@cd rust && MULZHEGAT_ROUNDS=$${MULZHEGAT_ROUNDS:-50} cargo test --release --offline -- --nocapture
 
 clean:
-	@rm -rf target rust/target
+	@rm -rf target rust/target crates/*/out

@@ -7,11 +7,13 @@
 // its start; with too many pixels, or heights missing, each call of a task is refused by 15 and none is accepted, so that no
 // block is collected and each recall is refused too.
 #![tactic(auto)]
-ghost use Rattle.std.specs.Prelude.{◌≤◌, length};
 
-use libc::{STDIN_FILENO, STDOUT_FILENO};
+ghost use Rattle.std.specs.Prelude.{◌≤◌, length, IfOk};
+
 use plan::{Plan, PlanSizes};
 use refusal::{Outcome, Refusal};
+use std::io;
+use std::io::{BufWriter, Read, Write};
 
 const PIXEL_LIMIT: usize = 256;
 
@@ -25,14 +27,31 @@ const INPUT_WORDS: usize = plan::WORD_LIMIT + PIXEL_LIMIT + 2 * CALL_LIMIT;
 // What stands in the output before the first call.
 const UNWRITTEN: u64 = 77;
 
-fn main() {
+fn main(rt: HostRuntime) -> io::Result<()> {
     let mut input = [0; 4 * INPUT_WORDS];
-    let count = io::read_full(STDIN_FILENO, &mut input);
-    run_input(&input[..count]);
+    let count = read_full(&mut rt.stdin(), &mut input)?;
+    let mut out = BufWriter::new(rt.alloc(), io::writer(&rt))?;
+    run_input(&mut out, &input[..count])?;
+    out.flush()
+}
+
+// Reads until the buffer is full or the input ends, and answers how many bytes came.
+fn read_full<R: Read>(reader: &mut R, buffer: &mut [u8]) -> io::Result<usize>
+    ensures { IfOk result (λ count. count ≤ length buffer.new) }
+{
+    let mut count = 0;
+    while count < buffer.len() {
+        let more = reader.read(&mut buffer[count..])?;
+        if more == 0 {
+            break;
+        }
+        count += more;
+    }
+    Ok(count)
 }
 
 // The plan, and then the job on the words after it.
-fn run_input(input: &[u8]) {
+fn run_input<W: Write>(out: &mut W, input: &[u8]) -> io::Result<()> {
     let mut words = [0; INPUT_WORDS];
     let count = take_words(input, &mut words);
     let first = number::lesser(smooth_job::plan_length(input), count);
@@ -41,17 +60,17 @@ fn run_input(input: &[u8]) {
     match outcome {
         Outcome::Accepted => {
             let plan = read.plan;
-            run_plan(plan, &words[first..count])
+            run_plan(out, plan, &words[first..count])
         }
-        Outcome::Refused(refusal) => print_refusal(refusal),
+        Outcome::Refused(refusal) => print_refusal(out, refusal),
     }
 }
 
 // The heights, and buffers of just the needed lengths.
-fn run_plan(plan: Plan, words: &[u32]) {
+fn run_plan<W: Write>(out: &mut W, plan: Plan, words: &[u32]) -> io::Result<()> {
     let known = plan.sizes();
     let PlanSizes::Known(sizes) = known else {
-        return;
+        return Ok(());
     };
     let mut heights = [0; PIXEL_LIMIT];
     let pixels = take_heights(words, sizes.pixels, &mut heights);
@@ -61,6 +80,7 @@ fn run_plan(plan: Plan, words: &[u32]) {
     let strip_count = number::lesser(sizes.strips, STRIP_LIMIT);
     let mut output = [UNWRITTEN; PIXEL_LIMIT];
     run_job(
+        out,
         plan,
         &words[pixels..],
         &heights[..pixels],
@@ -71,26 +91,37 @@ fn run_plan(plan: Plan, words: &[u32]) {
 }
 
 // The start, and then the calls that the words name.
-fn run_job(
+fn run_job<W: Write>(
+    out: &mut W,
     plan: Plan,
     words: &[u32],
     map: &[i32],
     marks: &mut [u32],
     strips: &mut [u64],
     output: &mut [u64],
-) {
+) -> io::Result<()> {
     let mut tasks = [0; CALL_LIMIT];
     let mut blocks = [0; CALL_LIMIT];
     let count = take_calls(words, &mut tasks, &mut blocks);
     let outcome = job::start(plan, marks, strips);
     match outcome {
-        Outcome::Accepted => run_list(plan, &tasks[..count], &blocks, map, marks, strips, output),
-        Outcome::Refused(refusal) => print_refusal(refusal),
+        Outcome::Accepted => run_list(
+            out,
+            plan,
+            &tasks[..count],
+            &blocks,
+            map,
+            marks,
+            strips,
+            output,
+        ),
+        Outcome::Refused(refusal) => print_refusal(out, refusal),
     }
 }
 
 // The first half of the calls, and then the rest, with recalls among it. Both times more blocks than tasks are lent.
-fn run_list(
+fn run_list<W: Write>(
+    out: &mut W,
     plan: Plan,
     tasks: &[usize],
     blocks: &[usize],
@@ -98,7 +129,7 @@ fn run_list(
     marks: &mut [u32],
     strips: &mut [u64],
     output: &mut [u64],
-)
+) -> io::Result<()>
     requires { length tasks.now ≤ length blocks.now }
 {
     let half = tasks.len() / 2;
@@ -112,7 +143,7 @@ fn run_list(
         strips,
         output,
     );
-    print_job(first, rest, marks, strips, output);
+    print_job(out, first, rest, marks, strips, output)
 }
 
 // ---- words
@@ -122,10 +153,8 @@ fn take_words(input: &[u8], words: &mut [u32]) -> usize
     ensures { result ≤ length words.new }
 {
     let count = number::lesser(input.len() / 4, words.len());
-    let mut i = 0;
-    while i < count {
+    for i in 0..count {
         words[i] = smooth_job::word_at(input, i);
-        i += 1;
     }
     count
 }
@@ -135,10 +164,8 @@ fn take_heights(words: &[u32], wanted: usize, heights: &mut [i32]) -> usize
     ensures { (result ≤ length words.now) × (result ≤ length heights.new) }
 {
     let count = number::lesser(wanted, number::lesser(words.len(), heights.len()));
-    let mut i = 0;
-    while i < count {
+    for i in 0..count {
         heights[i] = smooth_job::decode_signed32(words[i]);
-        i += 1;
     }
     count
 }
@@ -148,11 +175,9 @@ fn take_calls(words: &[u32], tasks: &mut [usize], blocks: &mut [usize]) -> usize
     ensures { (result ≤ length tasks.new) × (result ≤ length blocks.new) }
 {
     let count = number::lesser(words.len() / 2, number::lesser(tasks.len(), blocks.len()));
-    let mut i = 0;
-    while i < count {
+    for i in 0..count {
         tasks[i] = number(words[2 * i]);
         blocks[i] = number(words[2 * i + 1]);
-        i += 1;
     }
     count
 }
@@ -163,47 +188,44 @@ fn number(word: u32) -> usize {
 
 // ---- printing
 
-fn print_refusal(refusal: Refusal) {
-    print_field(b"refused ", refusal.number() as u64);
-    print_field(b" at ", refusal.place() as u64);
-    io::write_all(STDOUT_FILENO, b"\n");
+fn print_refusal<W: Write>(out: &mut W, refusal: Refusal) -> io::Result<()> {
+    let number = refusal.number();
+    let place = refusal.place();
+    writeln!(out, "refused {number} at {place}")
 }
 
 // How many calls of each list were accepted, and the buffers.
-fn print_job(first: usize, rest: usize, marks: &[u32], strips: &[u64], output: &[u64]) {
-    print_field(b"accepted ", first as u64);
-    print_field(b" ", rest as u64);
-    io::write_all(STDOUT_FILENO, b"\nmarks");
-    print_marks(marks);
-    print_words(b"\nstrips", strips);
-    print_words(b"\noutput", output);
-    io::write_all(STDOUT_FILENO, b"\n");
+fn print_job<W: Write>(
+    out: &mut W,
+    first: usize,
+    rest: usize,
+    marks: &[u32],
+    strips: &[u64],
+    output: &[u64],
+) -> io::Result<()> {
+    writeln!(out, "accepted {first} {rest}")?;
+    print_marks(out, marks)?;
+    print_words(out, "strips", strips)?;
+    print_words(out, "output", output)
 }
 
-fn print_marks(marks: &[u32]) {
-    let mut i = 0;
-    while i < marks.len() {
-        print_mark(marks[i]);
-        i += 1;
+fn print_marks<W: Write>(out: &mut W, marks: &[u32]) -> io::Result<()> {
+    write!(out, "marks")?;
+    for mark in marks {
+        print_mark(out, *mark)?;
     }
+    writeln!(out)
 }
 
 // A mark in hexadecimal.
-fn print_mark(mark: u32) {
-    io::write_all(STDOUT_FILENO, b" ");
-    io::print_hex(STDOUT_FILENO, mark as u64, 8);
+fn print_mark<W: Write>(out: &mut W, mark: u32) -> io::Result<()> {
+    write!(out, " {mark:08x}")
 }
 
-fn print_words(name: &[u8], words: &[u64]) {
-    io::write_all(STDOUT_FILENO, name);
-    let mut i = 0;
-    while i < words.len() {
-        print_field(b" ", words[i]);
-        i += 1;
+fn print_words<W: Write>(out: &mut W, name: &str, words: &[u64]) -> io::Result<()> {
+    write!(out, "{name}")?;
+    for word in words {
+        write!(out, " {word}")?;
     }
-}
-
-fn print_field(name: &[u8], value: u64) {
-    io::write_all(STDOUT_FILENO, name);
-    io::print_decimal(STDOUT_FILENO, value);
+    writeln!(out)
 }

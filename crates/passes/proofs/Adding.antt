@@ -1,6 +1,6 @@
 -- A linear way of combining whole maps commutes with the serial passes: so do sum and difference.
 -- Assumes nothing.
-use mathlib.Core.Path.{◌≡◌, sym, ap, ◌∙◌, fun_ext}
+use mathlib.Core.Path.{◌≡◌, sym, ap, ◌∙◌}
 use Prim.Native.Nat.{ℕ}
 use Rattle.passes.specs.Filter.{Filter}
 use Rattle.passes.specs.Passes.{passes_over, serial_passes}

@@ -1,120 +1,162 @@
 // Document 01's program: a whole job from standard input, little-endian words of the plan and then the heights.
 #![tactic(auto)]
-ghost use Rattle.std.specs.Prelude.{◌*◌, ◌≤◌, length};
-ghost use Rattle.smooth_job.specs.Program.{input_limit, cut_limit};
 
-use libc::{STDIN_FILENO, STDOUT_FILENO};
+ghost use Rattle.std.specs.Prelude.{◌≡◌, ◌+◌, ◌*◌, ◌<◌, ◌≤◌, length, take, IfOk, IfSome, OnOk};
+ghost use Rattle.std.specs.Io.KnownBytes.{Appends, Consumes, ConsumesCount, IsAtEnd};
+ghost use Rattle.smooth.specs.Input.{StandsFor};
+ghost use Rattle.refusal.specs.Refusals.{number_of, place_of};
+ghost use Rattle.smooth.specs.Printed.{word_text, row_text, rows_text, refusal_text, output_text, given_text, program_text};
+ghost use Rattle.smooth_job.specs.Program.{input_limit, cut_limit, smooth_given};
+
 use refusal::{Outcome, Refusal};
 use smooth_job::{CUT_LIMIT, INPUT_LIMIT, PIXEL_LIMIT, Smoothed};
+use std::io;
+use std::io::{BufWriter, Read, Write};
 
 // The most reads after the first bytes. A proved loop has to end, and nothing says that an input does: these are more reads than
-// a run can make, and few enough that the bytes they count fit 64 bits.
+// a run can make, and few enough that the bytes they count fit 64 bits. An input of fewer bytes is read to its end.
 const READ_LIMIT: usize = 1099511627776;
 
-fn main() {
+fn main(rt: HostRuntime) -> io::Result<()> {
+    let mut out = BufWriter::new(rt.alloc(), io::writer(&rt))?;
+    run(&mut rt.stdin(), &mut out)?;
+    out.flush()
+}
+
+// Does the job that the reader's bytes ask for, and writes the answer.
+fn run<R: Read, W: Write>(reader: &mut R, out: &mut W) -> io::Result<()>
+    ensures { OnOk result (IfSome (R.remaining reader.old) (λ input. length input < READ_LIMIT → Appends (W.contents out.old) (W.contents out.new) (program_text input))) }
+{
     let mut input = [0; CUT_LIMIT];
-    let count = read_input(&mut input);
+    let count = read_input(reader, &mut input)?;
     let mut output = [0; PIXEL_LIMIT];
     let smoothed = smooth_job::smooth(&input[..count], &mut output);
-    let outcome = smoothed.outcome;
-    match outcome {
-        Outcome::Accepted => print_output(smoothed, &output),
-        Outcome::Refused(refusal) => print_refusal(refusal),
-    }
+    print_answer(out, smoothed, &output)
 }
 
 // ---- reading
 
 // Reads the input to its end, keeps its first bytes, and answers how many bytes stand for it.
-fn read_input(input: &mut [u8]) -> usize
+fn read_input<R: Read>(reader: &mut R, input: &mut [u8]) -> io::Result<usize>
     requires { input_limit ≤ length input.old }
-    ensures { result ≤ cut_limit }
+    ensures limit { IfOk result (λ count. count ≤ cut_limit) }
+    ensures whole { IfOk result (λ count. IfSome (R.remaining reader.old) (λ whole. length whole < READ_LIMIT → StandsFor whole input.new count)) }
 {
-    let first = io::read_full(STDIN_FILENO, &mut input[..INPUT_LIMIT]);
+    let first = read_full(reader, &mut input[..INPUT_LIMIT])?;
     if first < INPUT_LIMIT {
-        return first;
+        return Ok(first);
     }
-    smooth_job::cut_length(count_input())
+    let count = count_input(reader)?;
+    Ok(smooth_job::cut_length(count))
+}
+
+// Reads until the buffer is full or the input ends, and answers how many bytes came.
+fn read_full<R: Read>(reader: &mut R, buffer: &mut [u8]) -> io::Result<usize>
+    ensures room { IfOk result (λ count. count ≤ length buffer.new) }
+    ensures bytes { IfOk result (λ count. Consumes (R.remaining reader.old) (R.remaining reader.new) (take count buffer.new)) }
+    ensures end { IfOk result (λ count. count < length buffer.new → IsAtEnd (R.remaining reader.new)) }
+{
+    let mut count = 0;
+    while count < buffer.len() {
+        let more = reader.read(&mut buffer[count..])?;
+        if more == 0 {
+            return Ok(count);
+        }
+        count += more;
+    }
+    Ok(count)
 }
 
 // How many bytes an input has whose first are read.
-fn count_input() -> usize {
+fn count_input<R: Read>(reader: &mut R) -> io::Result<usize>
+    ensures { IfOk result (λ count. IfSome (R.remaining reader.old) (λ rest. length rest < READ_LIMIT → count ≡ input_limit + length rest)) }
+{
     let mut count = INPUT_LIMIT;
-    let mut reads = 0;
-    while reads < READ_LIMIT {
-        let more = read_more();
+    for _ in 0..READ_LIMIT {
+        let more = read_more(reader)?;
         if more == 0 {
-            return count;
+            return Ok(count);
         }
         count += more;
-        reads += 1;
     }
-    count
+    Ok(count)
 }
 
 // Reads on, keeps nothing, and answers how many bytes came: 0 at the end of the input.
-fn read_more() -> usize
-    ensures { result ≤ 65536 }
+fn read_more<R: Read>(reader: &mut R) -> io::Result<usize>
+    ensures limit { IfOk result (λ count. count ≤ 65536) }
+    ensures bytes { ConsumesCount (R.remaining reader.old) (R.remaining reader.new) result }
+    ensures end { IfOk result (λ count. count ≡ 0 → IsAtEnd (R.remaining reader.new)) }
 {
-    let mut space = io::large_buffer();
-    let got = libc::read(STDIN_FILENO, &mut space);
-    io::count(got, &space)
+    let mut space = [0; 65536];
+    reader.read(&mut space)
 }
 
 // ---- printing
 
-fn print_refusal(refusal: Refusal) {
-    print_field(b"refused ", refusal.number() as u64);
-    print_field(b" at ", refusal.place() as u64);
-    print_byte(b'\n');
-}
-
-fn print_output(smoothed: Smoothed, output: &[u64])
+fn print_answer<W: Write>(out: &mut W, smoothed: Smoothed, output: &[u64]) -> io::Result<()>
     requires { smoothed.rows * smoothed.columns ≤ length output.now }
+    ensures { OnOk result (Appends (W.contents out.old) (W.contents out.new) (given_text (smooth_given smoothed) output.now)) }
 {
-    print_field(b"rows ", smoothed.rows as u64);
-    print_field(b" columns ", smoothed.columns as u64);
-    print_field(b" tasks ", smoothed.marked as u64);
-    print_field(b" words ", smoothed.tally as u64);
-    print_byte(b'\n');
-    print_rows(smoothed.rows, smoothed.columns, output);
+    match smoothed.outcome {
+        Outcome::Accepted => print_output(out, smoothed, output),
+        Outcome::Refused(refusal) => print_refusal(out, refusal),
+    }
 }
 
-fn print_rows(rows: usize, columns: usize, output: &[u64])
-    requires { rows * columns ≤ length output.now }
+fn print_refusal<W: Write>(out: &mut W, refusal: Refusal) -> io::Result<()>
+    ensures { OnOk result (Appends (W.contents out.old) (W.contents out.new) (refusal_text (number_of refusal) (place_of refusal))) }
 {
-    let mut row = 0;
-    while row < rows {
+    let number = refusal.number();
+    let place = refusal.place();
+    writeln!(out, "refused {number} at {place}")
+}
+
+fn print_output<W: Write>(out: &mut W, smoothed: Smoothed, output: &[u64]) -> io::Result<()>
+    requires { smoothed.rows * smoothed.columns ≤ length output.now }
+    ensures { OnOk result (Appends (W.contents out.old) (W.contents out.new) (output_text (smooth_given smoothed).value output.now)) }
+{
+    let Smoothed {
+        outcome: _,
+        rows,
+        columns,
+        marked,
+        tally,
+    } = smoothed;
+    writeln!(
+        out,
+        "rows {rows} columns {columns} tasks {marked} words {tally}"
+    )?;
+    print_rows(out, rows, columns, output)
+}
+
+fn print_rows<W: Write>(out: &mut W, rows: usize, columns: usize, output: &[u64]) -> io::Result<()>
+    requires { rows * columns ≤ length output.now }
+    ensures { OnOk result (Appends (W.contents out.old) (W.contents out.new) (rows_text rows columns output.now)) }
+{
+    for row in 0..rows {
         let first = row * columns;
         let past = first + columns;
-        print_row(&output[first..past]);
-        row += 1;
+        print_row(out, &output[first..past])?;
     }
+    Ok(())
 }
 
-fn print_row(words: &[u64]) {
-    let mut i = 0;
-    while i < words.len() {
-        print_word(words[i], i);
-        i += 1;
+fn print_row<W: Write>(out: &mut W, words: &[u64]) -> io::Result<()>
+    ensures { OnOk result (Appends (W.contents out.old) (W.contents out.new) (row_text words.now)) }
+{
+    for (column, word) in words.iter().enumerate() {
+        print_word(out, *word, column)?;
     }
-    print_byte(b'\n');
+    writeln!(out)
 }
 
 // A word of a row, with a space before each but the first.
-fn print_word(word: u64, column: usize) {
+fn print_word<W: Write>(out: &mut W, word: u64, column: usize) -> io::Result<()>
+    ensures { OnOk result (Appends (W.contents out.old) (W.contents out.new) (word_text word column)) }
+{
     if column > 0 {
-        print_byte(b' ');
+        write!(out, " ")?;
     }
-    io::print_decimal(STDOUT_FILENO, word);
-}
-
-fn print_field(name: &[u8], value: u64) {
-    io::write_all(STDOUT_FILENO, name);
-    io::print_decimal(STDOUT_FILENO, value);
-}
-
-fn print_byte(byte: u8) {
-    let text = [byte];
-    io::write_all(STDOUT_FILENO, &text);
+    write!(out, "{word}")
 }

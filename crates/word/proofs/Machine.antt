@@ -1,6 +1,6 @@
 -- From machine arithmetic to words modulo 2^64: a difference that wraps, a product from halves, residues by complement.
 -- Assumes nothing.
-use Rattle.std.proofs.Common.{◌≡◌, ℕ, ◌+◌, ◌-◌, ◌*◌, ◌/◌, ◌%◌, ◌^◌, ◌<◌, sym, refl, ap, ◌∙◌, lt_of_le_of_lt, le_of_lt, mod-eq_of_lt, mul-le-mul_left, div-add-mod', arith, shl_lt, w64, Fits}
+use Rattle.std.proofs.Common.{◌≡◌, ℕ, ◌+◌, ◌*◌, ◌/◌, ◌%◌, ◌^◌, ◌<◌, sym, refl, ap, ◌∙◌, lt_of_le_of_lt, le_of_lt, mod-eq_of_lt, mul-le-mul_left, div-add-mod', arith, shl_lt, w64, Fits}
 use native.Mathlib.Nat.{add-mul-mod_self_left, mod-add-mod}
 use Rattle.word.specs.Word.{modulus, minus_one, ◌⊕◌, ◌⊖◌, ◌⊗◌}
 

@@ -1,5 +1,5 @@
 -- The laws of words: a commutative ring, for all numbers. Assumes nothing.
-use Rattle.std.proofs.Common.{◌≡◌, ℕ, ◌+◌, ◌-◌, ◌*◌, ◌/◌, ◌%◌, ◌^◌, ◌<◌, sym, refl, ap, ◌∙◌, add-zero as nat-add-zero, mod-lt, mod-eq_of_lt, mul_comm as nat-mul-comm, zero-add as nat-zero-add, arith}
+use Rattle.std.proofs.Common.{◌≡◌, ℕ, ◌+◌, ◌*◌, ◌/◌, ◌%◌, ◌^◌, ◌<◌, sym, refl, ap, ◌∙◌, add-zero as nat-add-zero, mod-lt, mod-eq_of_lt, mul_comm as nat-mul-comm, zero-add as nat-zero-add, arith}
 use native.Mathlib.Nat.{add-mul-mod_self_left, mod-mod, mod-add-mod, add-mod-mod, div-add-mod, mul-add-mod_self_left, zero-mod}
 use Rattle.word.specs.Word.{modulus, minus_one, ◌⊕◌, ◌⊗◌, ◌⊖◌}
 

@@ -20,11 +20,11 @@ const MOST_CALLS: usize = 2048;
 /// The number that stands for a recall in the second half of a list, and for no task in the first.
 const RECALL: u32 = 6;
 
-/// The program: `target/bin/calls_run`, or the file named by `MULZHEGAT_CALLS_RUN`.
+/// The program: `crates/calls_run/out/calls_run`, or the file named by `MULZHEGAT_CALLS_RUN`.
 fn program() -> PathBuf {
-    let built = || checks::repository().join("target/bin/calls_run");
+    let built = || checks::repository().join("crates/calls_run/out/calls_run");
     let program = env::var_os("MULZHEGAT_CALLS_RUN").map_or_else(built, PathBuf::from);
-    assert!(program.exists(), "{} is missing: make it with `rt check calls_run`", program.display());
+    assert!(program.exists(), "{} is missing: make it with `rt run` in crates/calls_run", program.display());
     program
 }
 

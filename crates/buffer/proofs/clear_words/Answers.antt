@@ -1,10 +1,9 @@
 -- `clear_words` has written zeros to the places passed so far.
 use mathlib.Core.Path.{◌≡◌, refl, ◌∙◌}
-use Prim.Native.Nat.{◌+◌, ◌-◌, ◌*◌, ◌<◌, ◌≤◌}
+use Prim.Native.Nat.{◌+◌, ◌*◌, ◌<◌}
 use native.Mathlib.Omega.{arith}
 use borrow.Author.Rules.{rules}
 use lib.ListN.{length, length-set}
-use Rattle.buffer.specs.Written.{cleared}
 use Rattle.buffer.proofs.Copies.{cleared_none, cleared_more}
 use Rattle.buffer.proofs.clear_words.Goals as goal
 use Rattle.buffer.proofs.clear_words.Goals.{In-loop-i}

@@ -1,11 +1,8 @@
 -- `copy_words` has copied the words passed so far.
 use mathlib.Core.Path.{◌≡◌, refl, ◌∙◌}
-use Prim.Native.Nat.{◌-◌, ◌≤◌}
 use native.Mathlib.Omega.{arith}
-use borrow.Author.Rules.{rules}
-use lib.ListN.{length, length-set}
+use lib.ListN.{length-set}
 use Rattle.buffer.specs.Copies.{words_from}
-use Rattle.buffer.specs.Written.{row_written}
 use Rattle.buffer.proofs.Copies.{row_none, row_more}
 use Rattle.buffer.proofs.copy_words.Goals as goal
 

@@ -1,14 +1,12 @@
 -- `read_heights` has read the pixels passed so far.
 use mathlib.Core.Path.{◌≡◌, refl, ap, ◌∙◌}
-use Prim.Native.Nat.{◌+◌, ◌-◌, ◌≤◌}
+use Prim.Native.Nat.{◌+◌}
 use native.Mathlib.Omega.{arith}
-use borrow.Author.Rules.{rules}
-use lib.ListN.{length, length-set}
+use lib.ListN.{length-set}
 use mir.Syntax.{w32}
 use mir.ValLaws.{to_z-of_z}
 use Rattle.buffer.specs.Pixel.{pixel}
 use Rattle.buffer.specs.Copies.{heights_from}
-use Rattle.buffer.specs.Written.{row_written}
 use Rattle.buffer.proofs.Copies.{row_none, row_more}
 use Rattle.buffer.specs.Lists.{number_at}
 use Rattle.buffer.proofs.read_heights.Goals as goal

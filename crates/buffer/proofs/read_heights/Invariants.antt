@@ -1,16 +1,9 @@
 -- `read_heights` has read the pixels passed so far.
-use mathlib.Core.Path.{◌≡◌, refl, ap, ◌∙◌}
-use Prim.Native.Nat.{◌+◌, ◌-◌, ◌≤◌}
-use native.Mathlib.Omega.{arith}
-use borrow.Author.Rules.{rules}
-use lib.ListN.{length, length-set}
-use mir.Syntax.{w32}
-use mir.ValLaws.{to_z-of_z}
-use Rattle.buffer.specs.Pixel.{pixel}
+use mathlib.Core.Path.{◌≡◌}
+use Prim.Native.Nat.{◌-◌, ◌≤◌}
+use lib.ListN.{length}
 use Rattle.buffer.specs.Copies.{heights_from}
 use Rattle.buffer.specs.Written.{row_written}
-use Rattle.buffer.proofs.Copies.{row_none, row_more}
-use Rattle.buffer.specs.Lists.{number_at}
 use Rattle.buffer.proofs.read_heights.Given as goal
 
 abbrev pub invariant-loop-i : goal.invariant-loop-i

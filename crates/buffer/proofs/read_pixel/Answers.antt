@@ -1,5 +1,4 @@
 -- `read_pixel` is 0 for a dropout, and the residue of any other height.
-use borrow.Author.Rules.{rules}
 use mathlib.Core.Path.{◌≡◌, sym, ap, ◌∙◌}
 use mathlib.Core.Bool.{Bool}
 use lib.IntN.{ℤ}

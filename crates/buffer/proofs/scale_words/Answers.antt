@@ -1,11 +1,10 @@
 -- `scale_words` has multiplied the words passed so far.
 use mathlib.Core.Path.{◌≡◌, refl, sym, ◌∙◌}
-use Prim.Native.Nat.{◌+◌, ◌-◌, ◌*◌, ◌<◌, ◌≤◌}
+use Prim.Native.Nat.{◌+◌, ◌*◌, ◌<◌}
 use native.Mathlib.Omega.{arith}
 use borrow.Author.Rules.{rules}
 use lib.ListN.{length, length-set}
 use Rattle.buffer.specs.Copies.{scaled_from}
-use Rattle.buffer.specs.Written.{written}
 use Rattle.buffer.proofs.Written.{written_none, written_more}
 use Rattle.buffer.proofs.scale_words.Goals as goal
 use Rattle.buffer.proofs.scale_words.Goals.{In-loop-i}

@@ -1,12 +1,9 @@
 -- `scale_words` has multiplied the words passed so far.
-use mathlib.Core.Path.{◌≡◌, refl, sym, ◌∙◌}
-use Prim.Native.Nat.{◌+◌, ◌-◌, ◌*◌, ◌<◌, ◌≤◌}
-use native.Mathlib.Omega.{arith}
-use borrow.Author.Rules.{rules}
-use lib.ListN.{length, length-set}
+use mathlib.Core.Path.{◌≡◌}
+use Prim.Native.Nat.{◌+◌, ◌-◌, ◌*◌, ◌≤◌}
+use lib.ListN.{length}
 use Rattle.buffer.specs.Copies.{scaled_from}
 use Rattle.buffer.specs.Written.{written}
-use Rattle.buffer.proofs.Written.{written_none, written_more}
 use Rattle.buffer.proofs.scale_words.Given as goal
 
 abbrev pub invariant-loop-i : goal.invariant-loop-i

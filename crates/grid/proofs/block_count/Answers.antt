@@ -1,7 +1,6 @@
 -- `plan::block_count` meets its contract: rounded up by the remainder, which cannot overflow as the count is at most the length. Assumes nothing.
 use mathlib.Core.Path.{sym}
 use native.Mathlib.Omega.{arith}
-use borrow.Author.Rules.{rules}
 use Rattle.grid.proofs.Extents.{count_side_zero, count_exact, count_rounded, count_bounded}
 use Rattle.grid.proofs.block_count.Goals as goal
 

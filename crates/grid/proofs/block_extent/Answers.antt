@@ -1,6 +1,5 @@
 -- Past the counted blocks there is no extent.
 use mathlib.Core.Path.{sym}
-use borrow.Author.Rules.{rules}
 use Rattle.grid.proofs.Extents.{extent_none}
 use Rattle.grid.proofs.block_extent.Goals as goal
 

@@ -1,6 +1,5 @@
 -- A counted block starts inside the length, so that the rest is not below 0.
 use native.Mathlib.Omega.{arith}
-use borrow.Author.Rules.{rules}
 use Rattle.grid.specs.Grid.{block_extent}
 use Rattle.grid.proofs.Extents.{counted_start}
 use Rattle.grid.proofs.counted_extent.Goals as goal

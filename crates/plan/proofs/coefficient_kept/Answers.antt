@@ -6,7 +6,6 @@ use lib.IntN.{ℤ, pos, negsuc}
 use mir.Syntax.{w64}
 use mir.Val.{to_z, of_z}
 use mir.ValLaws.{to_z-of_z}
-use borrow.Author.Rules.{rules}
 use borrow.Author.Tests.{eqb-true, lt-ltb, le-ltb}
 use Rattle.plan.specs.Rules.{in_signed28, is_zero}
 use Rattle.plan.proofs.coefficient_kept.Goals as goal

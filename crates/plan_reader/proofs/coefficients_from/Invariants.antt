@@ -1,15 +1,10 @@
 -- `plan_reader::coefficients_from` meets its contract: the first j places are filled. Assumes nothing.
-use Rattle.std.proofs.Common.{w64}
-use mathlib.Core.Path.{◌≡◌, sym}
+use mathlib.Core.Path.{◌≡◌}
 use Prim.Native.Nat.{◌-◌, ◌≤◌}
-use native.Mathlib.Omega.{arith}
-use borrow.Author.Rules.{rules}
-use lib.ListN.{length, take, length-set}
+use lib.ListN.{length, take}
 use Rattle.plan.specs.Rules.{order_limit}
 use Rattle.buffer.specs.Lists.{list_of}
-use Rattle.buffer.proofs.Listed.{listed_none, filled_more, filled_all}
-use Rattle.plan_reader.specs.ReadPlan.{coefficient_in, pass_from}
-use Rattle.number.proofs.SignedBits.{read_back_law}
+use Rattle.plan_reader.specs.ReadPlan.{coefficient_in}
 use Rattle.plan_reader.proofs.coefficients_from.Given as goal
 
 abbrev pub invariant-loop-j : goal.invariant-loop-j

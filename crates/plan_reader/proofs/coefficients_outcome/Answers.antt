@@ -1,9 +1,6 @@
 -- `plan_reader::coefficients_outcome` meets its contract: `outcome` is that of the rows of the first j words. Assumes nothing.
 use mathlib.Core.Path.{◌≡◌}
-use Prim.Native.Nat.{◌-◌, ◌≤◌}
 use native.Mathlib.Omega.{arith}
-use borrow.Author.Rules.{rules}
-use Rattle.refusal.specs.Table.{first_due, answer_of}
 use Rattle.plan_reader.specs.ReadPlan.{coefficient_rows}
 use Rattle.plan_reader.proofs.RefusalRows.{joined_none, joined_more}
 use Rattle.plan_reader.proofs.coefficients_outcome.Goals as goal

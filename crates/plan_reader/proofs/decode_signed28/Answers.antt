@@ -1,6 +1,5 @@
 -- `plan_reader::decode_signed28` meets its contract: each sign is a law of SignedBits. Assumes nothing.
 use native.Mathlib.Omega.{arith}
-use borrow.Author.Rules.{rules}
 use mir.Syntax.{w64}
 use Rattle.number.proofs.SignedBits.{read_low, lowered_fits, read_high}
 use Rattle.plan_reader.specs.PlanWords.{signed28}

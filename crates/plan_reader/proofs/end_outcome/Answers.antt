@@ -1,6 +1,5 @@
 -- `plan_reader::end_outcome` meets its contract: the end word, and then whether a word follows. Assumes nothing.
 use mathlib.Core.Path.{refl}
-use borrow.Author.Rules.{rules}
 use Rattle.plan_reader.proofs.RefusalRows.{end_followed, end_last}
 use Rattle.plan_reader.proofs.end_outcome.Goals as goal
 

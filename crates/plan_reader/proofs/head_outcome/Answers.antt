@@ -1,6 +1,5 @@
 -- `plan_reader::head_outcome` meets its contract: the size word, then the block word. Assumes nothing.
 use mathlib.Core.Path.{ap, ◌∙◌}
-use borrow.Author.Rules.{rules}
 use Rattle.plan_reader.specs.PlanWords.{size_allowed, side_allowed}
 use Rattle.plan_reader.proofs.RefusalRows.{head_rows_law}
 use Rattle.plan_reader.proofs.head_outcome.Goals as goal

@@ -1,6 +1,5 @@
 -- `plan_reader::pass_allowed` meets its contract, test by test. Assumes nothing.
 use mathlib.Core.Path.{refl}
-use borrow.Author.Rules.{rules}
 use borrow.Author.Tests.{le-leb, lt-leb, eq-eqb, ne_eqb}
 use Rattle.plan_reader.proofs.Conjunction.{first_fails, first_passes}
 use Rattle.plan_reader.proofs.pass_allowed.Goals as goal

@@ -1,6 +1,5 @@
 -- `plan_reader::pass_outcome` meets its contract: pass word, gain word, coefficient words. Assumes nothing.
 use mathlib.Core.Path.{ap, ◌∙◌}
-use borrow.Author.Rules.{rules}
 use Rattle.plan_reader.specs.PlanWords.{pass_allowed}
 use Rattle.plan_reader.proofs.RefusalRows.{pass_rows_law}
 use Rattle.plan_reader.proofs.pass_outcome.Goals as goal

@@ -1,9 +1,6 @@
 -- `plan_reader::pass_place` meets its contract: `place` is that of pass j. Assumes nothing.
 use mathlib.Core.Path.{◌≡◌, sym}
-use Prim.Native.Nat.{◌-◌, ◌≤◌}
 use native.Mathlib.Omega.{arith}
-use borrow.Author.Rules.{rules}
-use Rattle.plan_reader.specs.ReadPlan.{pass_place}
 use Rattle.plan_reader.proofs.PassPlaces.{pass_place_first, pass_place_next, pass_place_bounded}
 use Rattle.plan_reader.proofs.pass_place.Goals as goal
 

@@ -1,10 +1,7 @@
 -- `plan_reader::pass_place` meets its contract: `place` is that of pass j. Assumes nothing.
-use mathlib.Core.Path.{◌≡◌, sym}
+use mathlib.Core.Path.{◌≡◌}
 use Prim.Native.Nat.{◌-◌, ◌≤◌}
-use native.Mathlib.Omega.{arith}
-use borrow.Author.Rules.{rules}
 use Rattle.plan_reader.specs.ReadPlan.{pass_place}
-use Rattle.plan_reader.proofs.PassPlaces.{pass_place_first, pass_place_next, pass_place_bounded}
 use Rattle.plan_reader.proofs.pass_place.Given as goal
 
 abbrev pub invariant-loop-j : goal.invariant-loop-j

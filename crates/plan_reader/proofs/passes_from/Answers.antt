@@ -1,12 +1,10 @@
 -- `plan_reader::passes_from` meets its contract: the first i passes are filled. Assumes nothing.
 use mathlib.Core.Path.{◌≡◌, sym, ap, ◌∙◌}
-use Prim.Native.Nat.{ℕ, ◌-◌, ◌≤◌}
 use native.Mathlib.Omega.{arith}
 use borrow.Author.Rules.{rules}
-use lib.ListN.{length, take, length-set}
-use Rattle.buffer.specs.Lists.{list_of}
+use lib.ListN.{length-set}
 use Rattle.buffer.proofs.Listed.{listed_none, filled_more, filled_all}
-use Rattle.plan_reader.specs.ReadPlan.{pass_place, pass_from, plan_from}
+use Rattle.plan_reader.specs.ReadPlan.{pass_from, plan_from}
 use Rattle.plan_reader.proofs.PassPlaces.{pass_place_bounded}
 use Rattle.plan_reader.proofs.passes_from.Goals as goal
 

@@ -1,13 +1,9 @@
 -- `plan_reader::passes_from` meets its contract: the first i passes are filled. Assumes nothing.
-use mathlib.Core.Path.{◌≡◌, sym, ap, ◌∙◌}
+use mathlib.Core.Path.{◌≡◌}
 use Prim.Native.Nat.{ℕ, ◌-◌, ◌≤◌}
-use native.Mathlib.Omega.{arith}
-use borrow.Author.Rules.{rules}
-use lib.ListN.{length, take, length-set}
+use lib.ListN.{length, take}
 use Rattle.buffer.specs.Lists.{list_of}
-use Rattle.buffer.proofs.Listed.{listed_none, filled_more, filled_all}
-use Rattle.plan_reader.specs.ReadPlan.{pass_place, pass_from, plan_from}
-use Rattle.plan_reader.proofs.PassPlaces.{pass_place_bounded}
+use Rattle.plan_reader.specs.ReadPlan.{pass_place, pass_from}
 use Rattle.plan_reader.proofs.passes_from.Given as goal
 
 abbrev pub invariant-loop-i : goal.invariant-loop-i

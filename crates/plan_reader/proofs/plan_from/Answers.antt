@@ -1,6 +1,5 @@
 -- `plan_reader::plan_from` meets its contract, field by field. Assumes nothing.
 use mathlib.Core.Path.{ap, ◌∙◌}
-use borrow.Author.Rules.{rules}
 use Rattle.plan_reader.specs.PlanWords.{rows_in, columns_in}
 use Rattle.plan_reader.specs.ReadPlan.{plan_from}
 use Rattle.plan_reader.proofs.RecordParts.{same_plan}

@@ -1,6 +1,5 @@
 -- `plan_reader::plan_outcome` meets its contract: the words from left to right, then the block side. Assumes nothing.
 use native.Mathlib.Omega.{arith}
-use borrow.Author.Rules.{rules}
 use Rattle.plan_reader.proofs.PassPlaces.{pass_place_bounded}
 use Rattle.plan_reader.proofs.RefusalRows.{plan_rows_law}
 use Rattle.plan_reader.proofs.plan_outcome.Goals as goal

@@ -1,6 +1,5 @@
 -- `plan_reader::read_plan` meets its contract: the record where the words are accepted, zeros beside a refusal. Assumes nothing.
 use mathlib.Core.Path.{sym, ap, ◌∙◌}
-use borrow.Author.Rules.{rules}
 use Rattle.refusal.specs.Table.{answer_of}
 use Rattle.plan_reader.proofs.ReadAnswers.{read_accepted, read_refused}
 use Rattle.plan_reader.proofs.read_plan.Goals as goal

@@ -1,7 +1,6 @@
 -- `plan_reader::size_allowed` meets its contract, test by test. Assumes nothing.
 use mathlib.Core.Path.{◌≡◌, refl}
 use mathlib.Core.Bool.{true}
-use borrow.Author.Rules.{rules}
 use Rattle.number.specs.Numbers.{within}
 use Rattle.number.proofs.Tests.{failed, passed}
 use Rattle.grid.specs.Grid.{size_limit}

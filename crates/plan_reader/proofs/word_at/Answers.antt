@@ -1,6 +1,5 @@
 -- `plan_reader::word_at` meets its contract: past the last word the default 0 is read. Assumes nothing.
 use mathlib.Core.Path.{sym}
-use borrow.Author.Rules.{rules}
 use lib.ListN.{get_or-eq_default}
 use Rattle.plan_reader.proofs.word_at.Goals as goal
 

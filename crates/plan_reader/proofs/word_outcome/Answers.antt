@@ -1,7 +1,5 @@
 -- `plan_reader::word_outcome` meets its contract: each answer is a law of Rows. Assumes nothing.
 use mathlib.Core.Path.{sym}
-use borrow.Author.Rules.{rules}
-use borrow.Author.Tests.{not-true, not-false}
 use Rattle.plan_reader.proofs.RefusalRows.{word_missing, word_of_another_kind, word_out_of_range, word_accepted}
 use Rattle.plan_reader.proofs.word_outcome.Goals as goal
 

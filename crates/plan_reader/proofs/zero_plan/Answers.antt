@@ -1,5 +1,4 @@
 -- `plan_reader::zero_plan` meets its contract. Assumes nothing.
-use borrow.Author.Rules.{rules}
 use Rattle.plan_reader.proofs.zero_plan.Goals as goal
 
 pub returns : goal.returns

@@ -1,6 +1,5 @@
 -- The number of blocks where the mark passes the test, else the block.
 use mathlib.Core.Path.{◌∙◌, sym}
-use borrow.Author.Rules.{rules}
 use Rattle.tasks.proofs.broken_at.Goals as goal
 
 pub returns-then-mark_valid : goal.returns-then-mark_valid

@@ -1,6 +1,5 @@
 -- With a neighbour the look at its mark; without one the number of blocks.
 use mathlib.Core.Path.{◌∙◌}
-use borrow.Author.Rules.{rules}
 use Rattle.tasks.proofs.Lent.{beside_lent}
 use Rattle.grid.proofs.Shapes.{found_block, found_none}
 use Rattle.tasks.proofs.Verdicts.{beside_absent, beside_there}

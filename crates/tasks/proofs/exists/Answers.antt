@@ -1,7 +1,6 @@
 -- The block is in the map or not; in it, the table of tasks decides.
 use mathlib.Core.Path.{ap, ◌∙◌}
 use Prim.Native.Nat.{◌<◌}
-use borrow.Author.Rules.{rules}
 use borrow.Author.Tests.{le-ltb, lt-ltb}
 use Rattle.grid.specs.Grid.{block_total}
 use Rattle.grid.specs.Shapes.{position_of}

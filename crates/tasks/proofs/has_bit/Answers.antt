@@ -1,6 +1,5 @@
 -- The bit is the remainder of the mark after the shift.
 use mathlib.Core.Path.{refl}
-use borrow.Author.Rules.{rules}
 use Rattle.tasks.specs.Marks.{has_bit}
 use Rattle.tasks.proofs.has_bit.Goals as goal
 

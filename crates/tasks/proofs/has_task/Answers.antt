@@ -1,7 +1,6 @@
 -- The table of tasks: collect, the links, finish.
 use mathlib.Core.Path.{◌∙◌}
 use native.Mathlib.Omega.{arith}
-use borrow.Author.Rules.{rules}
 use Rattle.tasks.proofs.Existence.{link_has, past_links}
 use Rattle.tasks.specs.Tasks.{has_task}
 use Rattle.tasks.proofs.has_task.Goals as goal

@@ -1,5 +1,4 @@
 -- The bit of the task in the mark of the block.
-use borrow.Author.Rules.{rules}
 use Rattle.tasks.specs.Marks.{is_marked}
 use Rattle.tasks.proofs.is_marked.Goals as goal
 

@@ -2,7 +2,6 @@
 use mathlib.Core.Bool.{true}
 use mathlib.Core.Path.{◌≡◌, ◌∙◌, sym}
 use native.Mathlib.Omega.{arith}
-use borrow.Author.Rules.{rules}
 use Rattle.number.proofs.Tests.{failed, passed}
 use Rattle.tasks.proofs.Existence.{exists_block, exists_task}
 use Rattle.tasks.specs.Tasks.{exists, ready}

@@ -1,9 +1,8 @@
 -- Invariant: the least broken mark among the block's own and those of its neighbours for the passes so far.
 use mathlib.Core.Path.{◌∙◌, ◌≡◌, sym}
-use Prim.Native.Nat.{◌-◌, ◌≤◌, min}
+use Prim.Native.Nat.{min}
 use native.Mathlib.Omega.{arith}
-use borrow.Author.Rules.{rules}
-use Rattle.tasks.proofs.Verdicts.{around_is, around_none, around_on, least_around}
+use Rattle.tasks.proofs.Verdicts.{around_is, around_none, around_on}
 use Rattle.tasks.proofs.least_broken.Goals as goal
 
 pub loop-pass-init : goal.loop-pass-init

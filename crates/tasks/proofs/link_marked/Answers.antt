@@ -1,6 +1,5 @@
 -- With a neighbour its mark is asked; without one nothing is.
 use native.Mathlib.Omega.{arith}
-use borrow.Author.Rules.{rules}
 use Rattle.tasks.proofs.Lent.{beside_lent, block_lent}
 use Rattle.grid.proofs.Shapes.{found_block, found_none}
 use Rattle.tasks.proofs.Needs.{link_absent, link_there}

@@ -1,10 +1,7 @@
 -- Invariant: the links of the passes so far are marked.
 use mathlib.Core.Bool.{true}
-use mathlib.Core.Path.{◌≡◌, sym}
+use mathlib.Core.Path.{◌≡◌}
 use Prim.Native.Nat.{◌-◌, ◌≤◌}
-use native.Mathlib.Omega.{arith}
-use borrow.Author.Rules.{rules}
-use Rattle.number.proofs.Tests.{all_fails, all_more, all_none, failed, passed}
 use Rattle.number.specs.Numbers.{all_below}
 use Rattle.tasks.specs.Marks.{is_marked}
 use Rattle.tasks.specs.Neighbours.{link_done}

@@ -1,6 +1,5 @@
 -- The kind, bits 6 to 27, and bits 0 to 5, in turn.
 use mathlib.Core.Path.{ap, ◌∙◌}
-use borrow.Author.Rules.{rules}
 use borrow.Author.Tests.{eq-eqb, le-ltb, lt-ltb, ne_eqb}
 use Rattle.number.specs.Numbers.{all_below}
 use Rattle.grid.specs.Shapes.{position_of}

@@ -1,7 +1,6 @@
 -- Collect needs nothing; any other task own 0 and the links of its passes at the neighbours.
 use mathlib.Core.Path.{sym}
 use native.Mathlib.Omega.{arith}
-use borrow.Author.Rules.{rules}
 use Rattle.number.proofs.Tests.{failed, passed}
 use Rattle.tasks.proofs.Lent.{block_lent}
 use Rattle.tasks.proofs.Needs.{needs_none, needs_rest, needs_uncollected}

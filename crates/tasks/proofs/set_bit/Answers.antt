@@ -1,5 +1,4 @@
 -- One store: the mark with its bit added.
-use borrow.Author.Rules.{rules}
 use Rattle.tasks.proofs.Marking.{shifted_one}
 use Rattle.tasks.specs.Marks.{with_bit}
 use Rattle.tasks.proofs.set_bit.Goals as goal

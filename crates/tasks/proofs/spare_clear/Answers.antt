@@ -1,7 +1,6 @@
 -- A task of the block, or a clear bit.
 use mathlib.Core.Bool.{not}
 use mathlib.Core.Path.{◌∙◌, ap, sym}
-use borrow.Author.Rules.{rules}
 use Rattle.tasks.specs.Marks.{spare_clear}
 use Rattle.tasks.proofs.spare_clear.Goals as goal
 

@@ -1,12 +1,7 @@
 -- Invariant: the bits so far are clear where they are spare.
-use mathlib.Core.Bool.{true}
 use mathlib.Core.Path.{◌≡◌, sym}
-use Prim.Native.Nat.{◌-◌, ◌≤◌}
 use native.Mathlib.Omega.{arith}
-use borrow.Author.Rules.{rules}
 use Rattle.number.proofs.Tests.{all_fails, all_more, all_none, failed, passed}
-use Rattle.number.specs.Numbers.{all_below}
-use Rattle.tasks.specs.Marks.{spare_clear}
 use Rattle.tasks.proofs.spares_clear.Goals as goal
 
 pub loop-task-init : goal.loop-task-init

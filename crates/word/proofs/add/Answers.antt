@@ -1,5 +1,5 @@
 -- `word::add` is the sum of words.
-use Rattle.std.proofs.Common.{◌∙◌, rules}
+use Rattle.std.proofs.Common.{◌∙◌}
 use Rattle.word.proofs.Machine.{sum_is}
 use Rattle.word.proofs.add.Goals as goal
 

@@ -1,5 +1,5 @@
 -- `word::residue` is the residue: a number below 0 by its complement.
-use Rattle.std.proofs.Common.{◌-◌, sym, ap, ◌∙◌, arith}
+use Rattle.std.proofs.Common.{sym, ap, ◌∙◌, arith}
 use Rattle.word.specs.Word.{residue}
 use Rattle.word.proofs.Residues.{residue_negative, residue_not_negative}
 use Rattle.word.proofs.Signs.{Negative, NotNegative, negative, not_negative}

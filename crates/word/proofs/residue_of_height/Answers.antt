@@ -1,5 +1,5 @@
 -- `word::residue_of_height` is the residue of the height made wider.
-use Rattle.std.proofs.Common.{◌≡◌, ℤ, pos, negsuc, ap, ◌∙◌, arith, w32, w64, SFits, to_z, of_z, rules}
+use Rattle.std.proofs.Common.{◌≡◌, ℤ, pos, negsuc, ap, ◌∙◌, arith, w32, w64, SFits, to_z, of_z}
 use mir.ValLaws.{to_z-of_z}
 use Rattle.word.specs.Word.{residue}
 use Rattle.word.proofs.residue_of_height.Goals as goal

@@ -1,5 +1,5 @@
 -- `word::signed` is the signed reading: a word from 2^63 on by its complement. Assumes nothing.
-use Rattle.std.proofs.Common.{arith, w64, rules}
+use Rattle.std.proofs.Common.{arith, w64}
 use Rattle.number.proofs.SignedBits.{read_low}
 use Rattle.word.specs.Word.{signed}
 use Rattle.word.proofs.Signs.{complemented_fits, signed_high}

@@ -7,7 +7,6 @@ use Rattle.grid.specs.Grid.{block_area}
 use Rattle.grid.specs.Shapes.{shape_of}
 use Rattle.grid.proofs.Extents.{extent_in_side}
 use Rattle.grid.proofs.Blocks.{ranges}
-use borrow.Author.Rules.{rules}
 use Rattle.grid.proofs.Grid.block_area.Goals as goal
 
 pub overflow_mul-result : goal.overflow_mul-result

@@ -4,7 +4,6 @@ use native.Mathlib.Omega.{arith}
 use native.Mathlib.Nat.{mul-le-mul}
 use Rattle.grid.proofs.Blocks.{ranges}
 use Rattle.grid.proofs.Shapes.{line_is, index_high}
-use borrow.Author.Rules.{rules}
 use Rattle.grid.proofs.Grid.block_line.Goals as goal
 use Rattle.grid.proofs.Grid.block_line.Goals.{After-along-index}
 

@@ -3,7 +3,6 @@ use native.Mathlib.Omega.{arith}
 use Rattle.grid.specs.Shapes.{position_of}
 use Rattle.grid.proofs.Blocks.{Located, located}
 use Rattle.grid.proofs.Shapes.{shape_is}
-use borrow.Author.Rules.{rules}
 use Rattle.grid.proofs.Grid.block_shape.Goals as goal
 use Rattle.grid.proofs.Grid.block_shape.Goals.{After-position-at}
 

@@ -3,7 +3,6 @@ use native.Mathlib.Omega.{arith}
 use mathlib.Core.Path.{ap₂}
 use Prim.Native.Nat.{◌*◌}
 use Rattle.grid.proofs.Blocks.{ranges}
-use borrow.Author.Rules.{rules}
 use Rattle.grid.proofs.Grid.blocks.Goals as goal
 
 pub overflow_mul-result : goal.overflow_mul-result

@@ -1,7 +1,6 @@
 -- The tests in the order of the ranges.
 use Rattle.number.proofs.Tests.{failed, passed}
 use Rattle.grid.specs.Grid.{grid_kept}
-use borrow.Author.Rules.{rules}
 use Rattle.grid.proofs.Grid.check.Goals as goal
 
 pub returns-then-not-within : goal.returns-then-not-within

@@ -3,7 +3,6 @@ use mathlib.Core.Path.{sym, ◌∙◌}
 use Rattle.axis.specs.Axis.{forward, backward}
 use Rattle.axis.proofs.Passes.{runs_forward, runs_backward}
 use Rattle.grid.proofs.Shapes.{goes_on_law}
-use borrow.Author.Rules.{rules}
 use Rattle.grid.proofs.Grid.goes_on.Goals as goal
 
 pub returns-then-is_backward : goal.returns-then-is_backward

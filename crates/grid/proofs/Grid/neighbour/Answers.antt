@@ -5,7 +5,6 @@ use borrow.Author.Tests.{lt-ltb, le-ltb}
 use Rattle.axis.specs.Axis.{forward, backward}
 use Rattle.axis.proofs.Passes.{runs_forward, runs_backward}
 use Rattle.grid.proofs.Shapes.{in_blocks, LineFits, line_fits, found_before, none_before}
-use borrow.Author.Rules.{rules}
 use Rattle.grid.proofs.Grid.neighbour.Goals as goal
 use Rattle.grid.proofs.Grid.neighbour.Goals.{After-block_line-line}
 

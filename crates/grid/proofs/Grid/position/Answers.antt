@@ -6,7 +6,6 @@ use native.Mathlib.Nat.{div-add-mod'}
 use Rattle.grid.specs.Grid.{block_columns_of, block_row, block_column}
 use Rattle.grid.specs.Shapes.{position_of}
 use Rattle.grid.proofs.Blocks.{ranges}
-use borrow.Author.Rules.{rules}
 use Rattle.grid.proofs.Grid.position.Goals as goal
 
 pub nonzero_div-row : goal.nonzero_div-row

@@ -1,5 +1,4 @@
 -- Nothing is lent, or one length is tested against its need. Assumes nothing.
-use borrow.Author.Rules.{rules}
 use Rattle.plan.proofs.BufferOf7.tested.Goals as goal
 
 pub returns-in-NoneOf7 : goal.returns-in-NoneOf7

@@ -1,5 +1,4 @@
 -- A buffer that is not lent, or its length tested. Assumes nothing.
-use borrow.Author.Rules.{rules}
 use Rattle.plan.proofs.Length.tested.Goals as goal
 
 pub returns-in-NotLent : goal.returns-in-NotLent

@@ -1,15 +1,10 @@
 -- `plan::Pass::coefficients_kept` meets its contract: every place passed holds what its rule says. Assumes nothing.
-use mathlib.Core.Path.{◌≡◌, refl, sym, ap, ◌∙◌}
+use mathlib.Core.Path.{◌≡◌}
 use mathlib.Core.Bool.{Bool, true}
 use Prim.Native.Nat.{ℕ, ◌≤◌, ◌-◌}
-use native.Mathlib.Omega.{arith}
-use mir.Syntax.{w64}
-use mir.ValLaws.{to_z-of_z}
-use borrow.Author.Rules.{rules, sfits_of}
 use Rattle.plan.specs.declared.Pass.{Pass}
-use Rattle.plan.specs.Rules.{order_limit, coefficient_at, coefficient_kept, coefficients_kept}
+use Rattle.plan.specs.Rules.{order_limit, coefficient_at, coefficient_kept}
 use Rattle.number.specs.Numbers.{all_below}
-use Rattle.number.proofs.Tests.{all_none, all_more, all_fails, failed, passed}
 use Rattle.plan.proofs.Pass.coefficients_kept.Given as goal
 
 abbrev pub test : Pass → ℕ → Bool

@@ -1,7 +1,6 @@
 -- The sizes first, then the passes.
 use Rattle.number.proofs.Tests.{failed, passed}
 use Rattle.plan.specs.Rules.{keeps_rules}
-use borrow.Author.Rules.{rules}
 use Rattle.plan.proofs.Plan.check.Goals as goal
 
 pub returns-then-not-check : goal.returns-then-not-check

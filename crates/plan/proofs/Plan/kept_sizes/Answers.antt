@@ -2,7 +2,6 @@
 use native.Mathlib.Omega.{arith}
 use Rattle.plan.specs.Sizes.{sizes_of}
 use Rattle.plan.proofs.Needed.{Bounds, bounds}
-use borrow.Author.Rules.{rules}
 use Rattle.plan.proofs.Plan.kept_sizes.Goals as goal
 use Rattle.plan.proofs.Plan.kept_sizes.Goals.{After-order_sum-orders}
 

@@ -1,9 +1,8 @@
 -- `order_sum` has the sum of the orders passed so far of the first `count`, which stays small.
 use mathlib.Core.Path.{◌≡◌, ap₂, sym, ◌∙◌}
-use Prim.Native.Nat.{◌≤◌, ◌-◌, ◌+◌, min}
+use Prim.Native.Nat.{◌+◌, min}
 use native.Mathlib.Omega.{arith}
-use borrow.Author.Rules.{rules}
-use Rattle.plan.specs.Sizes.{order_of, order_sum}
+use Rattle.plan.specs.Sizes.{order_of}
 use Rattle.number.proofs.Sums.{total_none, sum_below}
 use Rattle.plan.proofs.Record.{order_sum_limited}
 use Rattle.plan.proofs.Plan.order_sum.Goals as goal

@@ -1,11 +1,7 @@
 -- `plan::Plan::passes_kept` meets its contract: every pass passed keeps its rules. Assumes nothing.
 use mathlib.Core.Path.{◌≡◌, sym}
-use mathlib.Core.Bool.{true}
-use Prim.Native.Nat.{ℕ, ◌≤◌, ◌-◌}
 use native.Mathlib.Omega.{arith}
-use borrow.Author.Rules.{rules}
-use Rattle.number.specs.Numbers.{all_below}
-use Rattle.plan.specs.Rules.{pass_at, pass_kept, passes_kept}
+use Rattle.plan.specs.Rules.{passes_kept}
 use Rattle.number.proofs.Tests.{all_none, all_more, all_fails, failed, passed}
 use Rattle.plan.proofs.Plan.passes_kept.Goals as goal
 

@@ -1,12 +1,9 @@
 -- `plan::Plan::passes_kept` meets its contract: every pass passed keeps its rules. Assumes nothing.
-use mathlib.Core.Path.{◌≡◌, sym}
+use mathlib.Core.Path.{◌≡◌}
 use mathlib.Core.Bool.{true}
 use Prim.Native.Nat.{ℕ, ◌≤◌, ◌-◌}
-use native.Mathlib.Omega.{arith}
-use borrow.Author.Rules.{rules}
 use Rattle.number.specs.Numbers.{all_below}
-use Rattle.plan.specs.Rules.{pass_at, pass_kept, passes_kept}
-use Rattle.number.proofs.Tests.{all_none, all_more, all_fails, failed, passed}
+use Rattle.plan.specs.Rules.{pass_at, pass_kept}
 use Rattle.plan.proofs.Plan.passes_kept.Given as goal
 
 abbrev pub invariant-loop-i : goal.invariant-loop-i

@@ -1,6 +1,5 @@
 -- `plan::Plan::sizes` meets its contract: the sizes where the check passes, the refusal where it does not. Assumes nothing.
 use mathlib.Core.Path.{sym, ◌∙◌}
-use borrow.Author.Rules.{rules}
 use Rattle.plan.specs.FirstTests.{lent_rows, sizes_for}
 use Rattle.plan.proofs.Plan.sizes.Goals as goal
 

@@ -1,5 +1,4 @@
 -- `plan::Plan::sizes_for` meets its contract: the record decides, then the lengths. Assumes nothing.
-use borrow.Author.Rules.{rules}
 use Rattle.plan.proofs.Known.{record_broken, lengths_decide}
 use Rattle.plan.proofs.Plan.sizes_for.Goals as goal
 

@@ -1,5 +1,4 @@
 -- The four lengths, one test after another. Assumes nothing.
-use borrow.Author.Rules.{rules}
 use Rattle.plan.proofs.FirstTests.{lengths_tested}
 use Rattle.plan.proofs.Sizes.test_lengths.Goals as goal
 

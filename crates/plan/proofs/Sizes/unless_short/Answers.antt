@@ -1,5 +1,4 @@
 -- The sizes, or the refusal that the tests found. Assumes nothing.
-use borrow.Author.Rules.{rules}
 use Rattle.plan.proofs.Sizes.unless_short.Goals as goal
 
 pub returns-in-Accepted : goal.returns-in-Accepted

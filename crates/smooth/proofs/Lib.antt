@@ -1,0 +1,3 @@
+mod Input
+mod Printed
+mod Program
