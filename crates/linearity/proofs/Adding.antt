@@ -1,8 +1,8 @@
 -- What an accepted call writes over a sum or a difference of maps is that of the outputs: by the law of the passes, and
 -- pixel by pixel. Assumes nothing.
-use mathlib.Core.Path.{◌≡◌, sym, ap, ap₂, ◌∙◌}
+use mathlib.Core.Path.{◌≡◌, sym, ap₂, ◌∙◌}
 use mathlib.Core.List.{List}
-use Prim.Native.Nat.{ℕ, ◌+◌, ◌*◌, ◌/◌, ◌%◌, ◌<◌}
+use Prim.Native.Nat.{ℕ, ◌/◌, ◌%◌, ◌<◌}
 use native.Mathlib.Nat.{div-add-mod'}
 use lib.IntN.{ℤ, ◌+ℤ◌, ◌-ℤ◌}
 use lib.ListN.{length}
@@ -10,10 +10,8 @@ use Rattle.number.specs.Numbers.{row_major}
 use Rattle.number.proofs.RowMajor.{place_below, row_below, column_below}
 use Rattle.word.specs.Word.{residue, ◌⊕◌, ◌⊖◌}
 use Rattle.word.proofs.Residues.{residue_add, residue_sub}
-use Rattle.buffer.specs.Lists.{word_at, word_map}
-use Rattle.buffer.specs.Pixel.{reading, pixel, height_map}
+use Rattle.buffer.specs.Pixel.{pixel, height_map}
 use Rattle.plan.specs.declared.Plan.{Plan}
-use Rattle.plan.specs.Sizes.{needed_pixels}
 use Rattle.passes.specs.Filter.{Filter}
 use Rattle.passes.specs.Passes.{serial_passes}
 use Rattle.passes.proofs.Passes.{serial_passes_reads}

@@ -2,25 +2,23 @@
 use mathlib.Core.Path.{◌≡◌, refl, sym, ap, ◌∙◌}
 use mathlib.Core.Bool.{Bool, true}
 use mathlib.Core.List.{List, [], ◌∷◌, ◌++◌}
-use Prim.Native.Nat.{ℕ, ◌<◌, ◌≤◌, ◌^◌}
+use Prim.Native.Nat.{ℕ, ◌<◌, ◌≤◌}
 use native.Mathlib.Omega.{arith}
 use lib.Dec.{leb-zero}
 use lib.ListN.{length, drop}
 use Rattle.number.specs.Numbers.{all_below}
 use Rattle.number.proofs.RowMajor.{row_below, column_below}
 use Rattle.number.proofs.Tests.{and_left, and_right, and_both, all_none, all_more, all_at}
-use Rattle.word.specs.Word.{modulus, ◌⊗◌, residue}
-use Rattle.word.proofs.Ring.{one_mul, reduced_small}
+use Rattle.word.specs.Word.{modulus, residue}
 use Rattle.buffer.specs.Lists.{word_map}
 use Rattle.buffer.proofs.Listed.{listed_same}
-use Rattle.axis.specs.Axis.{axis_of, direction_of}
 use Rattle.grid.specs.Grid.{grid_kept}
 use Rattle.plan.specs.declared.Pass.{Pass}
 use Rattle.plan.specs.declared.Plan.{Plan}
 use Rattle.plan.specs.Rules.{coefficients_kept, pass_kept, pass_at, passes_kept, keeps_rules}
 use Rattle.plan.specs.Sizes.{needed_pixels}
 use Rattle.passes.specs.Filter.{Filter}
-use Rattle.passes.specs.PassOrders.{one_pass, passes_in_order, rows_first}
+use Rattle.passes.specs.PassOrders.{one_pass, passes_in_order}
 use Rattle.passes.proofs.PassOrders.{one_reads, one_small, one_unchanged, pairs_exchange}
 use Rattle.filter.specs.PlanFilters.{unchanged_pass, filter_of, filters_of, serial_result}
 use Rattle.serial.specs.Serial.{result_words, passes_output}

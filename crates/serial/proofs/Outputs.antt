@@ -2,7 +2,7 @@
 -- pixels. Assumes nothing.
 use mathlib.Core.Path.{◌≡◌, sym, ap, ap₂, ◌∙◌}
 use mathlib.Core.List.{List, ◌++◌, map}
-use Prim.Native.Nat.{ℕ, ◌<◌, ◌≤◌}
+use Prim.Native.Nat.{ℕ, ◌<◌}
 use native.Mathlib.Omega.{arith}
 use lib.IntN.{ℤ}
 use lib.ListN.{length, drop, length-map, length-append, length-drop, get_or-append}
@@ -17,7 +17,6 @@ use Rattle.buffer.proofs.Listed.{listed_length, listed_at}
 use Rattle.buffer.proofs.Pixel.{pixels_map}
 use Rattle.filter.specs.PlanFilters.{serial_result}
 use Rattle.serial.specs.Serial.{serial_answer, result_words, passes_output, serial_output, serial_words_output}
-use Rattle.serial.specs.Stages.{MapFits}
 use Rattle.serial.proofs.SerialAnswers.{accepted_fits, output_of_accepted}
 
 -- ---- an accepted call

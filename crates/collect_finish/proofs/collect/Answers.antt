@@ -1,12 +1,9 @@
 -- `collect` has written the strips of the passes so far; the work array holds the block filtered alone, with gain 1.
-use Prim.Native.Nat.{◌-◌}
-use native.Mathlib.Omega.{arith}
 use Rattle.plan.proofs.Record.{in_grid}
-use Rattle.filter.specs.PlanFilters.{map_of}
 use Rattle.collect_finish.specs.WorkFits.{ShapedBlock}
 use Rattle.collect_finish.proofs.WorkPlaces.{shape_in_work, block_in_work, block_in_map}
 use Rattle.collect_finish.proofs.WorkCells.{blank_sized}
-use Rattle.collect_finish.proofs.Collecting.{Collecting, collect_start, collect_pass, collect_strip, collect_turn, collect_end}
+use Rattle.collect_finish.proofs.Collecting.{collect_start, collect_pass, collect_strip, collect_turn, collect_end}
 use Rattle.collect_finish.proofs.collect.Goals as goal
 use Rattle.collect_finish.proofs.collect.Goals.{After-block_shape-shape}
 

@@ -1,9 +1,9 @@
 -- `copy_columns` has copied the columns passed so far, times the gain.
-use Prim.Native.Nat.{◌+◌, ◌-◌}
+use Prim.Native.Nat.{◌+◌}
 use native.Mathlib.Omega.{arith}
 use lib.ListN.{length}
-use Rattle.buffer.specs.Copies.{stride_scaled, WordsFit}
-use Rattle.collect_finish.proofs.CopiedColumns.{column_fits, ColumnsWritten, columns_none, columns_more, columns_all}
+use Rattle.buffer.specs.Copies.{WordsFit}
+use Rattle.collect_finish.proofs.CopiedColumns.{column_fits, columns_none, columns_more, columns_all}
 use Rattle.collect_finish.proofs.copy_columns.Goals as goal
 use Rattle.collect_finish.proofs.copy_columns.Goals.{In-loop-column}
 

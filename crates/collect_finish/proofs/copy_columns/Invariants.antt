@@ -1,9 +1,7 @@
 -- `copy_columns` has copied the columns passed so far, times the gain.
-use Prim.Native.Nat.{◌+◌, ◌-◌}
-use native.Mathlib.Omega.{arith}
-use lib.ListN.{length}
-use Rattle.buffer.specs.Copies.{stride_scaled, WordsFit}
-use Rattle.collect_finish.proofs.CopiedColumns.{column_fits, ColumnsWritten, columns_none, columns_more, columns_all}
+use Prim.Native.Nat.{◌-◌}
+use Rattle.buffer.specs.Copies.{stride_scaled}
+use Rattle.collect_finish.proofs.CopiedColumns.{ColumnsWritten}
 use Rattle.collect_finish.proofs.copy_columns.Given as goal
 
 abbrev pub invariant-loop-column : goal.invariant-loop-column

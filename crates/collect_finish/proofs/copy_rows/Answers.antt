@@ -1,9 +1,8 @@
 -- `copy_rows` has copied the rows passed so far, times the gain.
-use Prim.Native.Nat.{◌+◌, ◌*◌, ◌-◌, ◌≤◌}
+use Prim.Native.Nat.{◌+◌, ◌*◌, ◌≤◌}
 use native.Mathlib.Omega.{arith}
 use lib.ListN.{length}
-use Rattle.buffer.specs.Copies.{stride_scaled}
-use Rattle.collect_finish.proofs.CopiedRows.{RowsWritten, rows_none, rows_all, scaled_more}
+use Rattle.collect_finish.proofs.CopiedRows.{rows_none, rows_all, scaled_more}
 use Rattle.collect_finish.proofs.copy_rows.Goals as goal
 use Rattle.collect_finish.proofs.copy_rows.Goals.{In-loop-row}
 

@@ -1,9 +1,7 @@
 -- `copy_rows` has copied the rows passed so far, times the gain.
-use Prim.Native.Nat.{◌+◌, ◌*◌, ◌-◌, ◌≤◌}
-use native.Mathlib.Omega.{arith}
-use lib.ListN.{length}
+use Prim.Native.Nat.{◌-◌}
 use Rattle.buffer.specs.Copies.{stride_scaled}
-use Rattle.collect_finish.proofs.CopiedRows.{RowsWritten, rows_none, rows_all, scaled_more}
+use Rattle.collect_finish.proofs.CopiedRows.{RowsWritten}
 use Rattle.collect_finish.proofs.copy_rows.Given as goal
 
 abbrev pub invariant-loop-row : goal.invariant-loop-row

@@ -1,14 +1,14 @@
 -- `load_block` has read the columns passed so far.
 use mathlib.Core.Path.{ap, ◌∙◌}
-use Prim.Native.Nat.{◌+◌, ◌-◌, ◌≤◌}
+use Prim.Native.Nat.{◌+◌, ◌≤◌}
 use native.Mathlib.Omega.{arith}
 use lib.ListN.{length}
-use Rattle.buffer.specs.Copies.{stride_heights, StrideFits}
+use Rattle.buffer.specs.Copies.{StrideFits}
 use Rattle.buffer.specs.Lists.{number_at}
 use Rattle.buffer.specs.Pixel.{pixel}
 use Rattle.collect_finish.specs.Work.{work_stride, work_corner}
 use Rattle.collect_finish.proofs.WorkCells.{cells_written}
-use Rattle.collect_finish.proofs.CopiedColumns.{group_fits, ColumnsWritten, columns_none, next_group, columns_all}
+use Rattle.collect_finish.proofs.CopiedColumns.{group_fits, columns_none, next_group, columns_all}
 use Rattle.collect_finish.proofs.load_block.Goals as goal
 use Rattle.collect_finish.proofs.load_block.Goals.{After-lesser-width}
 

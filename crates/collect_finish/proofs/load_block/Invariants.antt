@@ -1,14 +1,8 @@
 -- `load_block` has read the columns passed so far.
-use mathlib.Core.Path.{ap, ◌∙◌}
-use Prim.Native.Nat.{◌+◌, ◌-◌, ◌≤◌}
-use native.Mathlib.Omega.{arith}
-use lib.ListN.{length}
-use Rattle.buffer.specs.Copies.{stride_heights, StrideFits}
-use Rattle.buffer.specs.Lists.{number_at}
-use Rattle.buffer.specs.Pixel.{pixel}
+use Prim.Native.Nat.{◌-◌}
+use Rattle.buffer.specs.Copies.{stride_heights}
 use Rattle.collect_finish.specs.Work.{work_stride, work_corner}
-use Rattle.collect_finish.proofs.WorkCells.{cells_written}
-use Rattle.collect_finish.proofs.CopiedColumns.{group_fits, ColumnsWritten, columns_none, next_group, columns_all}
+use Rattle.collect_finish.proofs.CopiedColumns.{ColumnsWritten}
 use Rattle.collect_finish.proofs.load_block.Given as goal
 
 abbrev pub invariant-loop-column : goal.invariant-loop-column

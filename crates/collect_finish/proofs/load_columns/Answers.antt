@@ -1,10 +1,9 @@
 -- `load_columns` has read the rows passed so far.
-use Prim.Native.Nat.{◌+◌, ◌*◌, ◌-◌, ◌≤◌}
+use Prim.Native.Nat.{◌+◌, ◌*◌, ◌≤◌}
 use native.Mathlib.Omega.{arith}
 use lib.ListN.{length}
-use Rattle.buffer.specs.Copies.{stride_heights}
 use Rattle.collect_finish.specs.Work.{work_stride}
-use Rattle.collect_finish.proofs.CopiedRows.{RowsWritten, rows_none, rows_more, rows_all}
+use Rattle.collect_finish.proofs.CopiedRows.{rows_none, rows_more, rows_all}
 use Rattle.collect_finish.proofs.load_columns.Goals as goal
 use Rattle.collect_finish.proofs.load_columns.Goals.{In-loop-row}
 

@@ -1,13 +1,9 @@
 -- `load_line` has loaded the pairs passed so far.
-use mathlib.Core.Path.{◌≡◌, refl, ap, ◌∙◌}
-use Prim.Native.Nat.{ℕ, ◌+◌, ◌*◌, ◌-◌, ◌≤◌}
-use native.Mathlib.Omega.{arith}
+use mathlib.Core.Path.{◌≡◌}
+use Prim.Native.Nat.{◌*◌, ◌-◌, ◌≤◌}
 use lib.ListN.{length}
-use Rattle.buffer.specs.Lists.{number_at}
-use Rattle.buffer.specs.Pixel.{pixel}
 use Rattle.buffer.specs.Copies.{heights_from}
 use Rattle.buffer.specs.Written.{row_written}
-use Rattle.buffer.proofs.Copies.{row_none, row_parts, row_length}
 use Rattle.collect_finish.proofs.load_line.Given as goal
 
 abbrev pub invariant-loop-pair : goal.invariant-loop-pair

@@ -1,8 +1,6 @@
 -- `run_passes` has run the passes so far in the work array with all gains in the first, the neighbours' strips past the
 -- block's edges times the gains of the passes after each.
-use Prim.Native.Nat.{◌-◌}
-use native.Mathlib.Omega.{arith}
-use Rattle.collect_finish.proofs.Finishing.{Finishing, passes_start, finish_margin, finish_pass, finish_turn, passes_end}
+use Rattle.collect_finish.proofs.Finishing.{passes_start, finish_margin, finish_pass, finish_turn, passes_end}
 use Rattle.collect_finish.proofs.run_passes.Goals as goal
 
 -- ---- needs

@@ -1,8 +1,7 @@
 -- `run_passes` has run the passes so far in the work array with all gains in the first, the neighbours' strips past the
 -- block's edges times the gains of the passes after each.
 use Prim.Native.Nat.{◌-◌}
-use native.Mathlib.Omega.{arith}
-use Rattle.collect_finish.proofs.Finishing.{Finishing, passes_start, finish_margin, finish_pass, finish_turn, passes_end}
+use Rattle.collect_finish.proofs.Finishing.{Finishing}
 use Rattle.collect_finish.proofs.run_passes.Given as goal
 
 abbrev pub invariant-loop-pass : goal.invariant-loop-pass

@@ -1,11 +1,8 @@
 -- `count_inside` has counted the dropouts of the rows passed so far, which are no more than the map has heights.
-use mathlib.Core.Path.{◌≡◌, sym, ◌∙◌}
-use Prim.Native.Nat.{◌+◌, ◌-◌, ◌*◌, ◌≤◌}
-use native.Mathlib.Omega.{arith}
-use lib.ListN.{length}
+use mathlib.Core.Path.{◌≡◌}
+use Prim.Native.Nat.{◌-◌, ◌≤◌}
 use Rattle.number.specs.Numbers.{total}
-use Rattle.number.proofs.Sums.{sum_on, total_none}
-use Rattle.dropouts.proofs.Rows.{in_row, rows_most, rows_are, row_in_map, rows_in_map}
+use Rattle.dropouts.proofs.Rows.{in_row}
 use Rattle.dropouts.proofs.count_inside.Given as goal
 
 abbrev pub invariant-loop-row : goal.invariant-loop-row

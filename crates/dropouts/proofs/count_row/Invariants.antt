@@ -1,13 +1,6 @@
 -- `count_row` has counted the dropouts passed so far.
-use mathlib.Core.Path.{◌≡◌, sym, ap, ◌∙◌}
-use Prim.Native.Nat.{◌+◌, ◌-◌, ◌≤◌}
-use native.Mathlib.Omega.{arith}
-use mir.Syntax.{w32}
-use mir.ValLaws.{to_z-of_z}
-use Rattle.number.specs.Numbers.{one}
-use Rattle.number.proofs.Sums.{one_most, sum_on, total_none}
-use Rattle.buffer.specs.Lists.{number_at}
-use Rattle.buffer.specs.Pixel.{is_dropout}
+use mathlib.Core.Path.{◌≡◌}
+use Prim.Native.Nat.{◌-◌, ◌≤◌}
 use Rattle.dropouts.specs.Rows.{dropouts_from}
 use Rattle.dropouts.proofs.count_row.Given as goal
 

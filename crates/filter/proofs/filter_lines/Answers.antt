@@ -2,8 +2,6 @@
 use mathlib.Core.Path.{◌≡◌, ◌∙◌}
 use Prim.Native.Nat.{ℕ, ◌+◌, ◌-◌, ◌*◌, ◌/◌, ◌<◌, ◌≤◌, min}
 use native.Mathlib.Omega.{arith}
-use borrow.Author.Rules.{rules}
-use lib.ListN.{length}
 use Rattle.filter.specs.FilterWords.{filter_by}
 use Rattle.filter.specs.Kernel.{filter_in_place}
 use Rattle.filter.proofs.Turns.{lines_fit_fewer, apart_fewer, place_more, places_more}

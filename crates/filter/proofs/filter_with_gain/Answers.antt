@@ -1,6 +1,5 @@
 -- `filter_with_gain` has the words of the filter, but for the gain.
 use mathlib.Core.Path.{ap}
-use borrow.Author.Rules.{rules}
 use Rattle.filter.specs.FilterWords.{with_gain}
 use Rattle.filter.proofs.filter_with_gain.Goals as goal
 

@@ -1,6 +1,5 @@
 -- `filter_words` has the residues of the pass's gain and of the coefficients passed so far.
 use mathlib.Core.Path.{◌≡◌, refl, ap, ap₂, ◌∙◌}
-use Prim.Native.Nat.{◌-◌, ◌≤◌}
 use native.Mathlib.Omega.{arith}
 use borrow.Author.Rules.{rules, sfits_of}
 use lib.ListN.{length, length-set}
@@ -9,7 +8,7 @@ use mir.ValLaws.{to_z-of_z}
 use Rattle.word.specs.Word.{residue}
 use Rattle.plan.specs.Rules.{order_limit, coefficient_at}
 use Rattle.filter.specs.FilterWords.{filter_words}
-use Rattle.filter.proofs.Buffers.{HoldsBelow, holds_more}
+use Rattle.filter.proofs.Buffers.{holds_more}
 use Rattle.filter.proofs.Filters.{residues_are}
 use Rattle.filter.proofs.filter_words.Goals as goal
 

@@ -1,16 +1,10 @@
 -- `filter_words` has the residues of the pass's gain and of the coefficients passed so far.
-use mathlib.Core.Path.{◌≡◌, refl, ap, ap₂, ◌∙◌}
+use mathlib.Core.Path.{◌≡◌}
 use Prim.Native.Nat.{◌-◌, ◌≤◌}
-use native.Mathlib.Omega.{arith}
-use borrow.Author.Rules.{rules, sfits_of}
-use lib.ListN.{length, length-set}
-use mir.Syntax.{w64}
-use mir.ValLaws.{to_z-of_z}
+use lib.ListN.{length}
 use Rattle.word.specs.Word.{residue}
 use Rattle.plan.specs.Rules.{order_limit, coefficient_at}
-use Rattle.filter.specs.FilterWords.{filter_words}
-use Rattle.filter.proofs.Buffers.{HoldsBelow, holds_more}
-use Rattle.filter.proofs.Filters.{residues_are}
+use Rattle.filter.proofs.Buffers.{HoldsBelow}
 use Rattle.filter.proofs.filter_words.Given as goal
 
 abbrev pub invariant-loop-place : goal.invariant-loop-place

@@ -2,7 +2,6 @@
 use mathlib.Core.Path.{ap, ◌∙◌}
 use Prim.Native.Nat.{◌-◌}
 use native.Mathlib.Numerals.{add-one}
-use borrow.Author.Rules.{rules}
 use Rattle.passes.specs.Gains.{gains_from}
 use Rattle.filter.specs.PlanFilters.{filters_of}
 use Rattle.filter.specs.FilterWords.{gains_after}

@@ -1,6 +1,5 @@
 -- `gains_first` has all gains for the first pass, and 1 for each other.
 use mathlib.Core.Path.{ap, ◌∙◌}
-use borrow.Author.Rules.{rules}
 use Rattle.plan.specs.Rules.{pass_at}
 use Rattle.filter.specs.FilterWords.{with_gain, filter_words}
 use Rattle.filter.proofs.Filters.{gains_first_words_first, gains_first_words_other}

@@ -1,10 +1,8 @@
 -- `gains_from` has the product of those of the gains passed so far that count.
 use mathlib.Core.Path.{◌≡◌, ap₂, sym, ◌∙◌}
-use Prim.Native.Nat.{◌-◌, ◌≤◌, min}
+use Prim.Native.Nat.{◌-◌, min}
 use native.Mathlib.Omega.{arith}
-use borrow.Author.Rules.{rules}
 use Rattle.word.specs.Word.{◌⊗◌}
-use Rattle.passes.specs.Gains.{gains_from}
 use Rattle.passes.proofs.Gains.{gains_from_none}
 use Rattle.filter.specs.PlanFilters.{filter_of, filters_of}
 use Rattle.filter.proofs.GainsWithin.{gains_on}

@@ -1,12 +1,8 @@
 -- `less_feedback` is the word less the feedback: after each tap the sum is the word less the feedback up to there.
 use mathlib.Core.Path.{◌≡◌}
-use Prim.Native.Nat.{◌+◌, ◌-◌, ◌≤◌, min}
-use native.Mathlib.Omega.{arith}
-use borrow.Author.Rules.{rules}
-use lib.ListN.{length}
+use Prim.Native.Nat.{◌-◌, ◌≤◌, min}
 use Rattle.plan.specs.Rules.{order_limit}
-use Rattle.filter.specs.Kernel.{feedback_from, TapsFit}
-use Rattle.filter.proofs.Turns.{taps_fit, taps_none, tap_taken, tap_left}
+use Rattle.filter.specs.Kernel.{feedback_from}
 use Rattle.filter.proofs.less_feedback.Given as goal
 
 abbrev pub invariant-loop-tap : goal.invariant-loop-tap

@@ -1,7 +1,6 @@
 -- `next_output_at` is the output after one that is at hand: the nearest tap is taken first, and then the others.
 use mathlib.Core.Path.{ap, ◌∙◌}
 use native.Mathlib.Omega.{arith}
-use borrow.Author.Rules.{rules}
 use Rattle.word.specs.Word.{◌⊖◌}
 use Rattle.buffer.specs.Lists.{word_at}
 use Rattle.filter.specs.Kernel.{feedback_from}

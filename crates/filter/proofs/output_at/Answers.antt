@@ -1,6 +1,5 @@
 -- `output_at` is the output of the filter of gain 1: the word at the place, less all its feedback.
 use mathlib.Core.Path.{◌∙◌}
-use borrow.Author.Rules.{rules}
 use native.Mathlib.Omega.{arith}
 use Rattle.filter.proofs.Turns.{taps_all}
 use Rattle.filter.proofs.output_at.Goals as goal

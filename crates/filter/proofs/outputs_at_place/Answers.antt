@@ -1,10 +1,8 @@
 -- `outputs_at_place` has stored the outputs of the lines passed so far.
 use mathlib.Core.Path.{◌≡◌, refl, ◌∙◌}
-use Prim.Native.Nat.{◌+◌, ◌-◌, ◌*◌, ◌<◌, ◌≤◌}
+use Prim.Native.Nat.{◌+◌, ◌*◌, ◌<◌}
 use native.Mathlib.Omega.{arith}
-use borrow.Author.Rules.{rules}
 use lib.ListN.{length, length-set}
-use Rattle.filter.specs.FilterWords.{filter_by}
 use Rattle.filter.specs.Kernel.{outputs_at}
 use Rattle.filter.proofs.Turns.{line_more}
 use Rattle.filter.proofs.outputs_at_place.Goals as goal

@@ -1,12 +1,9 @@
 -- `outputs_at_place` has stored the outputs of the lines passed so far.
-use mathlib.Core.Path.{◌≡◌, refl, ◌∙◌}
-use Prim.Native.Nat.{◌+◌, ◌-◌, ◌*◌, ◌<◌, ◌≤◌}
-use native.Mathlib.Omega.{arith}
-use borrow.Author.Rules.{rules}
-use lib.ListN.{length, length-set}
+use mathlib.Core.Path.{◌≡◌}
+use Prim.Native.Nat.{◌-◌, ◌≤◌}
+use lib.ListN.{length}
 use Rattle.filter.specs.FilterWords.{filter_by}
 use Rattle.filter.specs.Kernel.{outputs_at}
-use Rattle.filter.proofs.Turns.{line_more}
 use Rattle.filter.proofs.outputs_at_place.Given as goal
 
 abbrev pub invariant-loop-line : goal.invariant-loop-line

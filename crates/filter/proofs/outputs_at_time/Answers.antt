@@ -1,6 +1,5 @@
 -- `outputs_at_time` is the outputs at one place of the lines.
 use native.Mathlib.Omega.{arith}
-use borrow.Author.Rules.{rules}
 use Rattle.filter.proofs.Turns.{places_fit}
 use Rattle.filter.proofs.outputs_at_time.Goals as goal
 

@@ -1,11 +1,10 @@
 -- `outputs_at_two_places` has stored the two outputs of the lines passed so far.
 use mathlib.Core.Path.{◌≡◌, refl}
-use Prim.Native.Nat.{◌+◌, ◌-◌, ◌*◌, ◌≤◌}
+use Prim.Native.Nat.{◌+◌, ◌*◌}
 use native.Mathlib.Omega.{arith}
-use borrow.Author.Rules.{rules}
 use lib.ListN.{length, length-set}
 use Rattle.filter.specs.FilterWords.{filter_by}
-use Rattle.filter.specs.Kernel.{outputs_at, outputs_at_two}
+use Rattle.filter.specs.Kernel.{outputs_at}
 use Rattle.filter.proofs.TwoPlaces.{TurnFits, turn_fits, line_two_more}
 use Rattle.filter.proofs.outputs_at_two_places.Goals as goal
 use Rattle.filter.proofs.outputs_at_two_places.Goals.{In-loop-line}

@@ -1,12 +1,9 @@
 -- `outputs_at_two_places` has stored the two outputs of the lines passed so far.
-use mathlib.Core.Path.{◌≡◌, refl}
-use Prim.Native.Nat.{◌+◌, ◌-◌, ◌*◌, ◌≤◌}
-use native.Mathlib.Omega.{arith}
-use borrow.Author.Rules.{rules}
-use lib.ListN.{length, length-set}
+use mathlib.Core.Path.{◌≡◌}
+use Prim.Native.Nat.{◌-◌, ◌≤◌}
+use lib.ListN.{length}
 use Rattle.filter.specs.FilterWords.{filter_by}
-use Rattle.filter.specs.Kernel.{outputs_at, outputs_at_two}
-use Rattle.filter.proofs.TwoPlaces.{TurnFits, turn_fits, line_two_more}
+use Rattle.filter.specs.Kernel.{outputs_at_two}
 use Rattle.filter.proofs.outputs_at_two_places.Given as goal
 
 abbrev pub invariant-loop-line : goal.invariant-loop-line

@@ -1,13 +1,9 @@
 -- `outputs_in_pairs` has done the pairs of places passed so far of all lines.
-use mathlib.Core.Path.{◌≡◌, refl, ◌∙◌}
-use Prim.Native.Nat.{◌+◌, ◌-◌, ◌*◌, ◌≤◌}
-use native.Mathlib.Omega.{arith}
-use borrow.Author.Rules.{rules}
+use mathlib.Core.Path.{◌≡◌}
+use Prim.Native.Nat.{◌-◌, ◌*◌, ◌≤◌}
 use lib.ListN.{length}
 use Rattle.filter.specs.FilterWords.{filter_by}
 use Rattle.filter.specs.Kernel.{filter_in_place}
-use Rattle.filter.proofs.Turns.{places_more}
-use Rattle.filter.proofs.TwoPlaces.{two_places_fit, two_places}
 use Rattle.filter.proofs.outputs_in_pairs.Given as goal
 
 abbrev pub invariant-loop-pair : goal.invariant-loop-pair

@@ -1,10 +1,8 @@
 -- `outputs_short_of_taps` has done the places passed so far of all lines.
 use mathlib.Core.Path.{◌≡◌, refl}
-use Prim.Native.Nat.{ℕ, ◌+◌, ◌-◌, ◌≤◌, min}
+use Prim.Native.Nat.{ℕ, ◌+◌, min}
 use native.Mathlib.Omega.{arith}
-use borrow.Author.Rules.{rules}
 use lib.ListN.{length}
-use Rattle.filter.specs.FilterWords.{filter_by}
 use Rattle.filter.specs.Kernel.{filter_in_place}
 use Rattle.filter.proofs.Turns.{lines_fit_fewer, place_more}
 use Rattle.filter.proofs.outputs_short_of_taps.Goals as goal

@@ -1,7 +1,6 @@
 -- `run_pass` is the pass over the window: the gain first, and then the pass of gain 1, or nothing more at order 0.
 use mathlib.Core.Path.{◌≡◌, ◌∙◌}
 use native.Mathlib.Omega.{arith}
-use borrow.Author.Rules.{rules}
 use lib.ListN.{length}
 use Rattle.passes.specs.Gains.{unit_gain}
 use Rattle.filter.specs.FilterWords.{filter_with}

@@ -1,10 +1,7 @@
 -- `scale_row` has multiplied the words passed so far.
 use mathlib.Core.Path.{◌≡◌, refl, ◌∙◌}
-use Prim.Native.Nat.{◌-◌, ◌≤◌}
 use native.Mathlib.Omega.{arith}
-use borrow.Author.Rules.{rules}
-use lib.ListN.{length, length-set}
-use Rattle.buffer.specs.Written.{row_written}
+use lib.ListN.{length-set}
 use Rattle.buffer.specs.Copies.{scaled_from}
 use Rattle.buffer.proofs.Copies.{row_none, row_scaled_more}
 use Rattle.filter.proofs.scale_row.Goals as goal

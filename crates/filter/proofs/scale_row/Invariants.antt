@@ -1,12 +1,9 @@
 -- `scale_row` has multiplied the words passed so far.
-use mathlib.Core.Path.{◌≡◌, refl, ◌∙◌}
+use mathlib.Core.Path.{◌≡◌}
 use Prim.Native.Nat.{◌-◌, ◌≤◌}
-use native.Mathlib.Omega.{arith}
-use borrow.Author.Rules.{rules}
-use lib.ListN.{length, length-set}
+use lib.ListN.{length}
 use Rattle.buffer.specs.Written.{row_written}
 use Rattle.buffer.specs.Copies.{scaled_from}
-use Rattle.buffer.proofs.Copies.{row_none, row_scaled_more}
 use Rattle.filter.proofs.scale_row.Given as goal
 
 abbrev pub invariant-loop-column : goal.invariant-loop-column

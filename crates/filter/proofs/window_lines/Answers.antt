@@ -1,7 +1,6 @@
 -- `window_lines` is the lines of the window, and its arithmetic fits since the window does.
 use native.Mathlib.Omega.{arith}
 use Prim.Native.Nat.{◌^◌}
-use borrow.Author.Rules.{rules}
 use Rattle.axis.specs.Axis.{axis_of, direction_of}
 use Rattle.filter.proofs.Numbers.{NumbersFit, numbers_fit}
 use Rattle.filter.proofs.window_lines.Goals as goal

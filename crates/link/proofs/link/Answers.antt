@@ -1,6 +1,5 @@
 -- `link` writes the strip of the link; one of order 0 has no words.
 use mathlib.Core.Path.{refl}
-use Prim.Native.Nat.{ℕ}
 use lib.ListN.{length}
 use Rattle.buffer.proofs.Listed.{zeros_at}
 use Rattle.squares.specs.LineBuffers.{line_words}

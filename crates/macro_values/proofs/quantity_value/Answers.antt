@@ -1,7 +1,6 @@
 -- `macro_values::quantity_value` meets its contract: vacant where the rectangle is empty, else by the quantity. Assumes
 -- nothing.
 use mathlib.Core.Path.{◌≡◌, sym, ap, ◌∙◌}
-use Prim.Native.Nat.{ℕ}
 use native.Mathlib.Omega.{arith}
 use lib.IntN.{pos}
 use mir.Syntax.{w64}

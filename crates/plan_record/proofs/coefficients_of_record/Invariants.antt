@@ -1,15 +1,9 @@
 -- `plan_record::coefficients_of_record` meets its contract: the first j places are filled. Assumes nothing.
-use Rattle.std.proofs.Common.{w64}
-use mathlib.Core.Path.{◌≡◌, refl, sym}
+use mathlib.Core.Path.{◌≡◌}
 use Prim.Native.Nat.{◌+◌, ◌-◌, ◌≤◌}
-use native.Mathlib.Omega.{arith}
-use borrow.Author.Rules.{rules}
-use lib.ListN.{length, take, length-set}
-use Rattle.number.proofs.SignedBits.{read_back_law}
+use lib.ListN.{length, take}
 use Rattle.plan.specs.Rules.{order_limit}
 use Rattle.buffer.specs.Lists.{list_of, number_at}
-use Rattle.buffer.proofs.Listed.{listed_none, filled_more, filled_all}
-use Rattle.plan_record.specs.Records.{pass_of_record}
 use Rattle.plan_record.proofs.coefficients_of_record.Given as goal
 
 abbrev pub invariant-loop-j : goal.invariant-loop-j

@@ -1,12 +1,10 @@
 -- `plan_record::passes_of_record` meets its contract: the first i passes are filled. Assumes nothing.
 use mathlib.Core.Path.{◌≡◌, sym}
-use Prim.Native.Nat.{ℕ, ◌-◌, ◌≤◌}
 use native.Mathlib.Omega.{arith}
 use borrow.Author.Rules.{rules}
-use lib.ListN.{length, take, length-set}
-use Rattle.buffer.specs.Lists.{list_of}
+use lib.ListN.{length-set}
 use Rattle.buffer.proofs.Listed.{listed_none, filled_more, filled_all}
-use Rattle.plan_record.specs.Records.{pass_start, pass_of_record, plan_of_record}
+use Rattle.plan_record.specs.Records.{plan_of_record}
 use Rattle.plan_record.proofs.passes_of_record.Goals as goal
 
 pub loop-i-init : goal.loop-i-init

@@ -1,12 +1,9 @@
 -- `plan_record::passes_of_record` meets its contract: the first i passes are filled. Assumes nothing.
-use mathlib.Core.Path.{◌≡◌, sym}
+use mathlib.Core.Path.{◌≡◌}
 use Prim.Native.Nat.{ℕ, ◌-◌, ◌≤◌}
-use native.Mathlib.Omega.{arith}
-use borrow.Author.Rules.{rules}
-use lib.ListN.{length, take, length-set}
+use lib.ListN.{length, take}
 use Rattle.buffer.specs.Lists.{list_of}
-use Rattle.buffer.proofs.Listed.{listed_none, filled_more, filled_all}
-use Rattle.plan_record.specs.Records.{pass_start, pass_of_record, plan_of_record}
+use Rattle.plan_record.specs.Records.{pass_start, pass_of_record}
 use Rattle.plan_record.proofs.passes_of_record.Given as goal
 
 abbrev pub invariant-loop-i : goal.invariant-loop-i

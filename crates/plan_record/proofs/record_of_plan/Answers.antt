@@ -1,12 +1,9 @@
 -- `plan_record::record_of_plan` meets its contract: the sizes and the first i passes stand in front. Assumes nothing.
 use Rattle.std.proofs.Common.{w64}
 use native.Mathlib.Omega.{arith}
-use Prim.Native.Nat.{◌-◌, ◌≤◌}
 use mathlib.Core.Path.{◌≡◌}
-use lib.ListN.{length, take}
 use Rattle.number.proofs.SignedBits.{read_back_law}
-use Rattle.plan_record.specs.Records.{pass_start, record_length}
-use Rattle.plan_record.proofs.RecordWords.{front, front_none, front_more, front_all}
+use Rattle.plan_record.proofs.RecordWords.{front_none, front_more, front_all}
 use borrow.Author.Rules.{rules}
 use Rattle.plan_record.proofs.record_of_plan.Goals as goal
 

@@ -2,17 +2,16 @@
 -- Assumes nothing.
 use Rattle.std.proofs.Common.{w64}
 use native.Mathlib.Omega.{arith}
-use Prim.Native.Nat.{◌+◌, ◌-◌, ◌≤◌}
+use Prim.Native.Nat.{◌+◌}
 use mathlib.Core.Path.{◌≡◌, refl}
-use mathlib.Core.List.{◌++◌, append-nil}
-use lib.ListN.{set, length, length-set, take}
+use mathlib.Core.List.{append-nil}
+use lib.ListN.{set, length-set, take}
 use Rattle.plan.specs.Rules.{order_limit, coefficient_at}
 use lib.IntN.{pos}
 use native.Mathlib.Nat.{add-zero}
 use Rattle.word.proofs.Signs.{read_back}
 use Rattle.number.proofs.SignedBits.{read_back_law}
 use Rattle.plan_record.proofs.RecordWords.{copied_more, pass_filled}
-use Rattle.plan_record.specs.Records.{record_length}
 use borrow.Author.Rules.{rules}
 use Rattle.plan_record.proofs.with_pass.Goals as goal
 

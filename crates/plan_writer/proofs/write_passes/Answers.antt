@@ -1,10 +1,9 @@
 -- `write_passes` meets its contract. The loop's invariant: the words of the first i passes are written, and `next` is the
 -- place after them. Assumes nothing.
 use mathlib.Core.Path.{◌≡◌, ap, ◌∙◌}
-use Prim.Native.Nat.{◌+◌, ◌-◌, ◌*◌, ◌≤◌}
 use native.Mathlib.Omega.{arith}
 use lib.ListN.{length}
-use lib.Seq.{sets, length-sets}
+use lib.Seq.{length-sets}
 use Rattle.number.proofs.Sums.{total_none, total_grows}
 use Rattle.plan.specs.Sizes.{order_of, order_sum}
 use Rattle.plan_writer.specs.WritePlan.{passes_words}

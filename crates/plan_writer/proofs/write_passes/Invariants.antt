@@ -1,14 +1,10 @@
 -- `write_passes` meets its contract. The loop's invariant: the words of the first i passes are written, and `next` is the
 -- place after them. Assumes nothing.
-use mathlib.Core.Path.{◌≡◌, ap, ◌∙◌}
+use mathlib.Core.Path.{◌≡◌}
 use Prim.Native.Nat.{◌+◌, ◌-◌, ◌*◌, ◌≤◌}
-use native.Mathlib.Omega.{arith}
-use lib.ListN.{length}
-use lib.Seq.{sets, length-sets}
-use Rattle.number.proofs.Sums.{total_none, total_grows}
-use Rattle.plan.specs.Sizes.{order_of, order_sum}
+use lib.Seq.{sets}
+use Rattle.plan.specs.Sizes.{order_sum}
 use Rattle.plan_writer.specs.WritePlan.{passes_words}
-use Rattle.plan_writer.proofs.WrittenWords.{pass_kept_law, more_orders, no_passes, more_passes}
 use Rattle.plan_writer.proofs.write_passes.Given as goal
 
 abbrev pub invariant-loop-i : goal.invariant-loop-i

@@ -1,14 +1,14 @@
 -- Invariant: the marks before this block are without the bits that the recall clears.
 use mathlib.Core.Path.{◌≡◌, refl, sym, ap₂, ◌∙◌}
-use Prim.Native.Nat.{◌-◌, ◌<◌, ◌≤◌}
+use Prim.Native.Nat.{◌<◌}
 use native.Mathlib.Omega.{arith}
-use lib.ListN.{length, length-set}
+use lib.ListN.{length-set}
 use Rattle.buffer.proofs.Written.{written_none}
 use Rattle.grid.specs.Grid.{block_total}
 use Rattle.grid.specs.Shapes.{position_of}
 use Rattle.recall.specs.RecallCall.{marks_recalled}
 use Rattle.recall.specs.Clearing.{first_reached}
-use Rattle.recall.proofs.Clearing.{first_link, recalled_to, recalled_next}
+use Rattle.recall.proofs.Clearing.{first_link, recalled_next}
 use Rattle.recall.proofs.clear_marks.Goals as goal
 use Rattle.recall.proofs.clear_marks.Goals.{After-first_reached-first}
 

@@ -1,14 +1,8 @@
 -- Invariant: the marks before this block are without the bits that the recall clears.
-use mathlib.Core.Path.{◌≡◌, refl, sym, ap₂, ◌∙◌}
-use Prim.Native.Nat.{◌-◌, ◌<◌, ◌≤◌}
-use native.Mathlib.Omega.{arith}
-use lib.ListN.{length, length-set}
-use Rattle.buffer.proofs.Written.{written_none}
-use Rattle.grid.specs.Grid.{block_total}
-use Rattle.grid.specs.Shapes.{position_of}
-use Rattle.recall.specs.RecallCall.{marks_recalled}
-use Rattle.recall.specs.Clearing.{first_reached}
-use Rattle.recall.proofs.Clearing.{first_link, recalled_to, recalled_next}
+use mathlib.Core.Path.{◌≡◌}
+use Prim.Native.Nat.{◌-◌, ◌≤◌}
+use lib.ListN.{length}
+use Rattle.recall.proofs.Clearing.{recalled_to}
 use Rattle.recall.proofs.clear_marks.Given as goal
 
 abbrev pub invariant-loop-block : goal.invariant-loop-block

@@ -1,6 +1,5 @@
 -- Invariant: none of the blocks before this one is broken.
 use mathlib.Core.Path.{◌∙◌, ◌≡◌, ap, sym}
-use Prim.Native.Nat.{◌-◌, ◌≤◌}
 use native.Mathlib.Omega.{arith}
 use Rattle.number.proofs.Tests.{failed, passed}
 use Rattle.grid.specs.Grid.{block_total}

@@ -1,11 +1,8 @@
 -- Invariant: none of the blocks before this one is broken.
-use mathlib.Core.Path.{◌∙◌, ◌≡◌, ap, sym}
+use mathlib.Core.Path.{◌≡◌}
 use Prim.Native.Nat.{◌-◌, ◌≤◌}
-use native.Mathlib.Omega.{arith}
-use Rattle.number.proofs.Tests.{failed, passed}
 use Rattle.grid.specs.Grid.{block_total}
-use Rattle.tasks.proofs.Verdicts.{least_below, below_none, below_valid, below_all, first_least}
-use Rattle.report.specs.Report.{first_broken}
+use Rattle.tasks.proofs.Verdicts.{least_below}
 use Rattle.report.proofs.first_broken.Given as goal
 
 abbrev pub invariant-loop-block : goal.invariant-loop-block

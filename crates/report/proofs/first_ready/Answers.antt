@@ -1,11 +1,8 @@
 -- Invariant of both loops: what is left of the search from this task and this block on is the whole search.
-use mathlib.Core.Path.{◌∙◌, ◌≡◌, sym}
-use Prim.Native.Nat.{◌+◌, ◌-◌, ◌≤◌}
+use mathlib.Core.Path.{◌∙◌, sym}
 use native.Mathlib.Omega.{arith}
 use Rattle.report.proofs.Search.{row_end_law, row_hit, row_miss, task_end, task_row}
-use Rattle.report.specs.Report.{first_block, first_ready, first_task, or_else}
-use Rattle.tasks.specs.Marks.{is_marked}
-use Rattle.tasks.specs.Tasks.{ready}
+use Rattle.report.specs.Report.{first_ready}
 use Rattle.report.proofs.first_ready.Goals as goal
 
 pub out-init : goal.out-init

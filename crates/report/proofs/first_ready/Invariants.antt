@@ -1,8 +1,6 @@
 -- Invariant of both loops: what is left of the search from this task and this block on is the whole search.
-use mathlib.Core.Path.{◌∙◌, ◌≡◌, sym}
+use mathlib.Core.Path.{◌≡◌}
 use Prim.Native.Nat.{◌+◌, ◌-◌, ◌≤◌}
-use native.Mathlib.Omega.{arith}
-use Rattle.report.proofs.Search.{row_end_law, row_hit, row_miss, task_end, task_row}
 use Rattle.report.specs.Report.{first_block, first_ready, first_task, or_else}
 use Rattle.tasks.specs.Marks.{is_marked}
 use Rattle.tasks.specs.Tasks.{ready}

@@ -1,10 +1,8 @@
 -- Invariant: the sum over the tasks so far, at most one for each.
-use mathlib.Core.Path.{◌∙◌, ◌≡◌, ap, sym}
+use mathlib.Core.Path.{◌≡◌}
 use Prim.Native.Nat.{◌-◌, ◌≤◌}
-use native.Mathlib.Omega.{arith}
-use Rattle.number.proofs.Sums.{one_most, sum_on, total_none}
-use Rattle.tasks.specs.Counts.{done_at, one_at}
-use Rattle.number.specs.Numbers.{one, total}
+use Rattle.tasks.specs.Counts.{one_at}
+use Rattle.number.specs.Numbers.{total}
 use Rattle.tasks.specs.Marks.{is_marked}
 use Rattle.report.proofs.marked_at.Given as goal
 

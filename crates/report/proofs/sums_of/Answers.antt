@@ -1,7 +1,6 @@
 -- Invariant: both sums over the blocks so far; a block adds at most 6 and 2,048, so nothing wraps.
 use mathlib.Core.Path.{◌≡◌, sym}
-use mathlib.Core.Bool.{Bool}
-use Prim.Native.Nat.{ℕ, ◌+◌, ◌-◌, ◌≤◌}
+use Prim.Native.Nat.{◌+◌, ◌≤◌}
 use native.Mathlib.Omega.{arith}
 use lib.ListN.{length}
 use Rattle.number.proofs.Sums.{sum_on, total_most, total_none}

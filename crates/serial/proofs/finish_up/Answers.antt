@@ -1,8 +1,6 @@
 -- `finish_up` has passed up over the bands done so far, and finished all of these but the highest.
-use mathlib.Core.Path.{◌≡◌, refl}
-use Prim.Native.Nat.{◌-◌, ◌≤◌}
+use mathlib.Core.Path.{refl}
 use native.Mathlib.Omega.{arith}
-use lib.ListN.{length}
 use Rattle.serial.specs.Stages.{bands_passed_up}
 use Rattle.serial.proofs.Stages.{some_bands, band_up_more, bands_up_all}
 use Rattle.serial.proofs.finish_up.Goals as goal

@@ -1,14 +1,8 @@
 -- `read_down` has read the bands passed so far and run the pass down over them.
-use mathlib.Core.Path.{◌≡◌, refl}
-use mathlib.Core.List.{List}
-use Prim.Native.Nat.{ℕ, ◌+◌, ◌-◌, ◌*◌, ◌<◌, ◌≤◌}
-use native.Mathlib.Omega.{arith}
+use mathlib.Core.Path.{◌≡◌}
+use Prim.Native.Nat.{◌-◌, ◌≤◌}
 use lib.ListN.{length}
-use Rattle.plan.specs.declared.Plan.{Plan}
-use Rattle.plan.specs.Sizes.{needed_pixels}
-use Rattle.plan.proofs.Needed.{bounds}
-use Rattle.serial.specs.Stages.{map_words, band_count, bands_read_down}
-use Rattle.serial.proofs.Stages.{band_read_down, band_fits, band_in_map}
+use Rattle.serial.specs.Stages.{map_words, bands_read_down}
 use Rattle.serial.proofs.read_down.Given as goal
 
 abbrev pub invariant-loop-band : goal.invariant-loop-band

@@ -1,6 +1,4 @@
 -- `run_passes` answers as it is defined, and leaves the output as it is defined.
-use mathlib.Core.List.{List}
-use Prim.Native.Nat.{ℕ}
 use Rattle.serial.specs.Stages.{map_words}
 use Rattle.serial.proofs.SerialAnswers.{passes_refused, map_fits, passes_accepted}
 use Rattle.serial.proofs.run_passes.Goals as goal

@@ -1,9 +1,7 @@
 -- `rows_before` has the rows of the passes so far.
 use mathlib.Core.Path.{◌≡◌, sym}
-use Prim.Native.Nat.{◌-◌, ◌*◌, ◌≤◌}
 use native.Mathlib.Omega.{arith}
 use Rattle.number.proofs.Sums.{total_none}
-use Rattle.plan.specs.Rules.{order_limit}
 use Rattle.squares.specs.LineBuffers.{filter_at, rows_before}
 use Rattle.squares.proofs.LineRows.{rows_next}
 use Rattle.squares.proofs.rows_before.Goals as goal

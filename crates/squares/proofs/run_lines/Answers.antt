@@ -1,9 +1,8 @@
 -- `run_lines` has done the passes so far along the lines.
 use mathlib.Core.Path.{◌≡◌}
-use Prim.Native.Nat.{◌+◌, ◌-◌, ◌≤◌}
+use Prim.Native.Nat.{◌+◌}
 use native.Mathlib.Omega.{arith}
 use Rattle.squares.specs.LineBuffers.{filter_at}
-use Rattle.squares.specs.Rows.{LinesPassed}
 use Rattle.squares.proofs.Lines.{passed_none, passed_next}
 use Rattle.squares.proofs.LineRows.{rows_few}
 use Rattle.squares.proofs.run_lines.Goals as goal

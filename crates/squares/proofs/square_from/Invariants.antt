@@ -1,12 +1,10 @@
 -- `square_from` has the rows of the lines passed so far.
-use mathlib.Core.Path.{◌≡◌, refl, ap, ◌∙◌}
+use mathlib.Core.Path.{◌≡◌}
 use Prim.Native.Nat.{ℕ, ◌+◌, ◌-◌, ◌<◌, ◌≤◌}
-use native.Mathlib.Omega.{arith}
-use lib.ListN.{length, length-set}
+use lib.ListN.{length}
 use Rattle.plan.specs.Rules.{order_limit}
 use Rattle.buffer.specs.Lists.{word_at}
 use Rattle.squares.specs.LineBuffers.{row_words, square_at}
-use Rattle.squares.proofs.Units.{square_next}
 use Rattle.number.specs.Numbers.{row_major}
 use Rattle.squares.proofs.square_from.Given as goal
 

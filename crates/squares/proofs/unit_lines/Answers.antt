@@ -1,9 +1,9 @@
 -- `unit_lines` has set the units of the lines so far.
 use mathlib.Core.Path.{◌≡◌, refl, ◌∙◌}
-use Prim.Native.Nat.{◌-◌, ◌<◌, ◌≤◌}
+use Prim.Native.Nat.{◌<◌}
 use native.Mathlib.Omega.{arith}
 use borrow.Author.Rules.{rules}
-use lib.ListN.{length, length-set}
+use lib.ListN.{length-set}
 use Rattle.axis.specs.Axis.{direction_of}
 use Rattle.buffer.specs.Written.{written}
 use Rattle.squares.specs.LineBuffers.{row_words, unit_lines}

@@ -1,14 +1,9 @@
 -- `unit_lines` has set the units of the lines so far.
-use mathlib.Core.Path.{◌≡◌, refl, ◌∙◌}
-use Prim.Native.Nat.{◌-◌, ◌<◌, ◌≤◌}
-use native.Mathlib.Omega.{arith}
-use borrow.Author.Rules.{rules}
-use lib.ListN.{length, length-set}
+use mathlib.Core.Path.{◌≡◌}
+use Prim.Native.Nat.{◌-◌, ◌≤◌}
+use lib.ListN.{length}
 use Rattle.axis.specs.Axis.{direction_of}
-use Rattle.buffer.specs.Written.{written}
-use Rattle.squares.specs.LineBuffers.{row_words, unit_lines}
-use Rattle.squares.proofs.Lines.{margin_below}
-use Rattle.squares.proofs.Units.{units_next}
+use Rattle.squares.specs.LineBuffers.{unit_lines}
 use Rattle.squares.proofs.unit_lines.Given as goal
 
 abbrev pub invariant-loop-line : goal.invariant-loop-line

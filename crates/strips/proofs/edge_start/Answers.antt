@@ -1,6 +1,5 @@
 -- `edge_start` is the start of the strip, by the direction of the pass.
 use mathlib.Core.Path.{sym, ◌∙◌}
-use borrow.Author.Rules.{rules}
 use Rattle.axis.specs.Axis.{direction_of}
 use Rattle.axis.proofs.Passes.{runs_forward, runs_backward}
 use Rattle.strips.proofs.edge_start.Goals as goal

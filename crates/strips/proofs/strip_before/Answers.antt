@@ -1,7 +1,6 @@
 -- `strip_before` is the strip of the neighbour, or none.
 use Rattle.plan.proofs.Record.{in_grid}
 use Rattle.strips.proofs.StripRecords.{before_below, before_block, before_none}
-use borrow.Author.Rules.{rules}
 use Rattle.strips.proofs.strip_before.Goals as goal
 
 pub neighbour-found-requires : goal.neighbour-found-requires

@@ -1,7 +1,6 @@
 -- `strip_of` is block k's strip of the pass.
 use Rattle.plan.proofs.Record.{in_grid}
 use Rattle.strips.proofs.StripRecords.{strip_of_is}
-use borrow.Author.Rules.{rules}
 use Rattle.strips.proofs.strip_of.Goals as goal
 
 pub block_shape-shape-requires : goal.block_shape-shape-requires

@@ -4,7 +4,6 @@ use native.Mathlib.Omega.{arith}
 use Prim.Native.Nat.{◌+◌, ◌*◌}
 use Rattle.task_words.specs.Strips.{half_start}
 use Rattle.strips.proofs.Slots.{StartFits, start_fits}
-use borrow.Author.Rules.{rules}
 use Rattle.strips.proofs.strip_start.Goals as goal
 use Rattle.strips.proofs.strip_start.Goals.{After-half_words, After-words_before_half}
 

@@ -1,7 +1,6 @@
 -- `strip_with` has the places that lie in the block.
 use native.Mathlib.Omega.{arith}
 use Prim.Native.Nat.{◌-◌}
-use borrow.Author.Rules.{rules}
 use Rattle.axis.proofs.Passes.{forward_low}
 use Rattle.strips.proofs.StripRecords.{strip_with_is}
 use Rattle.strips.proofs.strip_with.Goals as goal

@@ -1,5 +1,4 @@
 -- `words_before_half` is none for the lone half, and a half's words for the linked one.
-use borrow.Author.Rules.{rules}
 use Rattle.strips.proofs.words_before_half.Goals as goal
 
 pub returns-in-Linked : goal.returns-in-Linked

@@ -1,5 +1,4 @@
 -- `read_strips` is safe and ends: each turn has fewer needs left.
-use Prim.Native.Nat.{◌+◌, ◌-◌}
 use native.Mathlib.Omega.{arith}
 use Rattle.link.proofs.ahead.read_strips.Goals as goal
 

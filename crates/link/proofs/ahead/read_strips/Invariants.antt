@@ -1,6 +1,5 @@
 -- `read_strips` is safe and ends: each turn has fewer needs left.
 use Prim.Native.Nat.{◌+◌, ◌-◌}
-use native.Mathlib.Omega.{arith}
 use Rattle.link.proofs.ahead.read_strips.Given as goal
 
 abbrev pub invariant-loop-need : goal.invariant-loop-need

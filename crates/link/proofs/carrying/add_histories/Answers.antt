@@ -1,11 +1,8 @@
 -- `add_histories` has added the distances so far.
 use mathlib.Core.Path.{◌≡◌, ap}
-use Prim.Native.Nat.{◌-◌, ◌≤◌}
 use native.Mathlib.Omega.{arith}
 use Rattle.word.specs.Word.{◌⊗◌}
-use Rattle.axis.specs.Axis.{direction_of}
 use Rattle.strips.specs.StripRecord.{strip_read}
-use Rattle.link.specs.Carrying.{history_word, HistoriesAdded}
 use Rattle.link.proofs.carrying.Histories.{histories_none, histories_more}
 use Rattle.link.proofs.carrying.add_histories.Goals as goal
 

@@ -1,11 +1,9 @@
 -- `add_multiple` has added the multiples of the lines so far.
 use mathlib.Core.Path.{◌≡◌, refl, ◌∙◌}
-use Prim.Native.Nat.{◌+◌, ◌-◌, ◌*◌, ◌<◌}
+use Prim.Native.Nat.{◌+◌, ◌*◌, ◌<◌}
 use native.Mathlib.Omega.{arith}
 use borrow.Author.Rules.{rules}
 use lib.ListN.{length, length-set}
-use Rattle.link.specs.Carrying.{multiple_added}
-use Rattle.link.proofs.Turns.{Turned}
 use Rattle.link.proofs.carrying.Multiples.{multiple_none, multiple_next}
 use Rattle.link.proofs.carrying.add_multiple.Goals as goal
 use Rattle.link.proofs.carrying.add_multiple.Goals.{In-loop-line}

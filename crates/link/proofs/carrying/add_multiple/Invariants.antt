@@ -1,12 +1,7 @@
 -- `add_multiple` has added the multiples of the lines so far.
-use mathlib.Core.Path.{◌≡◌, refl, ◌∙◌}
-use Prim.Native.Nat.{◌+◌, ◌-◌, ◌*◌, ◌<◌}
-use native.Mathlib.Omega.{arith}
-use borrow.Author.Rules.{rules}
-use lib.ListN.{length, length-set}
+use Prim.Native.Nat.{◌-◌}
 use Rattle.link.specs.Carrying.{multiple_added}
 use Rattle.link.proofs.Turns.{Turned}
-use Rattle.link.proofs.carrying.Multiples.{multiple_none, multiple_next}
 use Rattle.link.proofs.carrying.add_multiple.Given as goal
 
 abbrev pub invariant-loop-line : goal.invariant-loop-line

@@ -1,11 +1,8 @@
 -- `add_multiples` has added the multiples of the places so far.
-use mathlib.Core.Path.{◌≡◌}
 use Prim.Native.Nat.{◌+◌, ◌-◌, ◌*◌, ◌≤◌}
-use native.Mathlib.Omega.{arith}
 use Rattle.word.specs.Word.{◌⊗◌}
 use Rattle.buffer.specs.Lists.{word_at}
 use Rattle.link.specs.Carrying.{MultiplesAdded}
-use Rattle.link.proofs.carrying.Multiples.{multiples_none, multiples_next}
 use Rattle.link.proofs.carrying.add_multiples.Given as goal
 
 abbrev pub invariant-loop-place : goal.invariant-loop-place

@@ -1,10 +1,7 @@
 -- `carry` has added the histories of the passes so far.
-use Prim.Native.Nat.{◌-◌, ◌≤◌}
 use native.Mathlib.Omega.{arith}
 use Rattle.squares.specs.LineBuffers.{filter_at}
-use Rattle.link.specs.Crossing.{Held}
-use Rattle.link.proofs.carrying.Histories.{carried_to, carry_none, carry_next, carry_all}
-use Rattle.task_words.specs.ScaledEdges.{scaled_edges}
+use Rattle.link.proofs.carrying.Histories.{carry_none, carry_next, carry_all}
 use Rattle.link.proofs.carrying.carry.Goals as goal
 
 pub loop-done-init : goal.loop-done-init

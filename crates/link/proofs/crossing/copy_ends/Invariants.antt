@@ -1,14 +1,8 @@
 -- `copy_ends` has put the ends of the rows so far into the margin.
-use mathlib.Core.Path.{◌≡◌, refl}
-use Prim.Native.Nat.{◌-◌, ◌<◌}
-use native.Mathlib.Omega.{arith}
-use borrow.Author.Rules.{rules}
+use Prim.Native.Nat.{◌-◌}
 use Rattle.axis.specs.Axis.{direction_of}
-use Rattle.squares.proofs.Lines.{margin_below}
-use Rattle.squares.specs.LineBuffers.{row_words}
 use Rattle.link.specs.Crossing.{ends_copied}
 use Rattle.link.proofs.Turns.{Turned}
-use Rattle.link.proofs.crossing.Ends.{ends_none, ends_next}
 use Rattle.link.proofs.crossing.copy_ends.Given as goal
 
 abbrev pub invariant-loop-distance : goal.invariant-loop-distance

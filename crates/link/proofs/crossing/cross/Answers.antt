@@ -1,17 +1,9 @@
 -- `cross` has made the passes of the other axis so far.
-use mathlib.Core.List.{List}
-use mathlib.Core.Path.{◌≡◌, ◌∙◌}
-use Prim.Native.Nat.{ℕ, ◌-◌, ◌≤◌}
+use mathlib.Core.Path.{◌∙◌}
 use native.Mathlib.Omega.{arith}
-use lib.ListN.{length}
-use Rattle.passes.specs.Filter.{Filter}
 use Rattle.squares.specs.LineBuffers.{filter_at}
-use Rattle.link.specs.Lines.{LinesReady}
-use Rattle.link.specs.Crossing.{response_words, Held}
-use Rattle.link.specs.declared.Course.{Course}
-use Rattle.link.proofs.crossing.OtherAxis.{crossed_to, cross_none, cross_next, cross_all}
+use Rattle.link.proofs.crossing.OtherAxis.{cross_none, cross_next, cross_all}
 use Rattle.link.proofs.crossing.cross.Goals as goal
-use Rattle.link.proofs.crossing.cross.Invariants.{PassesMade}
 
 pub loop-pass-init : goal.loop-pass-init
 loop-pass-init c =

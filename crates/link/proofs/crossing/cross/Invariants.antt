@@ -1,15 +1,14 @@
 -- `cross` has made the passes of the other axis so far.
 use mathlib.Core.List.{List}
-use mathlib.Core.Path.{◌≡◌, ◌∙◌}
+use mathlib.Core.Path.{◌≡◌}
 use Prim.Native.Nat.{ℕ, ◌-◌, ◌≤◌}
-use native.Mathlib.Omega.{arith}
 use lib.ListN.{length}
 use Rattle.passes.specs.Filter.{Filter}
 use Rattle.squares.specs.LineBuffers.{filter_at}
 use Rattle.link.specs.Lines.{LinesReady}
 use Rattle.link.specs.Crossing.{response_words, Held}
 use Rattle.link.specs.declared.Course.{Course}
-use Rattle.link.proofs.crossing.OtherAxis.{crossed_to, cross_none, cross_next, cross_all}
+use Rattle.link.proofs.crossing.OtherAxis.{crossed_to}
 use Rattle.link.proofs.crossing.cross.Given as goal
 
 -- The first passes have been made.

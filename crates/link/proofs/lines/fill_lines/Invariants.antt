@@ -1,10 +1,7 @@
 -- `fill_lines` has filled the rows of the passes so far.
-use mathlib.Core.Path.{◌≡◌}
 use Prim.Native.Nat.{◌+◌, ◌-◌, ◌≤◌}
-use native.Mathlib.Omega.{arith}
 use Rattle.squares.specs.LineBuffers.{filter_at}
 use Rattle.link.specs.Lines.{LinesFilled}
-use Rattle.link.proofs.lines.Filling.{filled_none, filled_more}
 use Rattle.task_words.specs.ScaledEdges.{scaled_edges}
 use Rattle.link.proofs.lines.fill_lines.Given as goal
 

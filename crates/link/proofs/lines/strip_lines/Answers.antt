@@ -1,10 +1,7 @@
 -- `strip_lines` has put the lines of the distances so far into their rows.
 use mathlib.Core.Path.{◌≡◌, refl}
-use Prim.Native.Nat.{◌-◌}
 use native.Mathlib.Omega.{arith}
 use Rattle.axis.specs.Axis.{direction_of}
-use Rattle.link.specs.Lines.{strip_lines}
-use Rattle.link.proofs.Turns.{Turned}
 use Rattle.link.proofs.lines.StripRows.{strip_lines_none, strip_lines_next}
 use Rattle.link.proofs.lines.strip_lines.Goals as goal
 

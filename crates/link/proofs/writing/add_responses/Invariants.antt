@@ -1,12 +1,7 @@
 -- `add_responses` has added the responses of the lines so far.
-use mathlib.Core.Path.{◌≡◌, refl, ◌∙◌}
-use Prim.Native.Nat.{◌+◌, ◌-◌, ◌*◌, ◌<◌}
-use native.Mathlib.Omega.{arith}
-use borrow.Author.Rules.{rules}
-use lib.ListN.{length, length-set}
+use Prim.Native.Nat.{◌-◌}
 use Rattle.link.specs.Writing.{responses_added}
 use Rattle.link.proofs.Turns.{Turned}
-use Rattle.link.proofs.writing.Places.{responses_none, responses_next}
 use Rattle.link.proofs.writing.add_responses.Given as goal
 
 abbrev pub invariant-loop-line : goal.invariant-loop-line

@@ -1,9 +1,9 @@
 -- `write_strip` has written the places so far.
 use mathlib.Core.Path.{◌≡◌}
-use Prim.Native.Nat.{◌+◌, ◌-◌, ◌≤◌}
+use Prim.Native.Nat.{◌+◌}
 use native.Mathlib.Omega.{arith}
 use lib.ListN.{length}
-use Rattle.link.specs.Writing.{linked_word, StripLaid, PlacesWritten}
+use Rattle.link.specs.Writing.{StripLaid}
 use Rattle.link.proofs.writing.Places.{laid_fewer, places_none, places_next}
 use Rattle.link.proofs.writing.write_strip.Goals as goal
 use Rattle.link.proofs.writing.write_strip.Goals.{In-loop-place}

@@ -1,10 +1,6 @@
 -- `write_strip` has written the places so far.
-use mathlib.Core.Path.{◌≡◌}
-use Prim.Native.Nat.{◌+◌, ◌-◌, ◌≤◌}
-use native.Mathlib.Omega.{arith}
-use lib.ListN.{length}
-use Rattle.link.specs.Writing.{linked_word, StripLaid, PlacesWritten}
-use Rattle.link.proofs.writing.Places.{laid_fewer, places_none, places_next}
+use Prim.Native.Nat.{◌-◌, ◌≤◌}
+use Rattle.link.specs.Writing.{linked_word, PlacesWritten}
 use Rattle.link.proofs.writing.write_strip.Given as goal
 
 abbrev pub invariant-loop-place : goal.invariant-loop-place
