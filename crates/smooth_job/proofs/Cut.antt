@@ -15,7 +15,6 @@ use Rattle.refusal.specs.Table.{◌at◌when◌, first_due, first_of}
 use Rattle.refusal.proofs.Table.{first_append}
 use Rattle.plan.specs.declared.Plan.{Plan}
 use Rattle.plan.specs.Sizes.{needed_pixels, word_limit}
-use Rattle.buffer.specs.Lists.{list_of}
 use Rattle.buffer.proofs.Listed.{listed_same}
 use Rattle.plan_reader.specs.ReadPlan.{plan_rows}
 use Rattle.smooth_job.specs.Promises.{CutAsksTheSame}

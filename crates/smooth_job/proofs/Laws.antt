@@ -17,7 +17,6 @@ use Rattle.plan.specs.declared.Plan.{Plan}
 use Rattle.plan.specs.Rules.{keeps_rules}
 use Rattle.plan.specs.Sizes.{needed_marks, needed_strips, needed_pixels, sizes_of}
 use Rattle.plan.specs.FirstTests.{lent_rows}
-use Rattle.plan.proofs.Record.{rules}
 use Rattle.grid.proofs.Extents.{count_bounded}
 use Rattle.plan.proofs.Needed.{bounds}
 use Rattle.buffer.proofs.Listed.{listed_length}

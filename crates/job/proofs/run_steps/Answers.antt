@@ -1,10 +1,7 @@
 -- The loop keeps `RunningSteps`: what is left of the list gives what the whole list gives.
 use native.Mathlib.Omega.{arith}
-use Prim.Native.Nat.{◌-◌}
-use mathlib.Core.Path.{◌≡◌, refl, ◌∙◌}
-use lib.ListN.{length}
-use Rattle.job_spec.specs.Calls.{lists}
-use Rattle.job.proofs.Running.{RunningSteps, running_start, steps_next, steps_end, one_most}
+use mathlib.Core.Path.{refl, ◌∙◌}
+use Rattle.job.proofs.Running.{running_start, steps_next, steps_end, one_most}
 use Rattle.job.proofs.run_steps.Goals as goal
 
 pub loop-i-init : goal.loop-i-init

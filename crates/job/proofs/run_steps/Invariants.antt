@@ -1,10 +1,9 @@
 -- The loop keeps `RunningSteps`: what is left of the list gives what the whole list gives.
-use native.Mathlib.Omega.{arith}
 use Prim.Native.Nat.{◌-◌}
-use mathlib.Core.Path.{◌≡◌, refl, ◌∙◌}
+use mathlib.Core.Path.{◌≡◌}
 use lib.ListN.{length}
 use Rattle.job_spec.specs.Calls.{lists}
-use Rattle.job.proofs.Running.{RunningSteps, running_start, steps_next, steps_end, one_most}
+use Rattle.job.proofs.Running.{RunningSteps}
 use Rattle.job.proofs.run_steps.Given as goal
 
 abbrev pub invariant-loop-i : goal.invariant-loop-i

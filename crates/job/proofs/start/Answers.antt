@@ -1,7 +1,5 @@
 -- Each way out is one law of `Starting`.
 use native.Mathlib.Omega.{arith}
-use Prim.Native.Nat.{◌≤◌}
-use lib.ListN.{length}
 use Rattle.buffer.proofs.Copies.{words_fit}
 use Rattle.job.proofs.Starting.{start_refused, long_enough, start_accepted}
 use Rattle.job.proofs.start.Goals as goal

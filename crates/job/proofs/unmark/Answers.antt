@@ -1,9 +1,7 @@
 -- The marks before `block` are unmarked.
 use native.Mathlib.Omega.{arith}
-use Prim.Native.Nat.{◌-◌, ◌≤◌}
 use mathlib.Core.Path.{◌≡◌, refl, sym, ap, ◌∙◌}
-use lib.ListN.{set, length, length-set}
-use Rattle.job_spec.specs.Calls.{unmarked}
+use lib.ListN.{set, length-set}
 use Rattle.job.proofs.Starting.{unmarked_none, unmarked_next}
 use Rattle.job.proofs.unmark.Goals as goal
 

@@ -1,10 +1,8 @@
 -- The marks before `block` are unmarked.
-use native.Mathlib.Omega.{arith}
 use Prim.Native.Nat.{◌-◌, ◌≤◌}
-use mathlib.Core.Path.{◌≡◌, refl, sym, ap, ◌∙◌}
-use lib.ListN.{set, length, length-set}
+use mathlib.Core.Path.{◌≡◌}
+use lib.ListN.{length}
 use Rattle.job_spec.specs.Calls.{unmarked}
-use Rattle.job.proofs.Starting.{unmarked_none, unmarked_next}
 use Rattle.job.proofs.unmark.Given as goal
 
 abbrev pub invariant-loop-block : goal.invariant-loop-block

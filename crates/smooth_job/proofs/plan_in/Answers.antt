@@ -1,14 +1,10 @@
 -- `smooth_job::plan_in` meets its contract: the first i words are filled in. Assumes nothing.
 use mathlib.Core.Path.{◌≡◌, sym, ap, ◌∙◌}
-use Prim.Native.Nat.{◌-◌, ◌≤◌}
 use native.Mathlib.Omega.{arith}
-use lib.ListN.{length, take, length-set}
+use lib.ListN.{length-set}
 use lib.Seq.{length-take-le}
-use Rattle.buffer.specs.Lists.{list_of}
 use Rattle.buffer.proofs.Listed.{listed_none, filled_more}
 use Rattle.plan_reader.specs.ReadPlan.{read_plan}
-use Rattle.plan.specs.Sizes.{word_limit}
-use Rattle.smooth_job.specs.Program.{word_in}
 use borrow.Author.Rules.{rules}
 use Rattle.smooth_job.proofs.plan_in.Goals as goal
 

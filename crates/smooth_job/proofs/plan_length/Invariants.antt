@@ -1,10 +1,8 @@
 -- `smooth_job::plan_length` meets its contract: what is left of the search is the search. Assumes nothing.
 use mathlib.Core.Path.{◌≡◌}
 use Prim.Native.Nat.{◌-◌, ◌/◌, ◌≤◌}
-use native.Mathlib.Omega.{arith}
 use lib.ListN.{length}
 use Rattle.smooth_job.specs.Program.{word_in, after_end, plan_length}
-use Rattle.smooth_job.proofs.Input.{search_start, search_found, search_on, search_none}
 use Rattle.smooth_job.proofs.plan_length.Given as goal
 
 abbrev pub invariant-loop-i : goal.invariant-loop-i

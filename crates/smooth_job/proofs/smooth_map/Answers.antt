@@ -1,12 +1,11 @@
 -- `smooth_job::smooth_map` meets its contract: the first q heights are filled in. Assumes nothing.
 use Rattle.std.proofs.Common.{w32}
 use mathlib.Core.Path.{◌≡◌, sym}
-use Prim.Native.Nat.{◌-◌, ◌≤◌}
 use native.Mathlib.Omega.{arith}
-use lib.ListN.{length, take, length-set}
+use lib.ListN.{length-set}
 use lib.Seq.{length-take-le}
 use Rattle.buffer.proofs.Listed.{listed_none, filled_more}
-use Rattle.smooth_job.specs.Program.{pixel_limit, heights_in}
+use Rattle.smooth_job.specs.Program.{heights_in}
 use Rattle.number.proofs.SignedBits.{read_back_law}
 use borrow.Author.Rules.{rules}
 use Rattle.smooth_job.proofs.smooth_map.Goals as goal

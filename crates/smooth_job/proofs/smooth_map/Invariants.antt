@@ -1,14 +1,8 @@
 -- `smooth_job::smooth_map` meets its contract: the first q heights are filled in. Assumes nothing.
-use Rattle.std.proofs.Common.{w64}
-use mathlib.Core.Path.{◌≡◌, sym}
+use mathlib.Core.Path.{◌≡◌}
 use Prim.Native.Nat.{◌-◌, ◌≤◌}
-use native.Mathlib.Omega.{arith}
-use lib.ListN.{length, take, length-set}
-use lib.Seq.{length-take-le}
-use Rattle.buffer.proofs.Listed.{listed_none, filled_more}
+use lib.ListN.{length, take}
 use Rattle.smooth_job.specs.Program.{pixel_limit, heights_in}
-use Rattle.number.proofs.SignedBits.{read_back_law}
-use borrow.Author.Rules.{rules}
 use Rattle.smooth_job.proofs.smooth_map.Given as goal
 
 abbrev pub invariant-loop-q : goal.invariant-loop-q

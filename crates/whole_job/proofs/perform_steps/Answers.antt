@@ -1,10 +1,6 @@
 -- `whole_job::perform_steps` meets its contract: the lists are those after the steps that were taken.
 -- Assumes nothing.
-use mathlib.Core.Path.{◌≡◌}
-use Prim.Native.Nat.{◌-◌, ◌≤◌}
 use native.Mathlib.Omega.{arith}
-use lib.ListN.{length}
-use Rattle.job_spec.specs.Calls.{lists}
 use Rattle.whole_job.specs.WholeJob.{after_steps}
 use borrow.Author.Rules.{rules}
 use Rattle.whole_job.proofs.Performed.{steps_more, steps_all}

@@ -2,12 +2,9 @@
 -- Assumes nothing.
 use mathlib.Core.Path.{◌≡◌}
 use Prim.Native.Nat.{◌-◌, ◌≤◌}
-use native.Mathlib.Omega.{arith}
 use lib.ListN.{length}
 use Rattle.job_spec.specs.Calls.{lists}
 use Rattle.whole_job.specs.WholeJob.{after_steps}
-use borrow.Author.Rules.{rules}
-use Rattle.whole_job.proofs.Performed.{steps_more, steps_all}
 use Rattle.whole_job.proofs.perform_steps.Given as goal
 
 abbrev pub invariant-loop-step : goal.invariant-loop-step
