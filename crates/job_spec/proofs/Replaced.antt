@@ -8,7 +8,7 @@ use Rattle.buffer.specs.Pixel.{reading}
 use Rattle.buffer.proofs.Pixel.{dropouts_replaced}
 use Rattle.filter.specs.PlanFilters.{map_of}
 use Rattle.plan.specs.declared.Plan.{Plan}
-use Rattle.serial.specs.Serial.{serial_output}
+use Rattle.serial.specs.Serial.{serial_output, serial_words}
 use Rattle.tasks.specs.Tasks.{BlockTask}
 use Rattle.job_spec.specs.Calls.{Buffers, task_answer, strips_after, output_after, performed, after_task, after_calls, answers_of}
 use Rattle.job_spec.specs.Steps.{Step, perform, recall, after_step, after_steps, step_answer, step_answers}
@@ -19,6 +19,7 @@ module _ (plan : Plan) (heights : List ℤ) where
   same_map = dropouts_replaced.same_replaced plan.grid.columns heights
 
   serial_output_law : (output : List ℕ) → serial_output plan (map reading heights) output ≡ serial_output plan heights output
+  unfolding serial_output serial_words
   serial_output_law output = rw (length-map heights reading, same_map)
 
   task_answer_law : (buffers : Buffers) (t k : ℕ)

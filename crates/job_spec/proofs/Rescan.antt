@@ -32,6 +32,7 @@ use Rattle.report.specs.Values.{values_of}
 use Rattle.report.proofs.Claims.{told, reported}
 use Rattle.filter.specs.PlanFilters.{map_of, serial_result}
 use Rattle.serial.specs.Serial.{result_words, serial_output}
+use Rattle.serial.proofs.Outputs.{heights_output}
 use Rattle.serial.proofs.SerialAnswers.{long_enough as serial-accepts, output_of_accepted}
 use Rattle.serial.proofs.FirstWords.{first_words}
 use Rattle.task_words.specs.declared.Half.TheVariants.{Lone, Linked}
@@ -80,6 +81,7 @@ whole_output plan rules lent long done now kept X map_long right all =
     ∙ ap₂ (serial_result plan (map_of plan X) 4) pixel.row_is pixel.column_is)
     kept.output_past
     ∙ output_of_accepted plan _ (length X) lent.output (serial-accepts plan (length X) (length lent.output) rules map_long long)
+    ∙ heights_output plan X lent.output
 
 -- ---- the same tasks done
 

@@ -18,7 +18,7 @@ use Rattle.passes.proofs.Passes.{serial_passes_reads}
 use Rattle.passes.proofs.Adding.{adds_maps}
 use Rattle.filter.specs.PlanFilters.{filters_of, map_of, word_map_of, serial_result}
 use Rattle.serial.specs.Serial.{passes_output}
-use Rattle.serial.proofs.Outputs.{output_at_law}
+use Rattle.serial.proofs.Outputs.{heights_output, output_at_law}
 use Rattle.linearity.specs.Adding.{Accepted, Wordwise, KeptByPasses, KeptOfHeights, AddsOutputs}
 
 -- An operation on words that the serial passes keep, map by map.
@@ -63,9 +63,10 @@ pub kept_of_heights : (whole : ℤ → ℤ → ℤ) (operation : ℕ → ℕ →
     → ((a b : ℤ) → residue (whole a b) ≡ operation (residue a) (residue b)) → KeptOfHeights whole operation
 unfolding height_map pixel
 kept_of_heights whole operation kept residues plan a b c p q r e f g is =
-    outputs_are operation kept plan (map_of plan a) (map_of plan b) (word_map_of plan c)
+    rw (← heights_output plan a p, ← heights_output plan b q)
+    (outputs_are operation kept plan (map_of plan a) (map_of plan b) (word_map_of plan c)
     (λ y x h k. is _ (place_below plan.grid.rows plan.grid.columns y x h k) ∙ residues _ _) (length a) (length b)
-    (length c) p q r e f g
+    (length c) p q r e f g)
 
 pub adds_outputs : AddsOutputs
 adds_outputs =

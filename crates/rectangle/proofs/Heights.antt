@@ -24,7 +24,7 @@ use Rattle.passes.proofs.Table.{rectangle_heights}
 use Rattle.filter.specs.PlanFilters.{filter_of, filters_of, map_of, serial_result, running_sum_pass, unchanged_pass, summed_area_passes}
 use Rattle.serial.specs.Serial.{serial_answer, serial_output}
 use Rattle.serial.proofs.SerialAnswers.{long_enough}
-use Rattle.serial.proofs.Outputs.{output_length, output_at_law}
+use Rattle.serial.proofs.Outputs.{heights_output, output_length, output_at_law}
 use Rattle.rectangle.specs.Rectangle.{table_of, Inside}
 use Rattle.rectangle.specs.Heights.{height_sum, SumsHeights, GivesAtWord, SumsAtEnds}
 use Rattle.rectangle.proofs.SumAnswers.{accepted_when, given_accepted}
@@ -87,12 +87,14 @@ module _ (plan : Plan) (kept : keeps_rules plan ≡ true) (heights : List ℤ) (
   passes_accept = long_enough plan (length heights) (length output) kept long room
 
   table_long : needed_pixels plan ≤ length (serial_output plan heights output)
-  table_long = rw (output_length plan (map_of plan heights) (length heights) output passes_accept) room
+  table_long =
+      rw (← heights_output plan heights output, output_length plan (map_of plan heights) (length heights) output passes_accept)
+      room
 
   table_at : (y x : ℕ) → y < plan.grid.rows → x < plan.grid.columns
       → table_of plan (serial_output plan heights output) y x
       ≡ serial_result plan (map_of plan heights) 4 y x
-  table_at = output_at_law plan (map_of plan heights) (length heights) output passes_accept
+  table_at = rw (← heights_output plan heights output) (output_at_law plan (map_of plan heights) (length heights) output passes_accept)
 
 -- ---- the sums
 

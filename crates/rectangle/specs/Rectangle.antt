@@ -3,19 +3,20 @@
 use Rattle.std.specs.Prelude.{Bool, ◌||◌, List, [], ◌∷◌, ◌++◌, ℕ, ◌≤◌, ℤ, pos, ltb, length}
 use Rattle.refusal.specs.Refusals.{refused_for, accepted}
 use Rattle.refusal.specs.Table.{Row, ◌at◌when◌, first_due, Given, given}
+use Rattle.number.specs.Numbers.{row_major}
 use Rattle.word.specs.Word.{signed}
 use Rattle.plan.specs.declared.BufferOf7.TheVariants.{Table}
 use Rattle.plan.specs.declared.Lengths.{Lengths}
 use Rattle.plan.specs.declared.Plan.{Plan}
 use Rattle.plan.specs.FirstTests.{lent_rows, only_of7}
-use Rattle.buffer.specs.Lists.{word_map}
+use Rattle.buffer.specs.Lists.{word_at}
 use Rattle.passes.specs.Table.{rectangle_sum}
 use Rattle.rectangle.specs.declared.RectangleSum.{RectangleSum}
 use Rattle.rectangle.specs.declared.RectangleSum.TheVariants.{Sum, Refused}
 
 -- A table of h×w words, row after row, as a function of row and column.
 abbrev pub table_of : Plan → List ℕ → ℕ → ℕ → ℕ
-table_of plan table = word_map plan.grid.columns table
+table_of plan table row column = word_at table (row_major plan.grid.columns row column)
 
 -- A rectangle of the map, up to its far edges; it may be empty, without rows or without columns,
 pub record Inside (plan : Plan) (top left bottom right : ℕ) : Type 0 where

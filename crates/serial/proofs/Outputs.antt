@@ -1,6 +1,6 @@
 -- What an accepted call of the serial passes leaves at each pixel, and that heights are filtered as the words of their
 -- pixels. Assumes nothing.
-use mathlib.Core.Path.{◌≡◌, sym, ap, ap₂, ◌∙◌}
+use mathlib.Core.Path.{◌≡◌, refl, sym, ap, ap₂, ◌∙◌}
 use mathlib.Core.List.{List, ◌++◌, map}
 use Prim.Native.Nat.{ℕ, ◌<◌}
 use native.Mathlib.Omega.{arith}
@@ -15,8 +15,8 @@ use Rattle.buffer.specs.Lists.{word_at, word_map}
 use Rattle.buffer.specs.Pixel.{pixel}
 use Rattle.buffer.proofs.Listed.{listed_length, listed_at}
 use Rattle.buffer.proofs.Pixel.{pixels_map}
-use Rattle.filter.specs.PlanFilters.{serial_result}
-use Rattle.serial.specs.Serial.{serial_answer, result_words, passes_output, serial_output, serial_words_output}
+use Rattle.filter.specs.PlanFilters.{map_of, serial_result}
+use Rattle.serial.specs.Serial.{serial_answer, result_words, passes_output, serial_words, serial_output, serial_words_output}
 use Rattle.serial.proofs.SerialAnswers.{accepted_fits, output_of_accepted}
 
 -- ---- an accepted call
@@ -52,9 +52,15 @@ module _ (plan : Plan) (X : ℕ → ℕ → ℕ) (map_length : ℕ) (output : Li
 -- ---- heights as words
 
 module _ (plan : Plan) (heights : List ℤ) (output : List ℕ) where
+  -- The output over heights is that of a call over their map.
+  pub heights_output : passes_output plan (map_of plan heights) (length heights) output ≡ serial_output plan heights output
+  unfolding passes_output result_words serial_output serial_words
+  heights_output = refl
+
   pub heights_as_words : serial_words_output plan (map pixel heights) output ≡ serial_output plan heights output
   heights_as_words =
       ap₂ (λ X n. passes_output plan X n output) (pixels_map plan.grid.columns heights) (length-map heights pixel)
+      ∙ heights_output
 
   -- A call over the pixels' words is the call over the heights.
   pub over_heights : {answer : Answer} {after : List ℕ}

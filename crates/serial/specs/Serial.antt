@@ -31,19 +31,28 @@ ShortPasses =
     × (needed_pixels plan ≤ map_length → output_length < needed_pixels plan
     → serial_answer plan map_length output_length ≡ refused 16 0)
 
--- The h×w words of the result of left over a map X, row after row.
+-- The h×w words of the result of left, row after row.
+unfoldable pub serial_words : Plan → List ℤ → List ℕ
+serial_words plan heights =
+    list_of (by_place plan.grid.columns (serial_result plan (map_of plan heights) 4)) (needed_pixels plan)
+
+-- The output after a call: of an accepted call the words of the passes, and past these the words that were there; of a
+-- refused call all words that were there.
+unfoldable pub serial_output : Plan → List ℤ → List ℕ → List ℕ
+serial_output plan heights output =
+    if_accepted (serial_answer plan (length heights) (length output))
+    (serial_words plan heights ++ drop (needed_pixels plan) output)
+    output
+
+-- The same over a map X of either kind (`heights_output` of proofs/Outputs: over that of heights it is the same output):
+-- the h×w words of the result of left,
 unfoldable pub result_words : Plan → (X : ℕ → ℕ → ℕ) → List ℕ
 result_words plan X = list_of (by_place plan.grid.columns (serial_result plan X 4)) (needed_pixels plan)
 
--- The output after a call over a map X that was lent with so many places: of an accepted call the words of the passes,
--- and past these the words that were there; of a refused call all words that were there.
+-- the output after a call that was lent the map with so many places,
 unfoldable pub passes_output : Plan → (X : ℕ → ℕ → ℕ) → (map_length : ℕ) → List ℕ → List ℕ
 passes_output plan X map_length output =
     if_accepted (serial_answer plan map_length (length output)) (result_words plan X ++ drop (needed_pixels plan) output) output
-
--- The output after a call over heights,
-abbrev pub serial_output : Plan → List ℤ → List ℕ → List ℕ
-serial_output plan heights output = passes_output plan (map_of plan heights) (length heights) output
 
 -- and after a call over words, none of which is taken for a dropout.
 abbrev pub serial_words_output : Plan → (words output : List ℕ) → List ℕ

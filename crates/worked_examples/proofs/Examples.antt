@@ -17,7 +17,7 @@ use Rattle.passes.specs.Passes.{filter_line, filter_lines, passes_over, serial_p
 use Rattle.buffer.specs.Pixel.{is_dropout, reading, pixel, height_map}
 use Rattle.passes.specs.Table.{corner_of, rectangle_sum}
 use Rattle.filter.specs.PlanFilters.{filter_of}
-use Rattle.serial.specs.Serial.{serial_answer, result_words, passes_output}
+use Rattle.serial.specs.Serial.{serial_answer, serial_words, serial_output, result_words, passes_output}
 use Rattle.rectangle.specs.Rectangle.{rectangle_call}
 use Rattle.dropouts.specs.Dropouts.{dropouts_inside, dropouts_call}
 use Rattle.tasks.specs.Tasks.{has_task, exists, needs_of, all_done}
@@ -36,7 +36,7 @@ pub examples_hold : ExamplesHold
 unfolding modulus minus_one ◌⊕◌ ◌⊖◌ ◌⊗◌ residue twos_complement signed all_below coefficients_kept pass_kept passes_kept keeps_rules block_count
     block_extent grid_kept block_area sizes_of list_of joined pass_place word_rows head_rows coefficient_rows pass_rows passes_rows end_rows side_rows plan_rows read_plan history
     output less_feedback filter_step filter_line filter_lines passes_over serial_passes is_dropout reading pixel height_map corner_of rectangle_sum filter_of
-    written serial_answer result_words passes_output rectangle_call dropouts_inside dropouts_call has_task exists needs_of all_done total has_bit is_marked spare_clear
+    written serial_answer serial_words serial_output result_words passes_output rectangle_call dropouts_inside dropouts_call has_task exists needs_of all_done total has_bit is_marked spare_clear
     mark_valid mark_of with_bit blocks_of looked_at least_broken_of least_broken verdict_rows block_row block_column block_pixel_place neighbour
     goes_on strip_place inside_block edge_word strip_word nearest_first past_edges strip_written_to row_written half_written alone_word
     collected link_word linked finish_word block_written rectangle_written finished start_answer unmarked cleared marks_after_start strips_after_start
