@@ -18,7 +18,7 @@ column-in-to : (c : In-loop-column)
     WordsFit (length a.to.now) (a.target.start + c.loop-column.column) a.target.stride a.height
 column-in-to c = column_fits c.requires.1 c.loop-column-test.true
 
--- ---- needs
+-- ---- goals
 pub loop-column-init : goal.loop-column-init
 loop-column-init c = columns_none
 

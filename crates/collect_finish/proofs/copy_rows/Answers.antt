@@ -17,7 +17,7 @@ row-in-to : (c : In-loop-row)
     a.target.start + c.loop-row.row * a.target.stride + a.width ≤ length a.to.now
 row-in-to c = c.requires.1.row _ c.loop-row-test.true
 
--- ---- needs
+-- ---- goals
 pub loop-row-init : goal.loop-row-init
 loop-row-init c = rows_none
 

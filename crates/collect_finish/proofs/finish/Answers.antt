@@ -12,7 +12,7 @@ use Rattle.collect_finish.proofs.finish.Goals.{After-block_shape-shape}
 placed : (c : After-block_shape-shape) → ShapedBlock c.args.plan c.args.k c.block_shape-shape.result
 placed c = record { block = c.requires.block; shaped = c.block_shape-shape.ensures }
 
--- ---- needs
+-- ---- goals
 pub block_shape-shape-requires : goal.block_shape-shape-requires
 block_shape-shape-requires c = let block = c.requires.block in in_grid _ block.kept _ block.counted
 

@@ -27,7 +27,7 @@ group-in-work : (c : After-lesser-width)
     StrideFits (length a.work.now) (work_corner + c.loop-column.column) work_stride a.shape.rows c.lesser-width.result
 group-in-work c = group_fits c.loop-column.column c.requires.1 (group-inside c)
 
--- ---- needs
+-- ---- goals
 pub loop-column-init : goal.loop-column-init
 loop-column-init c = columns_none
 

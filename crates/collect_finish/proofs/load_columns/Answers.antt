@@ -18,7 +18,7 @@ row-in-work : (c : In-loop-row)
     a.work_start + c.loop-row.row * work_stride + a.width ≤ length a.work.now
 row-in-work c = c.requires.1.row _ c.loop-row-test.true
 
--- ---- needs
+-- ---- goals
 pub loop-row-init : goal.loop-row-init
 loop-row-init c = rows_none
 

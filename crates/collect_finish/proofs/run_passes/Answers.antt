@@ -3,7 +3,7 @@
 use Rattle.collect_finish.proofs.Finishing.{passes_start, finish_margin, finish_pass, finish_turn, passes_end}
 use Rattle.collect_finish.proofs.run_passes.Goals as goal
 
--- ---- needs
+-- ---- goals
 pub loop-pass-init : goal.loop-pass-init
 loop-pass-init c = passes_start c.requires
 

@@ -44,7 +44,7 @@ goes-on-is c =
     let a = c.args in
     c.goes_on-needed.ensures ∙ goes_on_at a.plan.grid a.k a.pass c.position.ensures
 
--- ---- needs
+-- ---- goals
 pub position-requires : goal.position-requires
 position-requires c = let block = c.requires.placed.block in (in_grid _ block.kept _ block.counted).kept
 

@@ -19,7 +19,7 @@ in-column c =
       le-ltb _ _ c.if-at-recalled-2.false,
     )
 
--- ---- needs
+-- ---- goals
 pub returns-then-at-recalled : goal.returns-then-at-recalled
 unfolding first_reached
 returns-then-at-recalled c = rw (lt-ltb _ _ c.if-at-recalled.true)

@@ -3,7 +3,7 @@ use native.Mathlib.Omega.{arith}
 use Rattle.dispatch.proofs.Parts.{ends_before_start, ends_by_rest}
 use Rattle.dispatch.proofs.part.ends_by.Goals as goal
 
--- ---- needs
+-- ---- goals
 pub blocks-blocks-requires : goal.blocks-blocks-requires
 blocks-blocks-requires c = rw c.grid_of.ensures c.requires
 

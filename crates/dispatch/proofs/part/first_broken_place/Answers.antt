@@ -17,7 +17,7 @@ found c =
 blocks : (c : After-blocks-2) → c.blocks-2.result ≡ block_total (grid_of c.args.job)
 blocks c = rw c.grid_of-grid.ensures at c.blocks-2.ensures
 
--- ---- needs
+-- ---- goals
 pub first_broken-broken-requires : goal.first_broken-broken-requires
 first_broken-broken-requires c =
     let job = c.args.job in

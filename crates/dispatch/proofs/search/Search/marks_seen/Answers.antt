@@ -10,7 +10,7 @@ use Rattle.dispatch.proofs.search.Search.marks_seen.Goals.{After-lesser-least}
 least : (c : After-lesser-least) → c.lesser-least.result ≡ min c.args.least (broken_of c.args.marks.now c.args.job)
 least c = rw (← c.first_broken_place.ensures) c.lesser-least.ensures
 
--- ---- needs
+-- ---- goals
 pub first_broken_place-requires : goal.first_broken_place-requires
 first_broken_place-requires c = marks_lent c.requires
 

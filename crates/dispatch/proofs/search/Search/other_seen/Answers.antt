@@ -12,7 +12,7 @@ apart : (c : Else-overlaps_other)
     → (not (eqb c.args.self.next c.args.i) && overlap c.args.held c.args.job) ≡ false
 apart c = sym c.overlaps_other.ensures ∙ c.if-overlaps_other.false
 
--- ---- needs
+-- ---- goals
 pub overlaps_other-requires : goal.overlaps_other-requires
 overlaps_other-requires c = pair_kept c.requires
 

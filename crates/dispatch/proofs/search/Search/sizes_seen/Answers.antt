@@ -11,7 +11,7 @@ use Rattle.dispatch.proofs.search.Search.sizes_seen.Goals.{Else-not-check}
 kept : (c : Else-not-check) → sizes_kept c.args.job ≡ true
 kept c = rw c.grid_of.ensures at (passed c.check.ensures c.if-not-check.false)
 
--- ---- needs
+-- ---- goals
 pub returns-then-not-check : goal.returns-then-not-check
 returns-then-not-check c =
     rw c.answered.ensures

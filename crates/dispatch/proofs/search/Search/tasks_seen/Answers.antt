@@ -13,7 +13,7 @@ none : (c : In_default)
     → first_ready (grid_of c.args.job) (marked_in c.args.job c.args.marks.now) ≡ Nothing
 none c = sym c.first_ready-next.ensures ∙ c.in_default.is
 
--- ---- needs
+-- ---- goals
 pub first_ready-next-requires : goal.first_ready-next-requires
 first_ready-next-requires c = tasks_lent c.requires
 
