@@ -13,7 +13,7 @@ ghost use Rattle.std.specs.Prelude.{◌≤◌, length, IfOk};
 use plan::{Plan, PlanSizes};
 use refusal::{Outcome, Refusal};
 use std::io;
-use std::io::{BufWriter, Read, Write};
+use std::io::{Read, Write};
 
 const PIXEL_LIMIT: usize = 256;
 
@@ -30,9 +30,7 @@ const UNWRITTEN: u64 = 77;
 fn main(rt: HostRuntime) -> io::Result<()> {
     let mut input = [0; 4 * INPUT_WORDS];
     let count = read_full(&mut rt.stdin(), &mut input)?;
-    let mut out = BufWriter::new(rt.alloc(), io::writer(&rt))?;
-    run_input(&mut out, &input[..count])?;
-    out.flush()
+    run_input(&mut io::writer(&rt), &input[..count])
 }
 
 // Reads until the buffer is full or the input ends, and answers how many bytes came.

@@ -11,16 +11,14 @@ ghost use Rattle.smooth_job.specs.Program.{input_limit, cut_limit, smooth_given}
 use refusal::{Outcome, Refusal};
 use smooth_job::{CUT_LIMIT, INPUT_LIMIT, PIXEL_LIMIT, Smoothed};
 use std::io;
-use std::io::{BufWriter, Read, Write};
+use std::io::{Read, Write};
 
 // The most reads after the first bytes. A proved loop has to end, and nothing says that an input does: these are more reads than
 // a run can make, and few enough that the bytes they count fit 64 bits. An input of fewer bytes is read to its end.
 const READ_LIMIT: usize = 1099511627776;
 
 fn main(rt: HostRuntime) -> io::Result<()> {
-    let mut out = BufWriter::new(rt.alloc(), io::writer(&rt))?;
-    run(&mut rt.stdin(), &mut out)?;
-    out.flush()
+    run(&mut rt.stdin(), &mut io::writer(&rt))
 }
 
 // Does the job that the reader's bytes ask for, and writes the answer.

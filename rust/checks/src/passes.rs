@@ -79,8 +79,22 @@ pub fn run_and_compare<T: Pixel>(plan: &Plan, random: &mut Random) -> Lent<T> {
 pub fn plans_of_all_orders(random: &mut Random) -> Vec<Plan> {
     let plan_of = |(number, orders)| {
         let any = (random.between(1, 40), random.between(1, 40));
-        let sizes =
-            [(1, 1), (1, 11), (12, 1), (2, 3), (5, 9), (9, 5), (7, 8), (8, 7), (15, 4), (16, 6), (17, 13), any, any];
+        let sizes = [
+            (1, 1),
+            (1, 11),
+            (12, 1),
+            (2, 3),
+            (3, 2),
+            (5, 9),
+            (9, 5),
+            (7, 8),
+            (8, 7),
+            (15, 4),
+            (16, 6),
+            (17, 13),
+            any,
+            any,
+        ];
         let (rows, columns) = sizes[number % sizes.len()];
         random.plan(rows, columns, 8, orders)
     };
