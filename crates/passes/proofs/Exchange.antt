@@ -6,7 +6,7 @@ use Prim.Native.Nat.{ℕ, zero, suc, ◌≤◌}
 use native.Mathlib.Omega.{arith}
 use Rattle.passes.specs.Filter.{Filter}
 use Rattle.axis.specs.Axis.{Axis, columns, rows, Direction, forward, backward, line_of}
-use Rattle.passes.specs.Passes.{filter_line, filter_lines, passes_over}
+use Rattle.passes.specs.Passes.{filter_line, filter_lines, passes_over, serial_passes}
 use Rattle.passes.proofs.Linear.{Linear, linear_zero}
 use Rattle.passes.proofs.Passes.{filter_line_linear}
 use Rattle.passes.proofs.Square.{linear_none, linear_place, linear_filter_line}
@@ -49,3 +49,13 @@ exchange d e f g h w X = fun_ext λ y. fun_ext λ x.
     linear_filter_line (λ k. linear_none) linear_place e g w x in
     lines_combined L columns d f h no_history X y
     ∙ ap (λ z. filter_line d f h (λ k. z) (λ i. filter_line e g w (λ k. 0) (X i) x) y) (linear_zero L)
+
+-- The four passes over a map, rows first.
+pub rows_first : (filters : ℕ → Filter) (h w : ℕ) (X : ℕ → ℕ → ℕ)
+    → serial_passes filters h w X 4
+    ≡ filter_lines columns backward (filters 1) h no_history
+    (filter_lines columns forward (filters 0) h no_history
+    (filter_lines rows backward (filters 3) w no_history
+    (filter_lines rows forward (filters 2) w no_history X)))
+unfolding serial_passes passes_over
+rows_first filters h w X = simp exchange

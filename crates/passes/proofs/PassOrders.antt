@@ -14,7 +14,7 @@ use Rattle.passes.specs.Passes.{filter_line, filter_lines, passes_over, serial_p
 use Rattle.passes.specs.PassOrders.{one_pass, passes_in_order, columns_first, rows_first, SameOutput, PairsExchange}
 use Rattle.passes.specs.Table.{first_alone, running_sum}
 use Rattle.passes.proofs.Passes.{filter_lines_reads, filter_lines_scales, filter_lines_small}
-use Rattle.passes.proofs.Exchange.{exchange}
+use Rattle.passes.proofs.Exchange.{rows_first as rows_before_columns}
 
 -- ---- one pass over a whole map
 
@@ -44,11 +44,11 @@ in_order : SameOutput columns_first
 unfolding one_pass passes_in_order serial_passes passes_over
 in_order filters h w X row column = refl
 
--- Four exchanges take both row passes before both column passes.
+-- Both row passes may be taken before both column passes.
 exchanged : (filters : ℕ → Filter) (h w : ℕ) (X : ℕ → ℕ → ℕ)
     → serial_passes filters h w X 4 ≡ passes_in_order filters h w rows_first X
-unfolding one_pass passes_in_order serial_passes passes_over
-exchanged filters h w X = simp exchange
+unfolding one_pass passes_in_order
+exchanged filters h w X = rows_before_columns filters h w X
 
 rows_first_law : SameOutput rows_first
 rows_first_law filters h w X row column = ap (λ (Y : ℕ → ℕ → ℕ). Y row column) (sym (exchanged filters h w X))
