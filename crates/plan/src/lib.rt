@@ -270,6 +270,7 @@ pub fn only_of_7(buffer: BufferOf7) -> Lengths
 
 impl Pass {
     // Whether a pass keeps the rules beside a block side.
+    #[tactic(auto, unfolding(crate::specs::Rules::pass_kept))]
     pub fn check(self, side: usize) -> bool
         ensures { result ≡ pass_kept side self }
     {
