@@ -8,15 +8,15 @@ use Rattle.collect_finish.proofs.copy_columns.Goals as goal
 use Rattle.collect_finish.proofs.copy_columns.Goals.{In-loop-column}
 
 -- ---- this column is in both buffers
-column-in-from : (c : In-loop-column)
+column_in_from : (c : In-loop-column)
     → let a = c.args in
     WordsFit (length a.from.now) (a.source.start + c.loop-column.column) a.source.stride a.height
-column-in-from c = column_fits c.requires.0 c.loop-column-test.true
+column_in_from c = column_fits c.requires.0 c.loop-column-test.true
 
-column-in-to : (c : In-loop-column)
+column_in_to : (c : In-loop-column)
     → let a = c.args in
     WordsFit (length a.to.now) (a.target.start + c.loop-column.column) a.target.stride a.height
-column-in-to c = column_fits c.requires.1 c.loop-column-test.true
+column_in_to c = column_fits c.requires.1 c.loop-column-test.true
 
 -- ---- goals
 pub loop-column-init : goal.loop-column-init
@@ -24,16 +24,16 @@ loop-column-init c = columns_none
 
 pub overflow_add-source : goal.overflow_add-source
 overflow_add-source c =
-    let h = (column-in-from (goal.at.overflow_add-source c).In-loop-column).inside 0 c.requires.3 in omega arith
+    let h = (column_in_from (goal.at.overflow_add-source c).In-loop-column).inside 0 c.requires.3 in omega arith
 
 pub overflow_add-target : goal.overflow_add-target
 overflow_add-target c =
-    let h = (column-in-to (goal.at.overflow_add-target c).In-loop-column).inside 0 c.requires.3 in
+    let h = (column_in_to (goal.at.overflow_add-target c).In-loop-column).inside 0 c.requires.3 in
     omega arith
 
 pub scale_words-requires : goal.scale_words-requires
 scale_words-requires c =
-    (column-in-from (goal.at.scale_words-requires c).In-loop-column, rw c.loop-column.invariant.length_kept (column-in-to (goal.at.scale_words-requires c).In-loop-column))
+    (column_in_from (goal.at.scale_words-requires c).In-loop-column, rw c.loop-column.invariant.length_kept (column_in_to (goal.at.scale_words-requires c).In-loop-column))
 
 pub loop-column-preserved : goal.loop-column-preserved
 loop-column-preserved c =

@@ -12,7 +12,7 @@ pub returns-then-gain-eq1 : goal.returns-then-gain-eq1
 returns-then-gain-eq1 c =
     let a = c.args in
     unscaled_row a.gain a.to_start a.from.now a.from_start a.count a.to.now c.if-gain-eq1.true
-    (λ i. omega (arith, c.shared_slice_known-1.given i)) c.copy_words.ensures
+    (λ i. omega (arith, c.type_inv.from i)) c.copy_words.ensures
 
 pub returns-else-gain-eq1 : goal.returns-else-gain-eq1
 returns-else-gain-eq1 c = c.scale_words.ensures ∙ row_apart _ _ _ _

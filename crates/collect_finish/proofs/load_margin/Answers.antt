@@ -29,9 +29,9 @@ start_is c =
     c.margin_start.ensures
     ∙ ap₂ (margin_start (direction_of a.pass)) c.order-order.ensures c.extent.ensures
 
-index-small : (c : After-margin_start)
+index_small : (c : After-margin_start)
     → c.margin_start.result + c.strip_before-strip.result.first ≤ work_stride
-index-small c =
+index_small c =
     first_in_work c.requires.moves c.strip_before-strip.ensures (start_is c)
 
 pub overflow_sub-places : goal.overflow_sub-places
@@ -41,14 +41,14 @@ pub margin_start-requires : goal.margin_start-requires
 margin_start-requires c = rw c.order-order.ensures (edge_asked c.requires.moves c.extent.ensures)
 
 pub overflow_add-index : goal.overflow_add-index
-overflow_add-index c = omega (arith, index-small (goal.at.overflow_add-index c).After-margin_start)
+overflow_add-index c = omega (arith, index_small (goal.at.overflow_add-index c).After-margin_start)
 
 pub first_at-requires : goal.first_at-requires
 first_at-requires c =
     omega (arith, (lies (goal.at.first_at-requires c).After-strip_before-strip).start_in)
 
 pub work_place-requires : goal.work_place-requires
-work_place-requires c = index-small (goal.at.work_place-requires c).After-margin_start
+work_place-requires c = index_small (goal.at.work_place-requires c).After-margin_start
 
 pub copy_rectangle-requires : goal.copy_rectangle-requires
 copy_rectangle-requires c =

@@ -22,10 +22,10 @@ width_is : (c : After-across-width)
     c.across-width.result ≡ across (axis_of a.pass) (order_of a.plan a.pass) a.plan.grid.side
 width_is c = rw c.order-order.ensures at c.across-width.ensures
 
-height-is : (c : After-along-height)
+height_is : (c : After-along-height)
     → let a = c.args in
     c.along-height.result ≡ along (axis_of a.pass) (order_of a.plan a.pass) a.plan.grid.side
-height-is c = rw c.order-order.ensures at c.along-height.ensures
+height_is c = rw c.order-order.ensures at c.along-height.ensures
 
 -- Where the strip starts in the work array.
 edge_is : (c : After-edge_start-index)
@@ -37,10 +37,10 @@ edge_is c =
     ∙ ap₂ (edge_start (direction_of a.pass)) c.order-order.ensures c.extent.ensures
 
 -- Whether a neighbour needs it.
-goes-on-is : (c : After-goes_on-needed)
+goes_on_is : (c : After-goes_on-needed)
     → let a = c.args in
     c.goes_on-needed.result ≡ goes_on a.plan.grid a.k a.pass
-goes-on-is c =
+goes_on_is c =
     let a = c.args in
     c.goes_on-needed.ensures ∙ goes_on_at a.plan.grid a.k a.pass c.position.ensures
 
@@ -67,7 +67,7 @@ pub returns-then-not-needed : goal.returns-then-not-needed
 returns-then-not-needed c =
     let a = c.args in
     cleared_strip c.requires c.strip_start-start.ensures a.gain a.work.now a.strips.now
-    (failed (goes-on-is (goal.at.returns-then-not-needed c).After-goes_on-needed) c.if-not-needed.true) (rw c.order-order.ensures at c.clear_words.ensures)
+    (failed (goes_on_is (goal.at.returns-then-not-needed c).After-goes_on-needed) c.if-not-needed.true) (rw c.order-order.ensures at c.clear_words.ensures)
 
 pub edge_start-index-requires : goal.edge_start-index-requires
 edge_start-index-requires c =
@@ -82,14 +82,14 @@ copy_rectangle-requires c =
     let starts = c.strip_start-start.ensures in
     let place = c.work_place.ensures in
     let wide = width_is (goal.at.copy_rectangle-requires c).After-across-width in (
-      edge_fits c.requires starts (edge_is (goal.at.copy_rectangle-requires c).After-edge_start-index) place (height-is (goal.at.copy_rectangle-requires c).After-along-height) wide,
-      strip_in_strips c.requires starts (edge_is (goal.at.copy_rectangle-requires c).After-edge_start-index) place (height-is (goal.at.copy_rectangle-requires c).After-along-height) wide,
+      edge_fits c.requires starts (edge_is (goal.at.copy_rectangle-requires c).After-edge_start-index) place (height_is (goal.at.copy_rectangle-requires c).After-along-height) wide,
+      strip_in_strips c.requires starts (edge_is (goal.at.copy_rectangle-requires c).After-edge_start-index) place (height_is (goal.at.copy_rectangle-requires c).After-along-height) wide,
       omega arith,
     )
 
 pub returns : goal.returns
 returns c =
     let a = c.args in
-    copied_strip c.requires c.strip_start-start.ensures (edge_is (goal.at.returns c).After-edge_start-index) c.work_place.ensures (height-is (goal.at.returns c).After-along-height)
-    (width_is (goal.at.returns c).After-across-width) a.gain a.work.now a.strips.now (passed (goes-on-is (goal.at.returns c).After-goes_on-needed) c.if-not-needed.false)
+    copied_strip c.requires c.strip_start-start.ensures (edge_is (goal.at.returns c).After-edge_start-index) c.work_place.ensures (height_is (goal.at.returns c).After-along-height)
+    (width_is (goal.at.returns c).After-across-width) a.gain a.work.now a.strips.now (passed (goes_on_is (goal.at.returns c).After-goes_on-needed) c.if-not-needed.false)
     c.copy_rectangle.ensures

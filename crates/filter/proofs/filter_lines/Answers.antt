@@ -9,30 +9,30 @@ use Rattle.filter.proofs.filter_lines.Goals as goal
 use Rattle.filter.proofs.filter_lines.Goals.{After-slice_known-2-1, After-slice_known-3-1}
 
 -- The places of the pairs are among those to do.
-paired-few : (c : After-slice_known-2-1)
+paired_few : (c : After-slice_known-2-1)
     → let a = c.args in
     a.history + c.lesser-lead.result + 2 * ((a.places - c.lesser-lead.result) / 2) ≤ a.history + a.places
-paired-few c = omega (arith, c.lesser-lead.ensures)
+paired_few c = omega (arith, c.lesser-lead.ensures)
 
 -- How many places are done before the last,
-abbrev doneBefore : After-slice_known-3-1 → ℕ
-doneBefore c =
+abbrev places_done : After-slice_known-3-1 → ℕ
+places_done c =
     c.lesser-lead.result + 2 * ((c.args.places - c.lesser-lead.result) / 2)
 
 -- what the buffer holds then,
-done-before : (c : After-slice_known-3-1)
+done_before : (c : After-slice_known-3-1)
     → let a = c.args in
     c.outputs_in_pairs.new.buffer
-    ≡ filter_in_place a.lines (filter_by 1 a.order a.coefficients.now) a.history (doneBefore c) a.buffer.now
-done-before c =
+    ≡ filter_in_place a.lines (filter_by 1 a.order a.coefficients.now) a.history (places_done c) a.buffer.now
+done_before c =
     c.outputs_in_pairs.ensures
     ∙ places_more _ _ _ c.lesser-lead.result _ c.outputs_short_of_taps.ensures _
 
 -- and that a last place is the only one, with all its taps.
-last-time : (c : After-slice_known-3-1) → doneBefore c < c.args.places
+last_time : (c : After-slice_known-3-1) → places_done c < c.args.places
     → let a = c.args in
-    (doneBefore c + 1 ≡ a.places) × (a.order ≤ a.history + doneBefore c)
-last-time c left =
+    (places_done c + 1 ≡ a.places) × (a.order ≤ a.history + places_done c)
+last_time c left =
     (omega (arith, c.lesser-lead.ensures), omega (arith, c.lesser.ensures, c.lesser-lead.ensures))
 
 pub overflow_sub-order : goal.overflow_sub-order
@@ -53,7 +53,7 @@ overflow_add-history c = omega (arith, c.lesser-lead.ensures, c.requires.2.enoug
 
 pub outputs_in_pairs-requires : goal.outputs_in_pairs-requires
 outputs_in_pairs-requires c =
-    let few = paired-few (goal.at.outputs_in_pairs-requires c).After-slice_known-2-1 in (
+    let few = paired_few (goal.at.outputs_in_pairs-requires c).After-slice_known-2-1 in (
       c.requires.0,
       c.requires.1,
       λ some. omega (arith, c.lesser.ensures, c.lesser-lead.ensures),
@@ -63,7 +63,7 @@ outputs_in_pairs-requires c =
 
 pub outputs_at_time-requires : goal.outputs_at_time-requires
 outputs_at_time-requires c =
-    let last = last-time (goal.at.outputs_at_time-requires c).After-slice_known-3-1 c.if-done-places.true in (
+    let last = last_time (goal.at.outputs_at_time-requires c).After-slice_known-3-1 c.if-done-places.true in (
       c.requires.1,
       last.1,
       rw (c.outputs_in_pairs.auto.buffer, c.outputs_short_of_taps.auto.buffer)
@@ -77,13 +77,13 @@ shape_of-buffer-then-done-places c =
 pub returns-then-done-places : goal.returns-then-done-places
 returns-then-done-places c =
     let a = c.args in
-    let last = last-time (goal.at.returns-then-done-places c).After-slice_known-3-1 c.if-done-places.true in
-    let all-taps : min a.order (a.history + doneBefore (goal.at.returns-then-done-places c).After-slice_known-3-1) ≡ a.order = omega (arith, last.1) in
-    let all : doneBefore (goal.at.returns-then-done-places c).After-slice_known-3-1 + 1 ≡ a.places = omega (arith, last.0) in
+    let last = last_time (goal.at.returns-then-done-places c).After-slice_known-3-1 c.if-done-places.true in
+    let all_taps : min a.order (a.history + places_done (goal.at.returns-then-done-places c).After-slice_known-3-1) ≡ a.order = omega (arith, last.1) in
+    let all : places_done (goal.at.returns-then-done-places c).After-slice_known-3-1 + 1 ≡ a.places = omega (arith, last.0) in
     rw all
-    at (place_more a.lines (filter_by 1 a.order a.coefficients.now) a.history (doneBefore (goal.at.returns-then-done-places c).After-slice_known-3-1) a.buffer.now
-    c.outputs_in_pairs.new.buffer {e = c.outputs_at_time.new.buffer} (done-before (goal.at.returns-then-done-places c).After-slice_known-3-1)
-    (rw all-taps c.outputs_at_time.ensures))
+    at (place_more a.lines (filter_by 1 a.order a.coefficients.now) a.history (places_done (goal.at.returns-then-done-places c).After-slice_known-3-1) a.buffer.now
+    c.outputs_in_pairs.new.buffer {e = c.outputs_at_time.new.buffer} (done_before (goal.at.returns-then-done-places c).After-slice_known-3-1)
+    (rw all_taps c.outputs_at_time.ensures))
 
 pub shape_of-buffer-else-done-places : goal.shape_of-buffer-else-done-places
 shape_of-buffer-else-done-places c = omega (arith, c.outputs_in_pairs.auto, c.outputs_short_of_taps.auto)
@@ -91,5 +91,5 @@ shape_of-buffer-else-done-places c = omega (arith, c.outputs_in_pairs.auto, c.ou
 pub returns-else-done-places : goal.returns-else-done-places
 returns-else-done-places c =
     let a = c.args in
-    let all : doneBefore (goal.at.returns-else-done-places c).After-slice_known-3-1 ≡ a.places = omega (arith, c.lesser-lead.ensures, c.if-done-places.false) in
-    rw all at (done-before (goal.at.returns-else-done-places c).After-slice_known-3-1)
+    let all : places_done (goal.at.returns-else-done-places c).After-slice_known-3-1 ≡ a.places = omega (arith, c.lesser-lead.ensures, c.if-done-places.false) in
+    rw all at (done_before (goal.at.returns-else-done-places c).After-slice_known-3-1)

@@ -9,10 +9,10 @@ use Rattle.filter.proofs.less_feedback.Goals as goal
 use Rattle.filter.proofs.less_feedback.Goals.{Then-distance-order}
 
 -- The word of this turn's tap is in the buffer.
-tap-fits : (c : Then-distance-order)
+tap_fits : (c : Then-distance-order)
     → let a = c.args in
     TapsFit (length a.buffer.now) a.place a.forth a.back (c.loop-tap.tap + 1)
-tap-fits c =
+tap_fits c =
     taps_fit c.requires.2 (c.loop-tap.tap + 1) (omega arith)
 
 pub loop-tap-init : goal.loop-tap-init
@@ -20,27 +20,27 @@ loop-tap-init c = (omega arith, omega arith, taps_none _ _ _ _ _ _ _ _)
 
 pub overflow_mul-before : goal.overflow_mul-before
 overflow_mul-before c =
-    let h = tap-fits (goal.at.overflow_mul-before c).Then-distance-order in omega arith
+    let h = tap_fits (goal.at.overflow_mul-before c).Then-distance-order in omega arith
 
 pub overflow_add-before : goal.overflow_add-before
 overflow_add-before c =
-    let h = tap-fits (goal.at.overflow_add-before c).Then-distance-order in omega arith
+    let h = tap_fits (goal.at.overflow_add-before c).Then-distance-order in omega arith
 
 pub overflow_mul-before-then-distance-order : goal.overflow_mul-before-then-distance-order
 overflow_mul-before-then-distance-order c =
-    let h = tap-fits (goal.at.overflow_mul-before-then-distance-order c).Then-distance-order in omega arith
+    let h = tap_fits (goal.at.overflow_mul-before-then-distance-order c).Then-distance-order in omega arith
 
 pub overflow_sub-before : goal.overflow_sub-before
 overflow_sub-before c =
-    let h = tap-fits (goal.at.overflow_sub-before c).Then-distance-order in omega arith
+    let h = tap_fits (goal.at.overflow_sub-before c).Then-distance-order in omega arith
 
 pub offset_bounds-buffer-before : goal.offset_bounds-buffer-before
 offset_bounds-buffer-before c =
-    let h = tap-fits (goal.at.offset_bounds-buffer-before c).Then-distance-order in omega arith
+    let h = tap_fits (goal.at.offset_bounds-buffer-before c).Then-distance-order in omega arith
 
 pub bounds-buffer-before : goal.bounds-buffer-before
 bounds-buffer-before c =
-    let h = tap-fits (goal.at.bounds-buffer-before c).Then-distance-order in omega arith
+    let h = tap_fits (goal.at.bounds-buffer-before c).Then-distance-order in omega arith
 
 pub loop-tap-preserved-then-distance-order : goal.loop-tap-preserved-then-distance-order
 loop-tap-preserved-then-distance-order c = (

@@ -15,4 +15,4 @@ returns c =
     (λ v. feedback_from 1 a.coefficients.now a.order v a.forth a.back a.buffer.now a.place)
     (c.sub-word.ensures ∙ ap (word_at a.buffer.now a.place ⊖◌) c.mul.ensures)
     ∙ taps_later a.coefficients.now a.order a.forth a.back a.buffer.now a.place a.nearest
-    c.requires.0 (omega (arith, c.shared_slice_known-1.given a.place))
+    c.requires.0 (omega (arith, c.type_inv.buffer a.place))

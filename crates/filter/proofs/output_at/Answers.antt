@@ -9,4 +9,4 @@ returns c =
     let a = c.args in
     c.less_feedback.ensures
     ∙ taps_all a.coefficients.now a.order a.forth a.back a.buffer.now a.place
-    (omega (arith, c.shared_slice_known-1.given a.place))
+    (omega (arith, c.type_inv.buffer a.place))

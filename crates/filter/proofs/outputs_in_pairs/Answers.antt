@@ -25,7 +25,7 @@ lead_place-place-requires c =
 
 pub outputs_at_two_places-requires : goal.outputs_at_two_places-requires
 outputs_at_two_places-requires c =
-    let all-taps = c.requires.2 (omega arith) in (
+    let all_taps = c.requires.2 (omega arith) in (
       c.requires.0,
       c.requires.1,
       rw (c.loop-pair.invariant.1, c.lead_place-place.ensures)
@@ -35,7 +35,7 @@ outputs_at_two_places-requires c =
 
 pub loop-pair-preserved : goal.loop-pair-preserved
 loop-pair-preserved c =
-    let all-taps = c.requires.2 (omega arith) in
+    let all_taps = c.requires.2 (omega arith) in
     let count : 2 * (c.loop-pair.pair + 1) ≡ 2 * c.loop-pair.pair + 2 = omega arith in (
       omega arith,
       omega (arith, c.outputs_at_two_places.auto, c.loop-pair.invariant.1),

@@ -26,10 +26,10 @@ pub loop-done-preserved : goal.loop-done-preserved
 loop-done-preserved c =
     let a = c.args in
     let time : ℕ = a.history + c.loop-done.done in
-    let all-before : min a.order time ≡ time = omega arith in (
+    let all_before : min a.order time ≡ time = omega arith in (
       omega arith,
       omega (arith, c.outputs_at_time.auto, c.loop-done.invariant.1),
-      place_more _ _ _ c.loop-done.done _ c.loop-done.buffer c.loop-done.invariant.2 (rw all-before c.outputs_at_time.ensures),
+      place_more _ _ _ c.loop-done.done _ c.loop-done.buffer c.loop-done.invariant.2 (rw all_before c.outputs_at_time.ensures),
     )
 
 pub returns : goal.returns

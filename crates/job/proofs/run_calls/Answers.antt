@@ -23,9 +23,9 @@ loop-i-preserved c =
     let inv = c.loop-i.invariant in (
       calls_next _ _ _ _ _ _ _ _ _ inv.0 (omega arith) c.task-outcome.result c.task-outcome.ensures.answer _ c.one_if_accepted-accepted.ensures _
           c.task-outcome.ensures.written,
-      c.marks-1.given ∙ inv.1,
-      c.strips-1.given ∙ inv.2,
-      c.output-1.given ∙ inv.3,
+      c.task-outcome.auto.marks ∙ inv.1,
+      c.task-outcome.auto.strips ∙ inv.2,
+      c.task-outcome.auto.output ∙ inv.3,
     )
 
 pub shape_of-marks : goal.shape_of-marks

@@ -23,9 +23,9 @@ loop-i-preserved c =
     let inv = c.loop-i.invariant in (
       steps_next _ _ _ _ _ _ _ _ _ inv.0 (omega arith) c.step-outcome.result c.step-outcome.ensures.answer _ c.one_if_accepted-accepted.ensures _
           c.step-outcome.ensures.written,
-      c.marks-1.given ∙ inv.1,
-      c.strips-1.given ∙ inv.2,
-      c.output-1.given ∙ inv.3,
+      c.step-outcome.auto.marks ∙ inv.1,
+      c.step-outcome.auto.strips ∙ inv.2,
+      c.step-outcome.auto.output ∙ inv.3,
     )
 
 pub shape_of-marks : goal.shape_of-marks

@@ -15,11 +15,11 @@ use Rattle.macro_values.proofs.quantity_value.Goals as goal
 use Rattle.macro_values.proofs.quantity_value.Goals.{Else-left-right, Start}
 
 -- The sum and the number of pixels, as the machine reads them back from their bits.
-read-sum : (c : Start) → to_z w64 (of_z w64 c.args.sum) ≡ c.args.sum
-read-sum c = to_z-of_z w64 c.args.sum c.ranges.sum
+read_sum : (c : Start) → to_z w64 (of_z w64 c.args.sum) ≡ c.args.sum
+read_sum c = to_z-of_z w64 c.args.sum c.ranges.sum
 
-read-pixels : (c : Start) → to_z w64 (pixel_count c.args.top c.args.left c.args.bottom c.args.right) ≡ pos (pixel_count c.args.top c.args.left c.args.bottom c.args.right)
-read-pixels c = to_z_pos w64 (pixel_count c.args.top c.args.left c.args.bottom c.args.right) (omega (arith, c.requires.pixels_high))
+read_pixels : (c : Start) → to_z w64 (pixel_count c.args.top c.args.left c.args.bottom c.args.right) ≡ pos (pixel_count c.args.top c.args.left c.args.bottom c.args.right)
+read_pixels c = to_z_pos w64 (pixel_count c.args.top c.args.left c.args.bottom c.args.right) (omega (arith, c.requires.pixels_high))
 
 -- Past both tests the rectangle is not empty.
 not_empty : (c : Else-left-right) {quantity : Quantity} → c.args.quantity ≡ quantity
@@ -41,16 +41,16 @@ returns-then-left-right c = sym (value_no_column _ _ _ _ _ _ c.if-left-right.tru
 
 pub whole_float-requires : goal.whole_float-requires
 whole_float-requires c =
-    rw (read-pixels (goal.at.whole_float-requires c).Start) (small_in_range (pos (pixel_count c.args.top c.args.left c.args.bottom c.args.right)) (omega (arith, c.requires.pixels_high)))
+    rw (read_pixels (goal.at.whole_float-requires c).Start) (small_in_range (pos (pixel_count c.args.top c.args.left c.args.bottom c.args.right)) (omega (arith, c.requires.pixels_high)))
 
 pub returns-in-Total : goal.returns-in-Total
 returns-in-Total c =
     c.total_value.ensures
-    ∙ ap total_value (read-sum (goal.at.returns-in-Total c).Start)
+    ∙ ap total_value (read_sum (goal.at.returns-in-Total c).Start)
     ∙ not_empty (goal.at.returns-in-Total c).Else-left-right c.in-Total.is
 
 pub returns-in-Pixels : goal.returns-in-Pixels
 returns-in-Pixels c =
     ap (holding wanted.Pixels)
-    (c.whole_float.ensures ∙ ap float_of (read-pixels (goal.at.returns-in-Pixels c).Start))
+    (c.whole_float.ensures ∙ ap float_of (read_pixels (goal.at.returns-in-Pixels c).Start))
     ∙ not_empty (goal.at.returns-in-Pixels c).Else-left-right c.in-Pixels.is

@@ -19,14 +19,14 @@ tested : (c : After-is_zero) → c.is_zero.result ≡ is_zero c.args.value
 tested c = c.is_zero.ensures ∙ ap is_zero (back c.before)
 
 -- 0 passes both tests.
-zero-kept : (value : ℤ) (below : Bool) → is_zero value ≡ true → true ≡ cond below (in_signed28 value) (is_zero value)
-zero-kept (pos n) true e = rw (eqb-true n 0 e) refl
-zero-kept (pos n) false e = sym e
-zero-kept (negsuc n) below e = absurd (true≢false (sym e))
+zero_kept : (value : ℤ) (below : Bool) → is_zero value ≡ true → true ≡ cond below (in_signed28 value) (is_zero value)
+zero_kept (pos n) true e = rw (eqb-true n 0 e) refl
+zero_kept (pos n) false e = sym e
+zero_kept (negsuc n) below e = absurd (true≢false (sym e))
 
 pub returns-then-is_zero : goal.returns-then-is_zero
 returns-then-is_zero c =
-    zero-kept c.args.value (ltb c.args.place c.args.order)
+    zero_kept c.args.value (ltb c.args.place c.args.order)
     (sym (tested (goal.at.returns-then-is_zero c).After-is_zero) ∙ c.if-is_zero.true)
 
 pub returns-then-place-order : goal.returns-then-place-order

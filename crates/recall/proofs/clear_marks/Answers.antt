@@ -13,11 +13,11 @@ use Rattle.recall.proofs.clear_marks.Goals as goal
 use Rattle.recall.proofs.clear_marks.Goals.{After-first_reached-first}
 
 -- Which task is the first that is reached.
-first-known : (c : After-first_reached-first)
+first_known : (c : After-first_reached-first)
     → let a = c.args in
     c.first_reached-first.result
     ≡ first_reached (position_of a.grid a.recalled) (position_of a.grid c.loop-block.block)
-first-known c =
+first_known c =
     c.first_reached-first.ensures
     ∙ ap₂ first_reached c.position-from.ensures c.position.ensures
 
@@ -26,7 +26,7 @@ loop-block-init c = (omega arith, refl, sym (written_none _ _ _))
 
 pub first_tasks_of-requires : goal.first_tasks_of-requires
 first_tasks_of-requires c =
-    rw (first-known (goal.at.first_tasks_of-requires c).After-first_reached-first) (first_link _ _ _)
+    rw (first_known (goal.at.first_tasks_of-requires c).After-first_reached-first) (first_link _ _ _)
 
 pub loop-block-preserved : goal.loop-block-preserved
 loop-block-preserved c =
@@ -35,7 +35,7 @@ loop-block-preserved c =
       omega arith,
       length-set c.loop-block.marks _ _ ∙ c.loop-block.invariant.1,
       recalled_next a.grid a.recalled a.marks.now c.requires.valid _ inside _ c.loop-block.invariant.2
-          (first-known (goal.at.loop-block-preserved c).After-first_reached-first) c.first_tasks_of.ensures,
+          (first_known (goal.at.loop-block-preserved c).After-first_reached-first) c.first_tasks_of.ensures,
     )
 
 pub returns : goal.returns

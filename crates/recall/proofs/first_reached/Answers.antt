@@ -8,11 +8,11 @@ use Rattle.recall.proofs.first_reached.Goals as goal
 use Rattle.recall.proofs.first_reached.Goals.{After-struct_known-8-1}
 
 -- Past the third test the block stands in the recalled one's column, and not above it.
-in-column : (c : After-struct_known-8-1)
+in_column : (c : After-struct_known-8-1)
     → let a = c.args in
     first_reached a.recalled a.at ≡ cond (ltb a.recalled.row a.at.row) 1 0
 unfolding first_reached
-in-column c =
+in_column c =
     rw (
       le-ltb _ _ c.if-at-recalled.false,
       le-ltb _ _ c.if-recalled-at.false,
@@ -35,8 +35,8 @@ returns-then-at-recalled-2 c =
 
 pub returns-then-recalled-at-2 : goal.returns-then-recalled-at-2
 returns-then-recalled-at-2 c =
-    sym (in-column (goal.at.returns-then-recalled-at-2 c).After-struct_known-8-1 ∙ rw (lt-ltb _ _ c.if-recalled-at-2.true))
+    sym (in_column (goal.at.returns-then-recalled-at-2 c).After-struct_known-8-1 ∙ rw (lt-ltb _ _ c.if-recalled-at-2.true))
 
 pub returns : goal.returns
 returns c =
-    sym (in-column (goal.at.returns c).After-struct_known-8-1 ∙ rw (le-ltb _ _ c.if-recalled-at-2.false))
+    sym (in_column (goal.at.returns c).After-struct_known-8-1 ∙ rw (le-ltb _ _ c.if-recalled-at-2.false))

@@ -14,10 +14,10 @@ use Rattle.serial.proofs.read_down.Goals.{After-band_of-at}
 counted : (b : After-band_of-at) → b.loop-band.band < band_count b.args.plan
 counted b = omega arith
 
-pixels-in-map : (b : After-band_of-at)
+pixels_in_map : (b : After-band_of-at)
     → let plan : Plan = b.args.plan in
     b.band_of-at.result.top * plan.grid.columns + b.band_of-at.result.height * plan.grid.columns ≤ needed_pixels plan
-pixels-in-map b = band_in_map b.args.plan _ b.band_of-at.ensures (counted b)
+pixels_in_map b = band_in_map b.args.plan _ b.band_of-at.ensures (counted b)
 
 pixels_high : (b : After-band_of-at) → needed_pixels b.args.plan ≤ 16777216
 pixels_high b = (bounds b.args.plan b.requires.kept).pixels_high
@@ -28,15 +28,15 @@ loop-band-init c = (omega arith, refl, refl)
 
 pub overflow_mul-from : goal.overflow_mul-from
 overflow_mul-from c =
-    omega (arith, pixels_high (goal.at.overflow_mul-from c).After-band_of-at, pixels-in-map (goal.at.overflow_mul-from c).After-band_of-at)
+    omega (arith, pixels_high (goal.at.overflow_mul-from c).After-band_of-at, pixels_in_map (goal.at.overflow_mul-from c).After-band_of-at)
 
 pub overflow_mul-count : goal.overflow_mul-count
 overflow_mul-count c =
-    omega (arith, pixels_high (goal.at.overflow_mul-count c).After-band_of-at, pixels-in-map (goal.at.overflow_mul-count c).After-band_of-at)
+    omega (arith, pixels_high (goal.at.overflow_mul-count c).After-band_of-at, pixels_in_map (goal.at.overflow_mul-count c).After-band_of-at)
 
 pub read_words-requires : goal.read_words-requires
 read_words-requires c =
-    (omega (arith, pixels-in-map (goal.at.read_words-requires c).After-band_of-at, c.requires.map_long), omega (arith, pixels-in-map (goal.at.read_words-requires c).After-band_of-at, c.loop-band.invariant.1, c.requires.output_long))
+    (omega (arith, pixels_in_map (goal.at.read_words-requires c).After-band_of-at, c.requires.map_long), omega (arith, pixels_in_map (goal.at.read_words-requires c).After-band_of-at, c.loop-band.invariant.1, c.requires.output_long))
 
 pub pass_over_rows-requires : goal.pass_over_rows-requires
 pass_over_rows-requires c =

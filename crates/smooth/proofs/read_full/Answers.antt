@@ -13,9 +13,9 @@ take_split a b old new h front =
     let same : a + (b - a) ≡ b = omega arith in
     ap (λ l. l ++ slice_range new a b) (sym front) ∙ sym (take-add a (b - a) new) ∙ ap (λ n. take n new) same
 
-slice_range-put_mid : (a k n : ℕ) (xs ys : List ℕ) → a ≤ length xs → n ≤ length ys
+slice_range_put_mid : (a k n : ℕ) (xs ys : List ℕ) → a ≤ length xs → n ≤ length ys
     → slice_range (put_mid a k xs ys) a (a + n) ≡ take n ys
-slice_range-put_mid a k n xs ys within fits =
+slice_range_put_mid a k n xs ys within fits =
     let same : (a + n) - a ≡ n = omega arith in
     let after = post_of a k xs in
     ap (take ((a + n) - a)) (drop_at (take a xs) (ys ++ after) a (length-take-le a xs within))
@@ -28,7 +28,7 @@ loop-count-preserved g c =
     let room = length buffer - from in
     let more = c.in_ok-more.more in
     let within = c.loop-count.invariant.1 in
-    let part = slice_range-put_mid from room more buffer c.read.new.buf within c.in_ok-more.ensures.bound.0 in
+    let part = slice_range_put_mid from room more buffer c.read.new.buf within c.in_ok-more.ensures.bound.0 in
     let joined =
     take_split from (from + more) buffer (put_mid from room buffer c.read.new.buf) (omega arith)
     (take-put_mid_below _ _ _ _ _ (le_refl _) within) in (

@@ -15,13 +15,12 @@ loop-line-init c = (omega arith, refl, λ l p h. absurd (omega arith))
 
 pub loop-line-preserved : goal.loop-line-preserved
 loop-line-preserved c =
-    let l = c in
-    let a = l.args in (
+    let a = c.args in (
       omega arith,
-      length-set l.loop-line.square _ _ ∙ l.loop-line.invariant.1,
-      square_next (λ l p. word_at a.lines.now (row_major row_words (a.row + l) (a.from + p))) order_limit l.loop-line.line
-          l.loop-line.square _ (omega (arith, l.loop-line.invariant.1))
-          (λ p h. c.square_row.ensures p h ∙ ap (word_at a.lines.now) (omega arith)) l.loop-line.invariant.2,
+      length-set c.loop-line.square _ _ ∙ c.loop-line.invariant.1,
+      square_next (λ l p. word_at a.lines.now (row_major row_words (a.row + l) (a.from + p))) order_limit c.loop-line.line
+          c.loop-line.square _ (omega (arith, c.loop-line.invariant.1))
+          (λ p h. c.square_row.ensures p h ∙ ap (word_at a.lines.now) (omega arith)) c.loop-line.invariant.2,
     )
 
 pub returns : goal.returns

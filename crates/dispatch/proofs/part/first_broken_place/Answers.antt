@@ -29,9 +29,7 @@ blocks-requires c = rw c.grid_of-grid.ensures c.requires.kept
 
 pub overflow_add-result : goal.overflow_add-result
 overflow_add-result c =
-    let inside = c.requires.inside in
-    let fits = c.shared_slice_known-1 in
-    omega (arith, blocks (goal.at.overflow_add-result c).After-blocks-2)
+    omega (arith, c.requires.inside, blocks (goal.at.overflow_add-result c).After-blocks-2)
 
 pub returns-then-broken-blocks : goal.returns-then-broken-blocks
 returns-then-broken-blocks c =

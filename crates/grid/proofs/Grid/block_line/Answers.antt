@@ -8,16 +8,16 @@ use Rattle.grid.proofs.Grid.block_line.Goals as goal
 use Rattle.grid.proofs.Grid.block_line.Goals.{After-along-index}
 
 -- The index is small.
-index-small : (c : After-along-index) → c.along-index.result < 4096
-index-small c =
+index_small : (c : After-along-index) → c.along-index.result < 4096
+index_small c =
     rw c.along-index.ensures (index_high c.args.self c.args.at c.args.pass c.requires)
 
 pub overflow_add-result : goal.overflow_add-result
-overflow_add-result c = omega (arith, index-small (goal.at.overflow_add-result c).After-along-index)
+overflow_add-result c = omega (arith, index_small (goal.at.overflow_add-result c).After-along-index)
 
 pub overflow_mul-result : goal.overflow_mul-result
 overflow_mul-result c =
-    let index : c.along-index.result + 1 ≤ 4096 = omega (arith, index-small (goal.at.overflow_mul-result c).After-along-index) in
+    let index : c.along-index.result + 1 ≤ 4096 = omega (arith, index_small (goal.at.overflow_mul-result c).After-along-index) in
     omega (arith, mul-le-mul index (ranges c.args.self c.requires.kept).side_high)
 
 pub returns : goal.returns

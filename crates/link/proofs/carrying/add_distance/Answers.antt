@@ -9,7 +9,7 @@ use Rattle.link.proofs.carrying.add_distance.Goals.{After-lines_inside-lines}
 
 -- The responses are words.
 small : (c : After-lines_inside-lines) (z : ℕ) → word_at c.args.responses.now z < 2 ^ 64
-small c z = omega (arith, c.slice_known-1.given z)
+small c z = omega (arith, c.type_inv.responses z)
 
 pub first_at-requires : goal.first_at-requires
 first_at-requires c =

@@ -8,7 +8,7 @@ use Rattle.link.proofs.carrying.add_histories.Goals as goal
 
 pub loop-distance-init : goal.loop-distance-init
 loop-distance-init c =
-    (omega arith, histories_none _ _ _ _ _ (λ z. omega (arith, c.slice_known-1.given z)))
+    (omega arith, histories_none _ _ _ _ _ (λ z. omega (arith, c.type_inv.responses z)))
 
 pub add_distance-requires : goal.add_distance-requires
 add_distance-requires c =

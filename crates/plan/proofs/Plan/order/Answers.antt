@@ -11,9 +11,9 @@ use Rattle.number.proofs.Sums.{found_on}
 use Rattle.plan.proofs.Record.{order_limited_at}
 use Rattle.plan.proofs.Plan.order.Goals as goal
 
-found-small : (found : Bool) (n : ℕ) → n ≤ order_limit → cond found n 0 ≤ order_limit
-found-small true n h = h
-found-small false n h = omega arith
+found_small : (found : Bool) (n : ℕ) → n ≤ order_limit → cond found n 0 ≤ order_limit
+found_small true n h = h
+found_small false n h = omega arith
 
 pub loop-i-init : goal.loop-i-init
 loop-i-init c = (omega arith, rw (le-ltb c.args.pass 0 (omega arith)) refl)
@@ -27,7 +27,7 @@ overflow_add-order c =
       c.if_equal-order.ensures,
       c.loop-i.invariant.1,
       found_on (order_of plan) c.loop-i.i pass,
-      found-small (ltb pass (c.loop-i.i + 1)) (order_of plan pass) (order_limited_at plan c.requires.0 pass c.requires.1),
+      found_small (ltb pass (c.loop-i.i + 1)) (order_of plan pass) (order_limited_at plan c.requires.0 pass c.requires.1),
     )
 
 pub loop-i-preserved : goal.loop-i-preserved

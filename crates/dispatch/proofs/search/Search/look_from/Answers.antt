@@ -4,7 +4,7 @@ use borrow.Author.Tests.{lt-ltb, le-ltb}
 use Rattle.dispatch.proofs.search.Search.look_from.Goals as goal
 
 pub overflow_add-result : goal.overflow_add-result
-overflow_add-result c = let fits = c.struct_known-then-self-1.given in omega (arith, c.if-self.true)
+overflow_add-result c = omega (arith, c.if-self.true)
 
 pub returns-then-self : goal.returns-then-self
 returns-then-self c =
