@@ -1,4 +1,4 @@
--- Tables of refused calls: rows one after another, what an accepted answer says of the rows, and that an outcome is known by its
+-- Tables of refused calls: rows one after another, what an accepted answer says of the rows, and that a refusal is known by its
 -- number and place. Assumes nothing.
 use mathlib.Core.Path.{◌≡◌, refl, sym, ap, ◌∙◌}
 use mathlib.Core.Bool.{Bool, true, false, cond}
@@ -8,8 +8,7 @@ use native.Mathlib.Omega.{arith}
 use lib.Dec.{eqb}
 use Rattle.refusal.specs.declared.Refusal.{Refusal}
 use Rattle.refusal.specs.declared.Refusal.TheVariants.{WordsEndEarly, AnotherKindDue, OutOfRange, SideBelowOrder, WordsAfterEnd, RecordBreaksRule, BufferTooShort, NoSuchTask, MarkBroken, AlreadyMarked, NeedUnmarked, RectangleOutside, InputUnfit, StripsTooShort, MapTooShort, OutputTooShort, BlockNotCollected, JobMisplaced}
-use Rattle.refusal.specs.declared.Outcome.{Outcome}
-use Rattle.refusal.specs.declared.Outcome.TheVariants.{Accepted, Refused}
+use Rattle.std.specs.Prelude.{Result, Ok, Err}
 use Rattle.refusal.specs.Refusals.{number_of, place_of, Answer, accepted, refused}
 use Rattle.refusal.specs.Table.{Row, first_due, answer_of, first_of}
 
@@ -102,7 +101,7 @@ not_answered number (row ∷ rows) none {place} e = by row.due (not_answered num
     by true others e = none.0 cc
     by false others e = others e
 
--- ---- an outcome is known by its number and place
+-- ---- a refusal is known by its number and place
 
 named : ℕ → ℕ → Refusal
 named number place =
@@ -146,15 +145,16 @@ named_back OutputTooShort = refl
 named_back BlockNotCollected = refl
 named_back (JobMisplaced job) = refl
 
-outcome_of : Answer → Outcome
-outcome_of accepted = Accepted
-outcome_of (refused number place) = Refused (named number place)
+-- A result without a value, as its number and place tell it.
+outcome_of : Answer → Result Unit Refusal
+outcome_of accepted = Ok tt
+outcome_of (refused number place) = Err (named number place)
 
-outcome_back : (outcome : Outcome) → outcome_of (answer_of outcome) ≡ outcome
+outcome_back : (outcome : Result Unit Refusal) → outcome_of (answer_of outcome) ≡ outcome
 unfolding outcome_of
-outcome_back Accepted = refl
-outcome_back (Refused refusal) = ap Refused (named_back refusal)
+outcome_back (Ok tt) = refl
+outcome_back (Err refusal) = ap Err (named_back refusal)
 
--- Two outcomes with the same number and place are the same.
-pub same_outcome : (a b : Outcome) → answer_of a ≡ answer_of b → a ≡ b
+-- Two results without a value that have the same number and place are the same.
+pub same_outcome : (a b : Result Unit Refusal) → answer_of a ≡ answer_of b → a ≡ b
 same_outcome a b e = sym (outcome_back a) ∙ ap outcome_of e ∙ outcome_back b

@@ -1,8 +1,7 @@
 -- What a call answers: the rows of the tables of refused calls (document 01, and the requests of document 02) that it can
 -- be refused by, in the order in which they are tested. The first row that is due decides.
-use Rattle.std.specs.Prelude.{Bool, cond, List, [], ◌∷◌, ℕ}
-use Rattle.refusal.specs.declared.Outcome.{Outcome}
-use Rattle.refusal.specs.declared.Outcome.TheVariants.{Accepted, Refused}
+use Rattle.std.specs.Prelude.{Bool, cond, List, [], ◌∷◌, ℕ, Result, Ok, Err}
+use Rattle.refusal.specs.declared.Refusal.{Refusal}
 use Rattle.refusal.specs.Refusals.{Answer, accepted, refused, refused_for}
 
 infix 68 ◌at◌when◌
@@ -26,10 +25,10 @@ abbrev pub first_due : List Row → Answer
 first_due [] = accepted
 first_due (row ∷ rows) = cond row.due (refused row.number row.place) (first_due rows)
 
--- The answer that an outcome stands for.
-abbrev pub answer_of : Outcome → Answer
-answer_of Accepted = accepted
-answer_of (Refused refusal) = refused_for refusal
+-- The answer that a result stands for.
+abbrev pub answer_of : {A : Type 0} → Result A Refusal → Answer
+answer_of (Ok value) = accepted
+answer_of (Err refusal) = refused_for refusal
 
 -- Of two values, that of an accepted call or that of a refused one.
 abbrev pub if_accepted : {A : Type 0} → Answer → A → A → A
@@ -44,3 +43,8 @@ pub record Given (A : Type 0) : Type 0 where
 -- The value of an accepted call, or what stands beside a refusal: all zeros, for a macro variable vacant.
 abbrev pub given : {A : Type 0} → Answer → (value otherwise : A) → Given A
 given answer value otherwise = record { answer = answer; value = if_accepted answer value otherwise }
+
+-- The answer that a result stands for, and its value, or what stands beside a refusal.
+abbrev pub given_by : {A : Type 0} → (otherwise : A) → Result A Refusal → Given A
+given_by otherwise (Ok value) = record { answer = accepted; value = value }
+given_by otherwise (Err refusal) = record { answer = refused_for refusal; value = otherwise }

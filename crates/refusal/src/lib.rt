@@ -1,9 +1,10 @@
-// The one refusal type of the library, by the numbers of documents 01 and 02.
+// The one refusal type of the library, by the numbers of documents 01 and 02. A call that may refuse answers a `Result` with
+// it: the value of an accepted call, or why it was refused.
 #![tactic(auto)]
 
 ghost use Rattle.std.specs.Prelude.{◌≡◌, cond, ltb};
 ghost use Rattle.refusal.specs.Refusals.{number_of, place_of, accepted, refused_for};
-ghost use Rattle.refusal.specs.Table.{answer_of, first_of};
+ghost use Rattle.refusal.specs.Table.{answer_of};
 
 // Why a call was refused. A case holds the place that goes with it where the place varies.
 #[derive(Clone, Copy)]
@@ -28,13 +29,6 @@ pub enum Refusal {
     BlockNotCollected,
     // The marks of this job run past the common list or overlap another job's.
     JobMisplaced(usize),
-}
-
-// Whether a call was accepted.
-#[derive(Clone, Copy)]
-pub enum Outcome {
-    Accepted,
-    Refused(Refusal),
 }
 
 // What the documents return for a refusal: its number, and the place beside it.
@@ -98,25 +92,13 @@ fn row(number: u32, place: usize) -> Reason
     }
 }
 
-impl Outcome {
-    // The earlier of two tests decides.
-    pub fn or_first(self, later: Outcome) -> Outcome
-        ensures { answer_of result ≡ first_of (answer_of self) (answer_of later) }
-    {
-        match self {
-            Outcome::Accepted => later,
-            Outcome::Refused(_) => self,
-        }
-    }
-}
-
 // Refused for a cause where a lent buffer of a length has fewer places than are needed.
-pub fn too_short(length: usize, needed: usize, cause: Refusal) -> Outcome
+pub fn too_short(length: usize, needed: usize, cause: Refusal) -> Result<(), Refusal>
     ensures { answer_of result ≡ cond (ltb length needed) (refused_for cause) accepted }
 {
     if length < needed {
-        Outcome::Refused(cause)
+        Err(cause)
     } else {
-        Outcome::Accepted
+        Ok(())
     }
 }
