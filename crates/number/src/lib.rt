@@ -1,8 +1,8 @@
-// Numbers: the lesser of two, yes and no as 1 and 0, a number or 0 by a test, a range from 1 on, and words of a kind and a
+// Numbers: the lesser of two, yes and no as 1 and 0, a number that counts by a test, a range from 1 on, and words of a kind and a
 // payload.
 #![tactic(auto)]
 
-ghost use Rattle.std.specs.Prelude.{◌≡◌, cond, ltb, eqb, ◌<◌, min};
+ghost use Rattle.std.specs.Prelude.{◌≡◌, cond, ◌<◌, min};
 ghost use Rattle.number.specs.Numbers.{within, one};
 ghost use Rattle.number.specs.KindWords.{payload_limit, kind_of, payload_of, word_of};
 
@@ -10,35 +10,28 @@ ghost use Rattle.number.specs.KindWords.{payload_limit, kind_of, payload_of, wor
 pub fn lesser(a: usize, b: usize) -> usize
     ensures { result ≡ min a b }
 {
-    if a < b { a } else { b }
+    a.min(b)
 }
 
 // 1 for yes, 0 for no.
 pub fn one_if(yes: bool) -> usize
     ensures { result ≡ one yes }
 {
-    if yes { 1 } else { 0 }
+    usize::from(yes)
 }
 
-// A number where i is below a bound, and 0 where not.
-pub fn if_below(i: usize, bound: usize, number: usize) -> usize
-    ensures { result ≡ cond (ltb i bound) number 0 }
+// A number where something holds, and 0 where not.
+pub fn counted_if(holds: bool, number: usize) -> usize
+    ensures { result ≡ cond holds number 0 }
 {
-    if i < bound { number } else { 0 }
-}
-
-// A number where i equals another, and 0 where not.
-pub fn if_equal(i: usize, other: usize, number: usize) -> usize
-    ensures { result ≡ cond (eqb i other) number 0 }
-{
-    if i == other { number } else { 0 }
+    if holds { number } else { 0 }
 }
 
 // From 1 to `most`.
 pub fn within(number: usize, most: usize) -> bool
     ensures { result ≡ within number most }
 {
-    if 1 <= number { number <= most } else { false }
+    1 <= number && number <= most
 }
 
 // Plan words and marks have a kind in the top four bits and a payload in the low 28, below 2^28: `payload_limit` of

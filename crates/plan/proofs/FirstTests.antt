@@ -3,80 +3,77 @@
 use mathlib.Core.Path.{◌≡◌, refl, sym, ◌∙◌}
 use mathlib.Core.Bool.{true, false}
 use mathlib.Core.Logic.{⊎_elim}
-use mathlib.Core.List.{[], ◌∷◌}
+use Rattle.std.specs.Prelude.{Option, None, Some}
 use Prim.Native.Nat.{ℕ, ◌≤◌, ◌<◌}
 use native.Mathlib.Omega.{arith}
 use borrow.Author.Tests.{lt-ltb, le-ltb, ltb-false, not-false}
 use Rattle.number.proofs.Tests.{lt_or_ge}
-use Rattle.refusal.specs.Refusals.{Answer, accepted, refused}
-use Rattle.refusal.specs.Table.{◌at◌when◌, first_due, first_of}
-use Rattle.refusal.proofs.Table.{tests_rows, none_of, refused_before, accepted_before}
+use Rattle.refusal.specs.Refusals.{accepted, refused}
+use Rattle.refusal.specs.Table.{first_due}
+use Rattle.refusal.proofs.Table.{none_of, refused_before, accepted_before}
 use Rattle.plan.specs.declared.BufferOf7.{BufferOf7}
-use Rattle.plan.specs.declared.BufferOf7.TheVariants.{NoneOf7, Words, Marks, Table}
-use Rattle.plan.specs.declared.Length.{Length}
-use Rattle.plan.specs.declared.Length.TheVariants.{NotLent, Of}
+use Rattle.plan.specs.declared.BufferOf7.TheVariants.{Words, Marks, Table}
 use Rattle.plan.specs.declared.Lengths.{Lengths}
 use Rattle.plan.specs.declared.Plan.{Plan}
-use Rattle.plan.specs.declared.Sizes.{Sizes}
 use Rattle.plan.specs.Rules.{keeps_rules}
 use Rattle.plan.specs.Sizes.{word_count, needed_marks, needed_strips, needed_pixels, sizes_of}
-use Rattle.plan.specs.FirstTests.{too_short, of7_too_short, length_rows, lent_rows, only_of7, Shorter, Of7Shorter, ShortBuffer, of7_short, strips_short, map_short, output_short, LeastShortDecides, NoneShortGoesOn}
+use Rattle.plan.specs.FirstTests.{too_short, of7_too_short, lent_rows, only_of7, Shorter, Of7Shorter, ShortBuffer, of7_short, strips_short, map_short, output_short, LeastShortDecides, NoneShortGoesOn}
 
 -- ---- one buffer
 
 -- A buffer, if it is lent, has as many places as are needed.
-abbrev pub Enough : Length → (needed : ℕ) → Type 0
-Enough NotLent needed = Unit {0}
-Enough (Of length) needed = needed ≤ length
+abbrev pub Enough : Option ℕ → (needed : ℕ) → Type 0
+Enough None needed = Unit {0}
+Enough (Some length) needed = needed ≤ length
 
-enough_tested : (length : Length) (needed : ℕ) → Enough length needed → too_short length needed ≡ false
-enough_tested NotLent needed h = refl
-enough_tested (Of length) needed h = le-ltb length needed h
+enough_tested : (lent : Option ℕ) (needed : ℕ) → Enough lent needed → too_short lent needed ≡ false
+enough_tested None needed h = refl
+enough_tested (Some length) needed h = le-ltb length needed h
 
-tested_enough : (length : Length) (needed : ℕ) → too_short length needed ≡ false → Enough length needed
-tested_enough NotLent needed e = tt
-tested_enough (Of length) needed e = ltb-false length needed e
+tested_enough : (lent : Option ℕ) (needed : ℕ) → too_short lent needed ≡ false → Enough lent needed
+tested_enough None needed e = tt
+tested_enough (Some length) needed e = ltb-false length needed e
 
-shorter_tested : (length : Length) (needed : ℕ) → Shorter length needed → too_short length needed ≡ true
-shorter_tested NotLent needed h = absurd h
-shorter_tested (Of length) needed h = lt-ltb length needed h
+shorter_tested : (lent : Option ℕ) (needed : ℕ) → Shorter lent needed → too_short lent needed ≡ true
+shorter_tested None needed h = absurd h
+shorter_tested (Some length) needed h = lt-ltb length needed h
 
-not_shorter_tested : (length : Length) (needed : ℕ) → (Shorter length needed → ⊥) → too_short length needed ≡ false
-not_shorter_tested NotLent needed h = refl
-not_shorter_tested (Of length) needed h =
+not_shorter_tested : (lent : Option ℕ) (needed : ℕ) → (Shorter lent needed → ⊥) → too_short lent needed ≡ false
+not_shorter_tested None needed h = refl
+not_shorter_tested (Some length) needed h =
     le-ltb length needed (⊎_elim (λ short. absurd (h short)) (λ enough. enough) (lt_or_ge length needed))
 
 -- ---- the buffer that 7 is for: one with a need of its own
 
-abbrev pub length_of7 : BufferOf7 → Length
-length_of7 NoneOf7 = NotLent
-length_of7 (Words length) = Of length
-length_of7 (Marks length) = Of length
-length_of7 (Table length) = Of length
+abbrev pub length_of7 : Option BufferOf7 → Option ℕ
+length_of7 None = None
+length_of7 (Some (Words length)) = Some length
+length_of7 (Some (Marks length)) = Some length
+length_of7 (Some (Table length)) = Some length
 
-abbrev pub needed_of7 : Plan → BufferOf7 → ℕ
-needed_of7 plan NoneOf7 = 0
-needed_of7 plan (Words length) = word_count plan
-needed_of7 plan (Marks length) = needed_marks plan
-needed_of7 plan (Table length) = needed_pixels plan
+abbrev pub needed_of7 : Plan → Option BufferOf7 → ℕ
+needed_of7 plan None = 0
+needed_of7 plan (Some (Words length)) = word_count plan
+needed_of7 plan (Some (Marks length)) = needed_marks plan
+needed_of7 plan (Some (Table length)) = needed_pixels plan
 
-abbrev pub Of7Enough : Plan → BufferOf7 → Type 0
+abbrev pub Of7Enough : Plan → Option BufferOf7 → Type 0
 Of7Enough plan buffer = Enough (length_of7 buffer) (needed_of7 plan buffer)
 
 module _ (plan : Plan) where
-  of7_tested : (buffer : BufferOf7)
+  of7_tested : (buffer : Option BufferOf7)
       → of7_too_short buffer (sizes_of plan) ≡ too_short (length_of7 buffer) (needed_of7 plan buffer)
   unfolding sizes_of
-  of7_tested NoneOf7 = refl
-  of7_tested (Words length) = refl
-  of7_tested (Marks length) = refl
-  of7_tested (Table length) = refl
+  of7_tested None = refl
+  of7_tested (Some (Words length)) = refl
+  of7_tested (Some (Marks length)) = refl
+  of7_tested (Some (Table length)) = refl
 
-  of7_shorter : (buffer : BufferOf7) → Of7Shorter plan buffer ≡ Shorter (length_of7 buffer) (needed_of7 plan buffer)
-  of7_shorter NoneOf7 = refl
-  of7_shorter (Words length) = refl
-  of7_shorter (Marks length) = refl
-  of7_shorter (Table length) = refl
+  of7_shorter : (buffer : Option BufferOf7) → Of7Shorter plan buffer ≡ Shorter (length_of7 buffer) (needed_of7 plan buffer)
+  of7_shorter None = refl
+  of7_shorter (Some (Words length)) = refl
+  of7_shorter (Some (Marks length)) = refl
+  of7_shorter (Some (Table length)) = refl
 
 -- ---- all tests
 
@@ -115,7 +112,7 @@ module _ (plan : Plan) (lent : Lengths) where
       )
 
 -- A call that is lent at most the buffer that 7 is for.
-pub only_accepted : (plan : Plan) (buffer : BufferOf7) → keeps_rules plan ≡ true → Of7Enough plan buffer
+pub only_accepted : (plan : Plan) (buffer : BufferOf7) → keeps_rules plan ≡ true → Of7Enough plan (Some buffer)
     → first_due (lent_rows plan (only_of7 buffer)) ≡ accepted
 only_accepted plan buffer kept enough =
     lent_accepted plan (only_of7 buffer)
@@ -177,21 +174,3 @@ least_short_decides plan lent later number kept short least =
 pub none_short_goes_on : NoneShortGoesOn
 none_short_goes_on plan lent later kept none =
     accepted_before (lent_rows plan lent) later (sym (none_short plan lent kept none))
-
--- ---- the code's tests
-
--- The four tests, one after another, are those of all rows.
-pub lengths_tested : (sizes : Sizes) (lent : Lengths) {of7 strips map output second third answer : Answer}
-    → of7 ≡ first_due (7 at 0 when of7_too_short lent.of7 sizes ∷ [])
-    → strips ≡ first_due (14 at 0 when too_short lent.strips sizes.strips ∷ []) → second ≡ first_of of7 strips
-    → map ≡ first_due (15 at 0 when too_short lent.map sizes.pixels ∷ []) → third ≡ first_of second map
-    → output ≡ first_due (16 at 0 when too_short lent.output sizes.pixels ∷ []) → answer ≡ first_of third output
-    → answer ≡ first_due (length_rows sizes lent)
-lengths_tested sizes lent of7 strips second map third output answer =
-    let seven = 7 at 0 when of7_too_short lent.of7 sizes in
-    let fourteen = 14 at 0 when too_short lent.strips sizes.strips in
-    let fifteen = 15 at 0 when too_short lent.map sizes.pixels in
-    let sixteen = 16 at 0 when too_short lent.output sizes.pixels in
-    let two = tests_rows (seven ∷ []) (fourteen ∷ []) second of7 strips in
-    let three = tests_rows (seven ∷ fourteen ∷ []) (fifteen ∷ []) third two map in
-    tests_rows (seven ∷ fourteen ∷ fifteen ∷ []) (sixteen ∷ []) answer three output

@@ -2,16 +2,16 @@
 // call begins with.
 #![tactic(auto)]
 
-ghost use Rattle.std.specs.Prelude.{◌≡◌, true, cond, ◌<◌, ◌≤◌};
+ghost use Rattle.std.specs.Prelude.{◌≡◌, true, cond, ◌<◌, ◌≤◌, Some};
 ghost use Rattle.refusal.specs.declared.Refusal.TheVariants.{BufferTooShort};
 ghost use Rattle.refusal.specs.Refusals.{accepted, refused_for};
-ghost use Rattle.refusal.specs.Table.{first_due, answer_of, given};
-ghost use Rattle.plan.specs.Rules.{in_signed28, is_zero, coefficient_kept, coefficients_kept, pass_kept, passes_kept, keeps_rules};
+ghost use Rattle.refusal.specs.Table.{first_due, answer_of};
+ghost use Rattle.plan.specs.Rules.{in_signed28, coefficient_kept, coefficients_kept, pass_kept, passes_kept, keeps_rules};
 ghost use Rattle.plan.specs.Sizes.{order_of, order_sum, half_words, sizes_of};
-ghost use Rattle.plan.specs.FirstTests.{too_short, of7_too_short, length_rows, only_of7, zero_sizes, plan_sizes, sizes_for, sizes_given};
+ghost use Rattle.plan.specs.FirstTests.{too_short, of7_too_short, length_rows, only_of7, plan_sizes, sizes_for, sizes_given};
 
 use grid::Grid;
-use refusal::{Outcome, Refusal};
+use refusal::Refusal;
 
 // The largest order of a pass: `order_limit` of specs/Rules.antt is the same number.
 pub const ORDER_LIMIT: usize = 8;
@@ -56,70 +56,55 @@ pub struct Sizes {
     pub tasks: usize,
 }
 
-#[derive(Clone, Copy)]
-pub enum PlanSizes {
-    Known(Sizes),
-    Refused(Refusal),
-}
-
-// The length of a buffer that a call may be lent.
-#[derive(Clone, Copy)]
-pub enum Length {
-    NotLent,
-    Of(usize),
-}
-
 // Which of the three buffers that 7 is for a call is lent, and its length: the words that a plan is written to, the
-// marks, or the table of a rectangle; or none of them.
+// marks, or the table of a rectangle.
 #[derive(Clone, Copy)]
 pub enum BufferOf7 {
-    NoneOf7,
     Words(usize),
     Marks(usize),
     Table(usize),
 }
 
-// The lengths of the buffers that a call is lent, in the order in which they are tested.
+// The lengths of the buffers that a call is lent, in the order in which they are tested; none of a buffer that it is not
+// lent.
 #[derive(Clone, Copy)]
 pub struct Lengths {
-    pub of7: BufferOf7,
-    pub strips: Length,
-    pub map: Length,
-    pub output: Length,
+    pub of7: Option<BufferOf7>,
+    pub strips: Option<usize>,
+    pub map: Option<usize>,
+    pub output: Option<usize>,
 }
 
 impl Plan {
     // Whether the record keeps document 01's rules.
+    #[tactic(auto, unfolding(crate::specs::Rules::keeps_rules))]
     pub fn check(self) -> bool
         ensures { result ≡ keeps_rules self }
     {
-        let grid = self.grid;
-        if !grid.check() {
-            return false;
-        }
-        self.passes_kept()
+        self.grid.check() && self.passes_kept()
     }
 
     // The sizes that follow from the record, or refusal 6.
-    pub fn sizes(self) -> PlanSizes
+    #[tactic(auto, unfolding(crate::specs::FirstTests::sizes_for, crate::specs::FirstTests::lent_rows))]
+    pub fn sizes(self) -> Result<Sizes, Refusal>
         ensures { sizes_given result ≡ plan_sizes self }
     {
         if self.check() {
-            return PlanSizes::Known(self.kept_sizes());
+            Ok(self.kept_sizes())
+        } else {
+            Err(Refusal::RecordBreaksRule)
         }
-        PlanSizes::Refused(Refusal::RecordBreaksRule)
     }
 
     // The sizes for a call that is lent buffers of these lengths, or its refusal: every call that is lent a buffer beside
     // a record tests both here, in the one order that document 02 gives them.
-    pub fn sizes_for(self, lent: Lengths) -> PlanSizes
+    #[tactic(auto, unfolding(crate::specs::FirstTests::sizes_for, crate::specs::FirstTests::lent_rows))]
+    pub fn sizes_for(self, lent: Lengths) -> Result<Sizes, Refusal>
         ensures { sizes_given result ≡ sizes_for self lent }
     {
-        let known = self.sizes();
-        match known {
-            PlanSizes::Known(sizes) => sizes.unless_short(lent),
-            PlanSizes::Refused(refusal) => PlanSizes::Refused(refusal),
-        }
+        let sizes = self.sizes()?;
+        sizes.test_lengths(lent)?;
+        Ok(sizes)
     }
 
     fn kept_sizes(self) -> Sizes
@@ -157,11 +142,8 @@ impl Plan {
         ensures { result ≡ order_sum self count }
     {
         let mut sum = 0;
-        let mut i = 0;
-        while i < 4 {
-            let pass = self.passes[i];
-            sum += number::if_below(i, count, pass.order);
-            i += 1;
+        for (i, pass) in self.passes.iter().enumerate() {
+            sum += number::counted_if(i < count, pass.order);
         }
         sum
     }
@@ -172,11 +154,8 @@ impl Plan {
         ensures { result ≡ order_of self pass }
     {
         let mut order = 0;
-        let mut i = 0;
-        while i < 4 {
-            let here = self.passes[i];
-            order += number::if_equal(i, pass, here.order);
-            i += 1;
+        for (i, here) in self.passes.iter().enumerate() {
+            order += number::counted_if(i == pass, here.order);
         }
         order
     }
@@ -184,75 +163,50 @@ impl Plan {
     fn passes_kept(self) -> bool
         ensures { result ≡ passes_kept self }
     {
-        let side = self.grid.side;
-        let mut i = 0;
-        while i < 4 {
-            let pass = self.passes[i];
-            if !pass.check(side) {
+        for pass in &self.passes {
+            if !pass.check(self.grid.side) {
                 return false;
             }
-            i += 1;
         }
         true
     }
 }
 
 impl Sizes {
-    // These sizes, or the refusal of the first buffer that is too short for them.
-    fn unless_short(self, lent: Lengths) -> PlanSizes
-        ensures { sizes_given result ≡ given (first_due (length_rows self lent)) self zero_sizes }
-    {
-        let outcome = self.test_lengths(lent);
-        match outcome {
-            Outcome::Accepted => PlanSizes::Known(self),
-            Outcome::Refused(refusal) => PlanSizes::Refused(refusal),
-        }
-    }
-
     // Refused for the first buffer that is too short, in the order of the tests.
-    fn test_lengths(self, lent: Lengths) -> Outcome
+    fn test_lengths(self, lent: Lengths) -> Result<(), Refusal>
         ensures { answer_of result ≡ first_due (length_rows self lent) }
     {
-        let of7 = lent.of7;
-        let strips = lent.strips;
-        let map = lent.map;
-        let output = lent.output;
-        of7.tested(self)
-            .or_first(strips.tested(self.strips, Refusal::StripsTooShort))
-            .or_first(map.tested(self.pixels, Refusal::MapTooShort))
-            .or_first(output.tested(self.pixels, Refusal::OutputTooShort))
+        if let Some(buffer) = lent.of7 {
+            buffer.test(self)?;
+        }
+        test_length(lent.strips, self.strips, Refusal::StripsTooShort)?;
+        test_length(lent.map, self.pixels, Refusal::MapTooShort)?;
+        test_length(lent.output, self.pixels, Refusal::OutputTooShort)
     }
 }
 
 impl BufferOf7 {
     // Refused by 7 where it is too short.
-    fn tested(self, sizes: Sizes) -> Outcome
-        ensures { answer_of result ≡ cond (of7_too_short self sizes) (refused_for BufferTooShort) accepted }
+    fn test(self, sizes: Sizes) -> Result<(), Refusal>
+        ensures { answer_of result ≡ cond (of7_too_short (Some self) sizes) (refused_for BufferTooShort) accepted }
     {
-        match self {
-            BufferOf7::NoneOf7 => Outcome::Accepted,
-            BufferOf7::Words(length) => {
-                refusal::too_short(length, sizes.words, Refusal::BufferTooShort)
-            }
-            BufferOf7::Marks(length) => {
-                refusal::too_short(length, sizes.marks, Refusal::BufferTooShort)
-            }
-            BufferOf7::Table(length) => {
-                refusal::too_short(length, sizes.pixels, Refusal::BufferTooShort)
-            }
-        }
+        let (length, needed) = match self {
+            BufferOf7::Words(length) => (length, sizes.words),
+            BufferOf7::Marks(length) => (length, sizes.marks),
+            BufferOf7::Table(length) => (length, sizes.pixels),
+        };
+        refusal::too_short(length, needed, Refusal::BufferTooShort)
     }
 }
 
-impl Length {
-    // Refused for a cause where it is too short.
-    fn tested(self, needed: usize, cause: Refusal) -> Outcome
-        ensures { answer_of result ≡ cond (too_short self needed) (refused_for cause) accepted }
-    {
-        match self {
-            Length::NotLent => Outcome::Accepted,
-            Length::Of(length) => refusal::too_short(length, needed, cause),
-        }
+// Refused for a cause where a buffer is lent and too short.
+fn test_length(lent: Option<usize>, needed: usize, cause: Refusal) -> Result<(), Refusal>
+    ensures { answer_of result ≡ cond (too_short lent needed) (refused_for cause) accepted }
+{
+    match lent {
+        Some(length) => refusal::too_short(length, needed, cause),
+        None => Ok(()),
     }
 }
 
@@ -261,10 +215,10 @@ pub fn only_of_7(buffer: BufferOf7) -> Lengths
     ensures { result ≡ only_of7 buffer }
 {
     Lengths {
-        of7: buffer,
-        strips: Length::NotLent,
-        map: Length::NotLent,
-        output: Length::NotLent,
+        of7: Some(buffer),
+        strips: None,
+        map: None,
+        output: None,
     }
 }
 
@@ -274,29 +228,19 @@ impl Pass {
     pub fn check(self, side: usize) -> bool
         ensures { result ≡ pass_kept side self }
     {
-        if ORDER_LIMIT < self.order {
-            return false;
-        }
-        if side < self.order {
-            return false;
-        }
-        if !in_signed28(self.gain) {
-            return false;
-        }
-        self.coefficients_kept()
+        self.order <= ORDER_LIMIT
+            && self.order <= side
+            && in_signed28(self.gain)
+            && self.coefficients_kept()
     }
 
     fn coefficients_kept(self) -> bool
         ensures { result ≡ coefficients_kept self }
     {
-        let order = self.order;
-        let mut place = 0;
-        while place < ORDER_LIMIT {
-            let value = self.coefficients[place];
-            if !coefficient_kept(order, place, value) {
+        for (place, value) in self.coefficients.iter().enumerate() {
+            if !coefficient_kept(self.order, place, *value) {
                 return false;
             }
-            place += 1;
         }
         true
     }
@@ -306,28 +250,11 @@ impl Pass {
 fn coefficient_kept(order: usize, place: usize, value: i64) -> bool
     ensures { result ≡ coefficient_kept order place value }
 {
-    if is_zero(value) {
-        return true;
-    }
-    if place < order {
-        in_signed28(value)
-    } else {
-        false
-    }
+    value == 0 || place < order && in_signed28(value)
 }
 
 fn in_signed28(value: i64) -> bool
     ensures { result ≡ in_signed28 value }
 {
-    if value < 134217728 {
-        -134217729 < value
-    } else {
-        false
-    }
-}
-
-fn is_zero(value: i64) -> bool
-    ensures { result ≡ is_zero value }
-{
-    value == 0
+    -134217729 < value && value < 134217728
 }

@@ -1,5 +1,5 @@
 -- `plan::Pass::coefficients_kept` meets its contract: every place passed holds what its rule says. Assumes nothing.
-use mathlib.Core.Path.{◌≡◌, refl, sym, ap, ◌∙◌}
+use mathlib.Core.Path.{◌≡◌, sym, ap, ◌∙◌}
 use native.Mathlib.Omega.{arith}
 use mir.Syntax.{w64}
 use mir.ValLaws.{to_z-of_z}
@@ -14,10 +14,10 @@ tested : (c : After-coefficient_kept) → c.coefficient_kept.result ≡ test c.a
 tested c =
     let pass = c.args.self in
     let place = c.loop-place.place in
-    c.coefficient_kept.ensures ∙ ap (coefficient_kept pass.order place) (to_z-of_z w64 (coefficient_at pass place) (sfits_of c.value-1.given))
+    c.coefficient_kept.ensures ∙ ap (coefficient_kept pass.order place) (to_z-of_z w64 (coefficient_at pass place) (sfits_of c.coefficient_kept-arg-1.given))
 
 pub loop-place-init : goal.loop-place-init
-loop-place-init c = (refl, omega arith, all_none _)
+loop-place-init c = all_none _
 
 pub returns-then-not-coefficient_kept : goal.returns-then-not-coefficient_kept
 unfolding coefficients_kept
@@ -26,10 +26,10 @@ returns-then-not-coefficient_kept c =
 
 pub loop-place-preserved : goal.loop-place-preserved
 loop-place-preserved c =
-    (refl, omega arith, all_more _ _ c.loop-place.invariant.2 (passed (tested (goal.at.loop-place-preserved c).After-coefficient_kept) c.if-not-coefficient_kept.false))
+    all_more _ _ c.loop-place.invariant (passed (tested (goal.at.loop-place-preserved c).After-coefficient_kept) c.if-not-coefficient_kept.false)
 
 pub returns : goal.returns
 unfolding coefficients_kept
 returns c =
     let e : c.loop-place.place ≡ order_limit = omega arith in
-    sym (rw e at c.loop-place.invariant.2)
+    sym (rw e at c.loop-place.invariant)

@@ -16,7 +16,7 @@ found_small true n h = h
 found_small false n h = omega arith
 
 pub loop-i-init : goal.loop-i-init
-loop-i-init c = (omega arith, rw (le-ltb c.args.pass 0 (omega arith)) refl)
+loop-i-init c = rw (le-ltb c.args.pass 0 (omega arith)) refl
 
 pub overflow_add-order : goal.overflow_add-order
 overflow_add-order c =
@@ -24,17 +24,17 @@ overflow_add-order c =
     let pass = c.args.pass in
     omega (
       arith,
-      c.if_equal-order.ensures,
-      c.loop-i.invariant.1,
+      c.counted_if-order.ensures,
+      c.loop-i.invariant,
       found_on (order_of plan) c.loop-i.i pass,
       found_small (ltb pass (c.loop-i.i + 1)) (order_of plan pass) (order_limited_at plan c.requires.0 pass c.requires.1),
     )
 
 pub loop-i-preserved : goal.loop-i-preserved
 loop-i-preserved c =
-    (omega arith, ap₂ ◌+◌ c.loop-i.invariant.1 c.if_equal-order.ensures ∙ found_on (order_of c.args.self) c.loop-i.i c.args.pass)
+    ap₂ ◌+◌ c.loop-i.invariant c.counted_if-order.ensures ∙ found_on (order_of c.args.self) c.loop-i.i c.args.pass
 
 pub returns : goal.returns
 returns c =
     let past = lt-ltb c.args.pass c.loop-i.i (omega (arith, c.requires.1)) in
-    rw past at c.loop-i.invariant.1
+    rw past at c.loop-i.invariant
