@@ -10,33 +10,28 @@ ghost use Rattle.job.specs.Fits.{Fits};
 ghost use Rattle.job.specs.RunCalls.{Ran};
 ghost use Rattle.job.specs.RunSteps.{RanSteps, step_at, steps_of};
 
-use plan::{BufferOf7, Length, Lengths, Plan, PlanSizes};
-use refusal::Outcome;
+use plan::{BufferOf7, Lengths, Plan};
+use refusal::Refusal;
 
 // The number that stands for a recall in a list of steps: tasks are 0 to 5.
 pub const RECALL: usize = 6;
 
 // Starts a job: no task is marked, and all needed strip words are 0.
-pub fn start(plan: Plan, marks: &mut [u32], strips: &mut [u64]) -> Outcome
+pub fn start(plan: Plan, marks: &mut [u32], strips: &mut [u64]) -> Result<(), Refusal>
     ensures answer { answer_of result ≡ start_answer plan marks.old strips.old }
     ensures marked { marks.new ≡ marks_after_start plan marks.old strips.old }
     ensures stripped { strips.new ≡ strips_after_start plan marks.old strips.old }
 {
     let lent = Lengths {
-        of7: BufferOf7::Marks(marks.len()),
-        strips: Length::Of(strips.len()),
-        map: Length::NotLent,
-        output: Length::NotLent,
+        of7: Some(BufferOf7::Marks(marks.len())),
+        strips: Some(strips.len()),
+        map: None,
+        output: None,
     };
-    let known = plan.sizes_for(lent);
-    match known {
-        PlanSizes::Known(sizes) => {
-            unmark(marks, sizes.marks);
-            buffer::clear_words(strips, 0, 1, sizes.strips);
-            Outcome::Accepted
-        }
-        PlanSizes::Refused(refusal) => Outcome::Refused(refusal),
-    }
+    let sizes = plan.sizes_for(lent)?;
+    unmark(marks, sizes.marks);
+    buffer::clear_words(strips, 0, 1, sizes.strips);
+    Ok(())
 }
 
 // The first `count` marks have their kind and no bit.
@@ -44,11 +39,7 @@ fn unmark(marks: &mut [u32], count: usize)
     requires { count ≤ length marks.old }
     ensures { marks.new ≡ unmarked count marks.old }
 {
-    let mut block = 0;
-    while block < count {
-        marks[block] = tasks::UNMARKED;
-        block += 1;
-    }
+    marks[..count].fill(tasks::UNMARKED);
 }
 
 // Calls one task at one block: refused, or its bit is set and its strips or its output are written.
@@ -60,22 +51,17 @@ pub fn task(
     marks: &mut [u32],
     strips: &mut [u64],
     output: &mut [u64],
-) -> Outcome
+) -> Result<(), Refusal>
     ensures answer { answer_of result ≡ task_answer plan map.now (lists marks.old strips.old output.old) task block }
     ensures written { lists marks.new strips.new output.new ≡ after_task plan map.now task block (lists marks.old strips.old output.old) }
 {
-    let outcome = task_outcome(plan, task, block, map, marks, strips, output);
-    match outcome {
-        Outcome::Accepted => {
-            perform(plan, task, block, map, marks, strips, output);
-            Outcome::Accepted
-        }
-        Outcome::Refused(refusal) => Outcome::Refused(refusal),
-    }
+    test_task(plan, task, block, map, marks, strips, output)?;
+    perform(plan, task, block, map, marks, strips, output);
+    Ok(())
 }
 
-// The answer to a call of a task at a block: that of the record and of the lengths, and then what the marks say.
-fn task_outcome(
+// The tests of a call of a task at a block: of the record and of the lengths, and then what the marks say.
+fn test_task(
     plan: Plan,
     task: usize,
     block: usize,
@@ -83,20 +69,17 @@ fn task_outcome(
     marks: &[u32],
     strips: &[u64],
     output: &[u64],
-) -> Outcome
+) -> Result<(), Refusal>
     ensures { answer_of result ≡ task_answer plan map.now (lists marks.now strips.now output.now) task block }
 {
     let lent = Lengths {
-        of7: BufferOf7::Marks(marks.len()),
-        strips: Length::Of(strips.len()),
-        map: Length::Of(map.len()),
-        output: Length::Of(output.len()),
+        of7: Some(BufferOf7::Marks(marks.len())),
+        strips: Some(strips.len()),
+        map: Some(map.len()),
+        output: Some(output.len()),
     };
-    let known = plan.sizes_for(lent);
-    match known {
-        PlanSizes::Known(_) => tasks::verdict(plan.grid, marks, task, block),
-        PlanSizes::Refused(refusal) => Outcome::Refused(refusal),
-    }
+    plan.sizes_for(lent)?;
+    tasks::verdict(plan.grid, marks, task, block)
 }
 
 // Performs an accepted task.
@@ -150,15 +133,10 @@ pub fn run_calls(
 ) -> usize
     ensures { Ran plan map.now (calls_of tasks.now blocks.now) (lists marks.old strips.old output.old) (lists marks.new strips.new output.new) result }
 {
-    let count = number::lesser(tasks.len(), blocks.len());
     let mut accepted = 0;
-    let mut i = 0;
-    while i < count {
-        let number = tasks[i];
-        let block = blocks[i];
-        let outcome = task(plan, number, block, map, marks, strips, output);
-        accepted += one_if_accepted(outcome);
-        i += 1;
+    for (number, block) in tasks.iter().zip(blocks) {
+        let outcome = task(plan, *number, *block, map, marks, strips, output);
+        accepted += usize::from(outcome.is_ok());
     }
     accepted
 }
@@ -177,15 +155,10 @@ pub fn run_steps(
 ) -> usize
     ensures { RanSteps plan (steps_of map.now tasks.now blocks.now) (lists marks.old strips.old output.old) (lists marks.new strips.new output.new) result }
 {
-    let count = number::lesser(tasks.len(), blocks.len());
     let mut accepted = 0;
-    let mut i = 0;
-    while i < count {
-        let number = tasks[i];
-        let block = blocks[i];
-        let outcome = step(plan, number, block, map, marks, strips, output);
-        accepted += one_if_accepted(outcome);
-        i += 1;
+    for (number, block) in tasks.iter().zip(blocks) {
+        let outcome = step(plan, *number, *block, map, marks, strips, output);
+        accepted += usize::from(outcome.is_ok());
     }
     accepted
 }
@@ -199,7 +172,7 @@ fn step(
     marks: &mut [u32],
     strips: &mut [u64],
     output: &mut [u64],
-) -> Outcome
+) -> Result<(), Refusal>
     ensures answer { answer_of result ≡ step_answer plan (step_at map.now number block) (lists marks.old strips.old output.old) }
     ensures written { lists marks.new strips.new output.new ≡ after_step plan (step_at map.now number block) (lists marks.old strips.old output.old) }
 {
@@ -207,13 +180,4 @@ fn step(
         return recall::recall(plan, block, marks);
     }
     task(plan, number, block, map, marks, strips, output)
-}
-
-fn one_if_accepted(outcome: Outcome) -> usize
-    ensures { result ≡ if_accepted (answer_of outcome) 1 0 }
-{
-    match outcome {
-        Outcome::Accepted => 1,
-        Outcome::Refused(_) => 0,
-    }
 }

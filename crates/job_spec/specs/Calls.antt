@@ -1,10 +1,9 @@
 -- Start, the task call and a list of task calls: the exact answer, and the marks, strips and output after it.
 -- Document 01, 'Blocks, marks and strips' and 'Refused calls'; document 02, CR 4, CR 8, and CR 7 through `map_of`.
-use Rattle.std.specs.Prelude.{cond, List, [], ◌∷◌, ◌++◌, ℕ, zero, suc, ◌+◌, min, ℤ, ltb, eqb, length}
+use Rattle.std.specs.Prelude.{cond, List, [], ◌∷◌, ◌++◌, ℕ, zero, suc, ◌+◌, min, ℤ, ltb, eqb, length, None, Some}
 use Rattle.refusal.specs.Refusals.{Answer}
 use Rattle.refusal.specs.Table.{first_due, if_accepted}
 use Rattle.plan.specs.declared.BufferOf7.TheVariants.{Marks}
-use Rattle.plan.specs.declared.Length.TheVariants.{NotLent, Of}
 use Rattle.plan.specs.declared.Lengths.{Lengths}
 use Rattle.plan.specs.declared.Plan.{Plan}
 use Rattle.plan.specs.Sizes.{needed_marks, needed_strips}
@@ -32,7 +31,7 @@ lists marks strips output = record { marks = marks; strips = strips; output = ou
 -- Start is lent marks and strips,
 abbrev pub lent_to_start : List ℕ → List ℕ → Lengths
 lent_to_start marks strips =
-    record { of7 = Marks (length marks); strips = Of (length strips); map = NotLent; output = NotLent }
+    record { of7 = Some (Marks (length marks)); strips = Some (length strips); map = None; output = None }
 
 -- and tests the record and just those: 6, 7 for the marks, 14 for the strips.
 unfoldable pub start_answer : Plan → List ℕ → List ℕ → Answer
@@ -66,10 +65,10 @@ started plan lent =
 abbrev pub lent_to_task : List ℤ → Buffers → Lengths
 lent_to_task heights buffers =
     record {
-      of7 = Marks (length buffers.marks);
-      strips = Of (length buffers.strips);
-      map = Of (length heights);
-      output = Of (length buffers.output);
+      of7 = Some (Marks (length buffers.marks));
+      strips = Some (length buffers.strips);
+      map = Some (length heights);
+      output = Some (length buffers.output);
     }
 
 -- What a call of task t at block k answers: 6, 7, 14, 15, 16, and then what the marks say, 8 to 11.
