@@ -22,14 +22,12 @@ ghost use Rattle.turns.specs.Dispatch.{turn_values, dispatch_given, dispatch};
 ghost use Rattle.mulzhegat.specs.Places.{Fits};
 ghost use Rattle.mulzhegat.specs.Codes.{code_of, capped_code, sizes_record, progress_record, turn_record, state_of, float_in, VariableWritten, pair_states, pair_floats, PairWritten};
 
-use dropouts::DropoutCount;
 use macro_values::{Macro, MacroPair, Quantity};
-use plan::{PlanSizes, Sizes};
-use plan_writer::PlanWritten;
-use rectangle::RectangleSum;
-use refusal::{Outcome, Refusal};
-use report::{Next, Progress, ReportAnswer};
-use turns::{DispatchAnswer, Job, Turn};
+use plan::Sizes;
+use rectangle::Rectangle;
+use refusal::Refusal;
+use report::{Progress, Ready};
+use turns::{Job, Turn};
 
 // ---- plans
 
@@ -38,11 +36,12 @@ use turns::{DispatchAnswer, Job, Turn};
 pub extern "C" fn mzg_plan_read(words: &[u32], plan: &mut [i64; plan_record::RECORD_LENGTH]) -> u64
     ensures { (result ≡ code_of (read_plan words.now).answer) × (plan.new ≡ record_of_plan (read_plan words.now).value) }
 {
-    let read = plan_reader::read_plan(words);
-    let taken = read.plan;
-    *plan = plan_record::record_of_plan(taken);
-    let outcome = read.outcome;
-    outcome_code(outcome)
+    let answer = plan_reader::read_plan(words);
+    *plan = match answer {
+        Ok(taken) => plan_record::record_of_plan(taken),
+        Err(_) => [0; plan_record::RECORD_LENGTH],
+    };
+    answer_code(answer)
 }
 
 // Writes the words of a plan.
@@ -51,10 +50,7 @@ pub extern "C" fn mzg_plan_write(plan: &[i64; plan_record::RECORD_LENGTH], words
     ensures { (result ≡ code_of (write_plan (plan_of_record plan.now) (length words.old)).answer) × (words.new ≡ written_words (plan_of_record plan.now) words.old) }
 {
     let answer = plan_writer::write_plan(plan_record::plan_of_record(plan), words);
-    match answer {
-        PlanWritten::Words(_) => 0,
-        PlanWritten::Refused(refusal) => refusal_code(refusal),
-    }
+    answer_code(answer)
 }
 
 // Gives the lengths that a plan needs; all zeros beside a refusal.
@@ -66,16 +62,11 @@ pub extern "C" fn mzg_plan_sizes(
     ensures { (result ≡ code_of (plan_sizes (plan_of_record plan.now)).answer) × (sizes.new ≡ sizes_record (plan_sizes (plan_of_record plan.now)).value) }
 {
     let answer = plan_record::plan_of_record(plan).sizes();
-    match answer {
-        PlanSizes::Known(known) => {
-            *sizes = sizes_record(known);
-            0
-        }
-        PlanSizes::Refused(refusal) => {
-            *sizes = [0; 7];
-            refusal_code(refusal)
-        }
-    }
+    *sizes = match answer {
+        Ok(known) => sizes_record(known),
+        Err(_) => [0; 7],
+    };
+    answer_code(answer)
 }
 
 // ---- jobs
@@ -91,8 +82,8 @@ pub extern "C" fn mzg_start(
     ensures marked { marks.new ≡ marks_after_start (plan_of_record plan.now) marks.old strips.old }
     ensures stripped { strips.new ≡ strips_after_start (plan_of_record plan.now) marks.old strips.old }
 {
-    let outcome = job::start(plan_record::plan_of_record(plan), marks, strips);
-    outcome_code(outcome)
+    let answer = job::start(plan_record::plan_of_record(plan), marks, strips);
+    answer_code(answer)
 }
 
 // Calls one task at one block.
@@ -110,8 +101,8 @@ pub extern "C" fn mzg_task(
     ensures written { lists marks.new strips.new output.new ≡ after_task (plan_of_record plan.now) map.now task block (lists marks.old strips.old output.old) }
 {
     let taken = plan_record::plan_of_record(plan);
-    let outcome = job::task(taken, task, block, map, marks, strips, output);
-    outcome_code(outcome)
+    let answer = job::task(taken, task, block, map, marks, strips, output);
+    answer_code(answer)
 }
 
 // Reports on a job's marks; all zeros beside a refusal.
@@ -125,16 +116,11 @@ pub extern "C" fn mzg_report(
     ensures values { progress.new ≡ progress_record (report (plan_of_record plan.now) marks.now).value }
 {
     let answer = report::report(plan_record::plan_of_record(plan), marks);
-    match answer {
-        ReportAnswer::Made(made) => {
-            *progress = progress_record(made);
-            0
-        }
-        ReportAnswer::Refused(refusal) => {
-            *progress = [0; 5];
-            refusal_code(refusal)
-        }
-    }
+    *progress = match answer {
+        Ok(made) => progress_record(made),
+        Err(_) => [0; 5],
+    };
+    answer_code(answer)
 }
 
 // Recalls a block that is scanned again: the bits of its tasks and of every task that needs one of them are cleared.
@@ -147,8 +133,8 @@ pub extern "C" fn mzg_recall(
     ensures answer { result ≡ code_of (recall_answer (plan_of_record plan.now) marks.old block) }
     ensures cleared { marks.new ≡ marks_after_recall (plan_of_record plan.now) block marks.old }
 {
-    let outcome = recall::recall(plan_record::plan_of_record(plan), block, marks);
-    outcome_code(outcome)
+    let answer = recall::recall(plan_record::plan_of_record(plan), block, marks);
+    answer_code(answer)
 }
 
 // ---- several jobs
@@ -160,23 +146,13 @@ pub extern "C" fn mzg_dispatch(jobs: &[Job], last: usize, marks: &[u32], turn: &
     ensures words { turn.new ≡ turn_record (dispatch jobs.now last marks.now).value }
 {
     let answer = dispatch::dispatch(jobs, last, marks);
-    put_turn(answer, turn)
-}
-
-// Writes the words of an answer, and gives its code.
-fn put_turn(answer: DispatchAnswer, turn: &mut [u64; 4]) -> u64
-    ensures answer { result ≡ capped_code (dispatch_given answer).answer }
-    ensures words { turn.new ≡ turn_record (dispatch_given answer).value }
-{
+    *turn = match answer {
+        Ok(Some(named)) => turn_record(named),
+        _ => [0; 4],
+    };
     match answer {
-        DispatchAnswer::Made(made) => {
-            *turn = turn_record(made);
-            0
-        }
-        DispatchAnswer::Refused(refusal) => {
-            *turn = [0; 4];
-            capped_code(refusal)
-        }
+        Ok(_) => 0,
+        Err(refusal) => capped_code(refusal),
     }
 }
 
@@ -191,8 +167,8 @@ pub extern "C" fn mzg_serial(
 ) -> u64
     ensures { (result ≡ code_of (serial_answer (plan_of_record plan.now) (length map.now) (length output.old))) × (output.new ≡ serial_output (plan_of_record plan.now) map.now output.old) }
 {
-    let outcome = serial::serial_passes(plan_record::plan_of_record(plan), map, output);
-    outcome_code(outcome)
+    let answer = serial::serial_passes(plan_record::plan_of_record(plan), map, output);
+    answer_code(answer)
 }
 
 // Runs the four passes over a whole map of words, none of which is taken for a dropout.
@@ -204,8 +180,8 @@ pub extern "C" fn mzg_serial_words(
 ) -> u64
     ensures { (result ≡ code_of (serial_answer (plan_of_record plan.now) (length map.now) (length output.old))) × (output.new ≡ serial_words_output (plan_of_record plan.now) map.now output.old) }
 {
-    let outcome = serial::serial_words(plan_record::plan_of_record(plan), map, output);
-    outcome_code(outcome)
+    let answer = serial::serial_words(plan_record::plan_of_record(plan), map, output);
+    answer_code(answer)
 }
 
 // Gives the sum over a rectangle of a summed-area table; 0 beside a refusal.
@@ -221,17 +197,15 @@ pub extern "C" fn mzg_rectangle(
 ) -> u64
     ensures { (result ≡ code_of (rectangle_call (plan_of_record plan.now) table.now top left bottom right).answer) × (sum.new ≡ (rectangle_call (plan_of_record plan.now) table.now top left bottom right).value) }
 {
-    let answer = rectangle_by_record(plan, top, left, bottom, right, table);
-    match answer {
-        RectangleSum::Sum(total) => {
-            *sum = total;
-            0
-        }
-        RectangleSum::Refused(refusal) => {
-            *sum = 0;
-            refusal_code(refusal)
-        }
-    }
+    let rectangle = Rectangle {
+        top,
+        left,
+        bottom,
+        right,
+    };
+    let answer = rectangle_by_record(plan, rectangle, table);
+    *sum = answer.unwrap_or(0);
+    answer_code(answer)
 }
 
 // Counts the dropouts in a rectangle of a map; 0 beside a refusal.
@@ -248,17 +222,15 @@ pub extern "C" fn mzg_dropouts(
     ensures { (result ≡ code_of (dropouts_call (plan_of_record plan.now) map.now top left bottom right).answer) × (count.new ≡ (dropouts_call (plan_of_record plan.now) map.now top left bottom right).value) }
 {
     let taken = plan_record::plan_of_record(plan);
-    let answer = dropouts::count_dropouts(taken, top, left, bottom, right, map);
-    match answer {
-        DropoutCount::Count(found) => {
-            *count = found as u64;
-            0
-        }
-        DropoutCount::Refused(refusal) => {
-            *count = 0;
-            refusal_code(refusal)
-        }
-    }
+    let rectangle = Rectangle {
+        top,
+        left,
+        bottom,
+        right,
+    };
+    let answer = dropouts::count_dropouts(taken, rectangle, map);
+    *count = answer.unwrap_or(0) as u64;
+    answer_code(answer)
 }
 
 // ---- macro variables
@@ -337,7 +309,7 @@ pub extern "C" fn mzg_macro_pair(
     *states = pair_states(pair);
     *values = pair_floats(pair);
     let outcome = read.outcome;
-    outcome_code(outcome)
+    answer_code(answer)
 }
 
 // One quantity, for the total and for the number of pixels.
@@ -360,7 +332,7 @@ fn macro_quantity(
     *state = macro_state(variable);
     *value = macro_float(variable);
     let outcome = read.outcome;
-    outcome_code(outcome)
+    answer_code(answer)
 }
 
 // ---- rectangles

@@ -1,7 +1,8 @@
 -- Document 01's program: what its input asks for, what it answers, and the output words that it prints.
-use Rattle.std.specs.Prelude.{not, cond, List, [], ◌∷◌, ◌++◌, ℕ, zero, suc, ◌+◌, ◌*◌, ◌/◌, ◌%◌, min, ℤ, ltb, leb, eqb, length, replicate}
-use Rattle.refusal.specs.Refusals.{Answer, accepted, refused}
-use Rattle.refusal.specs.Table.{Row, ◌at◌when◌, first_of, first_due, answer_of, Given, given}
+use Rattle.std.specs.Prelude.{not, cond, List, [], ◌∷◌, ◌++◌, ℕ, zero, suc, ◌+◌, ◌*◌, ◌/◌, ◌%◌, min, ℤ, ltb, leb, eqb, length, replicate, Result, Ok, Err}
+use Rattle.refusal.specs.declared.Refusal.{Refusal}
+use Rattle.refusal.specs.Refusals.{Answer, accepted, refused, refused_for}
+use Rattle.refusal.specs.Table.{Row, ◌at◌when◌, first_of, first_due, Given, given}
 use Rattle.plan.specs.declared.Plan.{Plan}
 use Rattle.grid.specs.Grid.{side_limit}
 use Rattle.plan.specs.Sizes.{word_limit, needed_pixels, order_sum_limit}
@@ -145,19 +146,15 @@ answer_to (refused_input number place) output = refused_with number place
 answer_to (job plan heights) output =
     reported_after (whole_answer plan heights (job_lists output)) plan (report plan (job_after plan heights output).marks)
 
--- The documents' number and place, and the line, that `smooth` answers.
-abbrev pub smooth_given : Smoothed → Given Line
-smooth_given smoothed =
-    record {
-      answer = answer_of smoothed.outcome;
-      value =
-          record {
-            rows = smoothed.rows;
-            columns = smoothed.columns;
-            tasks = smoothed.marked;
-            tally = smoothed.tally;
-          };
-    }
+-- The line of a job that was done.
+abbrev pub line_in : Smoothed → Line
+line_in smoothed =
+    record { rows = smoothed.rows; columns = smoothed.columns; tasks = smoothed.marked; tally = smoothed.tally }
+
+-- The documents' number and place, and the line, that `smooth` answers; all zeros beside a refusal.
+abbrev pub smooth_given : Result Smoothed Refusal → Given Line
+smooth_given (Ok smoothed) = record { answer = accepted; value = line_in smoothed }
+smooth_given (Err refusal) = record { answer = refused_for refusal; value = zero_line }
 
 -- The output words: of a job those after it, and beside a refusal as they were.
 unfoldable pub output_of : Asked → List ℕ → List ℕ

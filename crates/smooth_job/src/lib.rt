@@ -10,10 +10,8 @@ ghost use Rattle.plan_reader.specs.ReadPlan.{read_plan, read_given};
 ghost use Rattle.report.specs.Report.{report};
 ghost use Rattle.smooth_job.specs.Program.{pixel_limit, strip_limit, byte_at, word_in, plan_length, signed32, heights_in, job, asked, asked_with, refused_with, reported_with, answer_to, smooth_given, output_of, cut_limit, cut_length};
 
-use plan::{Plan, PlanSizes};
-use plan_reader::PlanRead;
-use refusal::{Outcome, Refusal};
-use report::ReportAnswer;
+use plan::Plan;
+use refusal::Refusal;
 
 // The most pixels, and room for the strips of any job of so many: `pixel_limit` and `strip_limit` of specs/Program.antt are the same
 // numbers.
@@ -26,10 +24,9 @@ pub const INPUT_LIMIT: usize = 4 * (plan::WORD_LIMIT + PIXEL_LIMIT);
 
 pub const CUT_LIMIT: usize = INPUT_LIMIT + 7;
 
-// The size, the tasks marked and the tally, or zeros beside a refusal.
+// The size, the tasks marked and the tally.
 #[derive(Clone, Copy)]
 pub struct Smoothed {
-    pub outcome: Outcome,
     pub rows: usize,
     pub columns: usize,
     pub marked: usize,
@@ -37,23 +34,16 @@ pub struct Smoothed {
 }
 
 // Does the whole job that the input asks for, its words in the output.
-pub fn smooth(input: &[u8], output: &mut [u64]) -> Smoothed
+pub fn smooth(input: &[u8], output: &mut [u64]) -> Result<Smoothed, Refusal>
     ensures answer { smooth_given result ≡ answer_to (asked input.now) output.old }
     ensures output { output.new ≡ output_of (asked input.now) output.old }
 {
     if input.len() % 4 != 0 {
-        return refused(Refusal::InputUnfit);
+        return Err(Refusal::InputUnfit);
     }
     let length = plan_length(input);
-    let read = plan_in(input, length);
-    let outcome = read.outcome;
-    match outcome {
-        Outcome::Accepted => {
-            let plan = read.plan;
-            smooth_plan(plan, length, input, output)
-        }
-        Outcome::Refused(refusal) => refused(refusal),
-    }
+    let plan = plan_in(input, length)?;
+    smooth_plan(plan, length, input, output)
 }
 
 // How many bytes stand for an input: of a longer one than any that asks for a job, the first bytes, one word more, and the
@@ -65,18 +55,6 @@ pub fn cut_length(length: usize) -> usize
         length
     } else {
         INPUT_LIMIT + 4 + length % 4
-    }
-}
-
-fn refused(refusal: Refusal) -> Smoothed
-    ensures { smooth_given result ≡ refused_with (number_of refusal) (place_of refusal) }
-{
-    Smoothed {
-        outcome: Outcome::Refused(refusal),
-        rows: 0,
-        columns: 0,
-        marked: 0,
-        tally: 0,
     }
 }
 
@@ -104,28 +82,23 @@ pub fn word_at(input: &[u8], i: usize) -> u32
 pub fn plan_length(input: &[u8]) -> usize
     ensures { result ≡ plan_length input.now }
 {
-    let most = number::lesser(input.len() / 4, plan::WORD_LIMIT);
-    let mut i = 0;
-    while i < most {
+    let most = (input.len() / 4).min(plan::WORD_LIMIT);
+    for i in 0..most {
         if number::kind_of(word_at(input, i)) == plan_reader::END_KIND {
             return i + 1;
         }
-        i += 1;
     }
     most
 }
 
 // The plan in the first words of the input.
-fn plan_in(input: &[u8], count: usize) -> PlanRead
+fn plan_in(input: &[u8], count: usize) -> Result<Plan, Refusal>
     requires { (count ≤ word_limit) × (count ≤ length input.now / 4) }
     ensures { read_given result ≡ read_plan (list_of (word_in input.now) count) }
 {
     let mut words = [0; plan::WORD_LIMIT];
-    let mut i = 0;
-    while i < count {
-        let word = word_at(input, i);
-        words[i] = word;
-        i += 1;
+    for i in 0..count {
+        words[i] = word_at(input, i);
     }
     plan_reader::read_plan(&words[..count])
 }
@@ -134,11 +107,7 @@ fn plan_in(input: &[u8], count: usize) -> PlanRead
 pub fn decode_signed32(word: u32) -> i32
     ensures { result ≡ signed32 word }
 {
-    if word < 2147483648 {
-        word as i32
-    } else {
-        (word as i64 - 4294967296) as i32
-    }
+    word.cast_signed()
 }
 
 fn height_at(input: &[u8], i: usize) -> i32
@@ -151,16 +120,13 @@ fn height_at(input: &[u8], i: usize) -> i32
 // ---- the job
 
 // With a plan that was read, its words the first of the input.
-fn smooth_plan(plan: Plan, first: usize, input: &[u8], output: &mut [u64]) -> Smoothed
+fn smooth_plan(plan: Plan, first: usize, input: &[u8], output: &mut [u64]) -> Result<Smoothed, Refusal>
     requires { (keeps_rules plan ≡ true) × (first ≡ plan_length input.now) × (first ≤ word_limit) }
     ensures answer { smooth_given result ≡ answer_to (asked_with input.now plan) output.old }
     ensures output { output.new ≡ output_of (asked_with input.now plan) output.old }
 {
-    let known = plan.sizes();
-    match known {
-        PlanSizes::Known(sizes) => smooth_counted(plan, first, sizes.pixels, input, output),
-        PlanSizes::Refused(refusal) => refused(refusal),
-    }
+    let sizes = plan.sizes()?;
+    smooth_counted(plan, first, sizes.pixels, input, output)
 }
 
 // The pixels, then the number of heights, then the job.
@@ -170,48 +136,42 @@ fn smooth_counted(
     pixels: usize,
     input: &[u8],
     output: &mut [u64],
-) -> Smoothed
+) -> Result<Smoothed, Refusal>
     requires { (pixels ≡ needed_pixels plan) × (first ≡ plan_length input.now) × (first ≤ word_limit) }
     ensures answer { smooth_given result ≡ answer_to (asked_with input.now plan) output.old }
     ensures output { output.new ≡ output_of (asked_with input.now plan) output.old }
 {
     if PIXEL_LIMIT < pixels {
-        return refused(Refusal::InputUnfit);
+        return Err(Refusal::InputUnfit);
     }
     if input.len() / 4 != first + pixels {
-        return refused(Refusal::InputUnfit);
+        return Err(Refusal::InputUnfit);
     }
     smooth_map(plan, first, pixels, input, output)
 }
 
 // The job on the heights from a word of the input on.
-fn smooth_map(plan: Plan, first: usize, pixels: usize, input: &[u8], output: &mut [u64]) -> Smoothed
+fn smooth_map(plan: Plan, first: usize, pixels: usize, input: &[u8], output: &mut [u64]) -> Result<Smoothed, Refusal>
     requires { (pixels ≤ pixel_limit) × (first + pixels ≤ length input.now / 4) }
     ensures answer { smooth_given result ≡ answer_to (job plan (heights_in input.now first pixels)) output.old }
     ensures output { output.new ≡ output_of (job plan (heights_in input.now first pixels)) output.old }
 {
     let mut heights = [0; PIXEL_LIMIT];
-    let mut q = 0;
-    while q < pixels {
-        let height = height_at(input, first + q);
-        heights[q] = height;
-        q += 1;
+    for q in 0..pixels {
+        heights[q] = height_at(input, first + q);
     }
     smooth_heights(plan, &heights[..pixels], output)
 }
 
 // The whole job, with marks and strips of its own, and the report after it.
-fn smooth_heights(plan: Plan, map: &[i32], output: &mut [u64]) -> Smoothed
+fn smooth_heights(plan: Plan, map: &[i32], output: &mut [u64]) -> Result<Smoothed, Refusal>
     ensures answer { smooth_given result ≡ answer_to (job plan map.now) output.old }
     ensures output { output.new ≡ output_of (job plan map.now) output.old }
 {
     let mut marks = fresh_marks();
     let mut strips = fresh_strips();
-    let outcome = whole_job::whole_job(plan, map, &mut marks, &mut strips, output);
-    match outcome {
-        Outcome::Accepted => reported(plan, &marks),
-        Outcome::Refused(refusal) => refused(refusal),
-    }
+    whole_job::whole_job(plan, map, &mut marks, &mut strips, output)?;
+    reported(plan, &marks)
 }
 
 fn fresh_marks() -> [u32; PIXEL_LIMIT]
@@ -227,18 +187,14 @@ fn fresh_strips() -> [u64; STRIP_LIMIT]
 }
 
 // The size and what the report says of the marks.
-fn reported(plan: Plan, marks: &[u32]) -> Smoothed
+fn reported(plan: Plan, marks: &[u32]) -> Result<Smoothed, Refusal>
     ensures { smooth_given result ≡ reported_with plan (report plan marks.now) }
 {
-    let answer = report::report(plan, marks);
-    match answer {
-        ReportAnswer::Made(progress) => Smoothed {
-            outcome: Outcome::Accepted,
-            rows: plan.grid.rows,
-            columns: plan.grid.columns,
-            marked: progress.marked,
-            tally: progress.tally,
-        },
-        ReportAnswer::Refused(refusal) => refused(refusal),
-    }
+    let progress = report::report(plan, marks)?;
+    Ok(Smoothed {
+        rows: plan.grid.rows,
+        columns: plan.grid.columns,
+        marked: progress.marked,
+        tally: progress.tally,
+    })
 }
