@@ -147,8 +147,8 @@ pub extern "C" fn mzg_dispatch(jobs: &[Job], last: usize, marks: &[u32], turn: &
 {
     let answer = dispatch::dispatch(jobs, last, marks);
     *turn = match answer {
-        Ok(Some(named)) => turn_record(named),
-        _ => [0; 4],
+        Ok(made) => turn_record(made),
+        Err(_) => [0; 4],
     };
     match answer {
         Ok(_) => 0,
@@ -249,17 +249,13 @@ pub extern "C" fn mzg_macro_total(
 ) -> u64
     ensures { VariableWritten (macro_call Quantity.Total (plan_of_record plan.now) table.now top left bottom right) result state.new value.new }
 {
-    macro_quantity(
-        plan,
-        Quantity::Total,
+    let rectangle = Rectangle {
         top,
         left,
         bottom,
         right,
-        table,
-        state,
-        value,
-    )
+    };
+    macro_quantity(plan, Quantity::Total, rectangle, table, state, value)
 }
 
 // Gives the number of pixels of a rectangle as a macro variable, exact or vacant; vacant beside a refusal.
@@ -276,17 +272,13 @@ pub extern "C" fn mzg_macro_pixels(
 ) -> u64
     ensures { VariableWritten (macro_call Quantity.Pixels (plan_of_record plan.now) table.now top left bottom right) result state.new value.new }
 {
-    macro_quantity(
-        plan,
-        Quantity::Pixels,
+    let rectangle = Rectangle {
         top,
         left,
         bottom,
         right,
-        table,
-        state,
-        value,
-    )
+    };
+    macro_quantity(plan, Quantity::Pixels, rectangle, table, state, value)
 }
 
 // Gives total and number of pixels of a rectangle as macro variables, the total first; both vacant beside a refusal.
@@ -303,12 +295,20 @@ pub extern "C" fn mzg_macro_pair(
 ) -> u64
     ensures { PairWritten (pair_call (plan_of_record plan.now) table.now top left bottom right) result states.new values.new }
 {
-    let answer = rectangle_by_record(plan, top, left, bottom, right, table);
-    let read = macro_values::pair_by_sum(answer, top, left, bottom, right);
-    let pair = read.pair;
+    let rectangle = Rectangle {
+        top,
+        left,
+        bottom,
+        right,
+    };
+    let sum = rectangle_by_record(plan, rectangle, table);
+    let answer = macro_values::pair_by_sum(sum, rectangle);
+    let pair = answer.unwrap_or(MacroPair {
+        total: Macro::Vacant,
+        pixels: Macro::Vacant,
+    });
     *states = pair_states(pair);
     *values = pair_floats(pair);
-    let outcome = read.outcome;
     answer_code(answer)
 }
 
@@ -316,22 +316,18 @@ pub extern "C" fn mzg_macro_pair(
 fn macro_quantity(
     plan: &[i64; plan_record::RECORD_LENGTH],
     quantity: Quantity,
-    top: usize,
-    left: usize,
-    bottom: usize,
-    right: usize,
+    rectangle: Rectangle,
     table: &[u64],
     state: &mut u64,
     value: &mut f64,
 ) -> u64
-    ensures { VariableWritten (macro_call quantity (plan_of_record plan.now) table.now top left bottom right) result state.new value.new }
+    ensures { VariableWritten (macro_call quantity (plan_of_record plan.now) table.now rectangle.top rectangle.left rectangle.bottom rectangle.right) result state.new value.new }
 {
-    let answer = rectangle_by_record(plan, top, left, bottom, right, table);
-    let read = macro_values::value_by_sum(answer, quantity, top, left, bottom, right);
-    let variable = read.value;
+    let sum = rectangle_by_record(plan, rectangle, table);
+    let answer = macro_values::value_by_sum(sum, quantity, rectangle);
+    let variable = answer.unwrap_or(Macro::Vacant);
     *state = macro_state(variable);
     *value = macro_float(variable);
-    let outcome = read.outcome;
     answer_code(answer)
 }
 
@@ -340,27 +336,23 @@ fn macro_quantity(
 // The rectangle sum, for all calls that begin with it: one function, so that the record is copied once.
 fn rectangle_by_record(
     plan: &[i64; plan_record::RECORD_LENGTH],
-    top: usize,
-    left: usize,
-    bottom: usize,
-    right: usize,
+    rectangle: Rectangle,
     table: &[u64],
-) -> RectangleSum
-    ensures { sum_given result ≡ rectangle_call (plan_of_record plan.now) table.now top left bottom right }
+) -> Result<i64, Refusal>
+    ensures { sum_given result ≡ rectangle_call (plan_of_record plan.now) table.now rectangle.top rectangle.left rectangle.bottom rectangle.right }
 {
-    let taken = plan_record::plan_of_record(plan);
-    rectangle::rectangle_sum(taken, top, left, bottom, right, table)
+    rectangle::rectangle_sum(plan_record::plan_of_record(plan), rectangle, table)
 }
 
 // ---- answers
 
-fn outcome_code(outcome: Outcome) -> u64
-    requires { Fits (answer_of outcome) }
-    ensures { result ≡ code_of (answer_of outcome) }
+fn answer_code<T: Copy>(answer: Result<T, Refusal>) -> u64
+    requires { Fits (answer_of answer) }
+    ensures { result ≡ code_of (answer_of answer) }
 {
-    match outcome {
-        Outcome::Accepted => 0,
-        Outcome::Refused(refusal) => refusal_code(refusal),
+    match answer {
+        Ok(_) => 0,
+        Err(refusal) => refusal_code(refusal),
     }
 }
 
@@ -375,7 +367,7 @@ fn refusal_code(refusal: Refusal) -> u64
 fn capped_code(refusal: Refusal) -> u64
     ensures { result ≡ capped_code (refused_for refusal) }
 {
-    (refusal.number() as u64) * 4294967296 + (number::lesser(refusal.place(), 4294967295) as u64)
+    (refusal.number() as u64) * 4294967296 + (refusal.place().min(4294967295) as u64)
 }
 
 fn sizes_record(known: Sizes) -> [u64; 7]
@@ -395,25 +387,20 @@ fn sizes_record(known: Sizes) -> [u64; 7]
 fn progress_record(made: Progress) -> [u64; 5]
     ensures { result ≡ progress_record (values_of made) }
 {
-    let next = made.next;
-    match next {
-        Next::Ready(task, block) => [
-            made.marked as u64,
-            made.tally as u64,
-            1,
-            task as u64,
-            block as u64,
-        ],
-        Next::Nothing => [made.marked as u64, made.tally as u64, 0, 0, 0],
+    let marked = made.marked as u64;
+    let tally = made.tally as u64;
+    match made.next {
+        Some(Ready { task, block }) => [marked, tally, 1, task as u64, block as u64],
+        None => [marked, tally, 0, 0, 0],
     }
 }
 
-fn turn_record(made: Turn) -> [u64; 4]
+fn turn_record(made: Option<Turn>) -> [u64; 4]
     ensures { result ≡ turn_record (turn_values made) }
 {
     match made {
-        Turn::Named(job, task, block) => [1, job as u64, task as u64, block as u64],
-        Turn::EveryJobDone => [0; 4],
+        Some(Turn { job, task, block }) => [1, job as u64, task as u64, block as u64],
+        None => [0; 4],
     }
 }
 
@@ -440,15 +427,11 @@ fn macro_float(variable: Macro) -> f64
 fn pair_states(pair: MacroPair) -> [u64; 2]
     ensures { result ≡ pair_states (pair_of pair) }
 {
-    let total = pair.total;
-    let pixels = pair.pixels;
-    [macro_state(total), macro_state(pixels)]
+    [macro_state(pair.total), macro_state(pair.pixels)]
 }
 
 fn pair_floats(pair: MacroPair) -> [f64; 2]
     ensures { result ≡ pair_floats (pair_of pair) }
 {
-    let total = pair.total;
-    let pixels = pair.pixels;
-    [macro_float(total), macro_float(pixels)]
+    [macro_float(pair.total), macro_float(pair.pixels)]
 }
