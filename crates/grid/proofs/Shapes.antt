@@ -3,6 +3,7 @@
 use mathlib.Core.Path.{◌≡◌, refl, sym, ap, ◌∙◌}
 use mathlib.Core.Bool.{Bool, true, false, cond}
 use mathlib.Core.Option.{Option, none, some}
+use Rattle.std.specs.Prelude.{Some, None}
 use Prim.Native.Nat.{ℕ, ◌+◌, ◌*◌, ◌≤◌, ◌<◌}
 use native.Mathlib.Nat.{div-add-mod', mul-le-mul_right}
 use native.Mathlib.Omega.{arith}
@@ -11,8 +12,6 @@ use Rattle.axis.specs.Axis.{Axis, columns, rows, Direction, forward, backward, a
 use Rattle.grid.specs.declared.Grid.{Grid}
 use Rattle.grid.specs.declared.Position.{Position}
 use Rattle.grid.specs.declared.BlockLine.{BlockLine}
-use Rattle.grid.specs.declared.Neighbour.{Neighbour}
-use Rattle.grid.specs.declared.Neighbour.TheVariants.{Block, Beyond}
 use Rattle.grid.specs.Grid.{grid_kept, block_rows_of, block_columns_of, block_total, block_height, block_width, block_row, block_column, rows_of, columns_of, block_pixel_place, line_index, line_count, line_step_of, has_before, has_after, step_before, neighbour, goes_on}
 use Rattle.grid.specs.Shapes.{InBlocks, position_of, index_along, shape_of, line_of_blocks, found_neighbour}
 use Rattle.grid.proofs.Extents.{counted_test}
@@ -75,11 +74,11 @@ module _ (grid : Grid) (pass : ℕ) (line : BlockLine) (d : Direction) (runs : d
         by backward = refl
 
     -- A block before, or none.
-    pub found_before : before_in d line ≡ true → Block (step_before d line.step k) ≡ found_neighbour (neighbour grid k pass)
+    pub found_before : before_in d line ≡ true → Some (step_before d line.step k) ≡ found_neighbour (neighbour grid k pass)
     found_before e =
         sym (ap found_neighbour before_is ∙ ap (λ z. found_neighbour (cond z (some (step_before d line.step k)) none)) e)
 
-    pub none_before : before_in d line ≡ false → Beyond ≡ found_neighbour (neighbour grid k pass)
+    pub none_before : before_in d line ≡ false → None ≡ found_neighbour (neighbour grid k pass)
     none_before e =
         sym (ap found_neighbour before_is ∙ ap (λ z. found_neighbour (cond z (some (step_before d line.step k)) none)) e)
 
@@ -95,13 +94,13 @@ module _ (grid : Grid) (pass : ℕ) (line : BlockLine) (d : Direction) (runs : d
       by backward = refl
 
 -- What the case of a neighbour says.
-pub found_block : (o : Option ℕ) (found : Neighbour) (j : ℕ) → found ≡ found_neighbour o → found ≡ Block j → o ≡ some j
-found_block none found j e f = cc
-found_block (some i) found j e f = cc
+pub found_block : (o : Option ℕ) (j : ℕ) → Some j ≡ found_neighbour o → o ≡ some j
+found_block none j e = cc
+found_block (some i) j e = cc
 
-pub found_none : (o : Option ℕ) (found : Neighbour) → found ≡ found_neighbour o → found ≡ Beyond → o ≡ none
-found_none none found e f = refl
-found_none (some i) found e f = cc
+pub found_none : (o : Option ℕ) → None ≡ found_neighbour o → o ≡ none
+found_none none e = refl
+found_none (some i) e = cc
 
 -- A block goes on by position as by number.
 pub goes_on_at : (grid : Grid) (k pass : ℕ) {at : Position} → at ≡ position_of grid k

@@ -36,13 +36,6 @@ pub struct BlockShape {
     pub columns: usize,
 }
 
-// The block that a pass comes from, or none where the map ends.
-#[derive(Clone, Copy)]
-pub enum Neighbour {
-    Block(usize),
-    Beyond,
-}
-
 // A block among the blocks in line with it, along a pass: its number, whether another follows it in map order, and how far
 // apart their block numbers lie.
 #[derive(Clone, Copy)]
@@ -151,24 +144,22 @@ impl Grid {
         }
     }
 
-    // The block that a pass comes from: above, below, left or right.
-    pub fn neighbour(self, k: usize, pass: usize) -> Neighbour
+    // The block that a pass comes from: above, below, left or right; none where the map ends.
+    pub fn neighbour(self, k: usize, pass: usize) -> Option<usize>
         requires { InGrid self k }
         ensures { result ≡ found_neighbour (neighbour self k pass) }
     {
         let line = self.block_line(self.position(k), pass);
         if axis::is_backward(pass) {
             if line.followed {
-                Neighbour::Block(k + line.step)
+                Some(k + line.step)
             } else {
-                Neighbour::Beyond
+                None
             }
+        } else if 0 < line.index {
+            Some(k - line.step)
         } else {
-            if 0 < line.index {
-                Neighbour::Block(k - line.step)
-            } else {
-                Neighbour::Beyond
-            }
+            None
         }
     }
 

@@ -23,8 +23,7 @@ use Rattle.task_words.proofs.Strips.{strip_place_below}
 use Rattle.task_words.proofs.StripReads.{from_edge_below}
 use Rattle.grid.specs.declared.BlockShape.{BlockShape}
 use Rattle.strips.specs.declared.Strip.{Strip}
-use Rattle.grid.specs.declared.Neighbour.{Neighbour}
-use Rattle.grid.specs.declared.Neighbour.TheVariants.{Block, Beyond}
+use Rattle.std.specs.Prelude.{Some, None}
 use Rattle.grid.specs.Shapes.{shape_of, found_neighbour, shape_extent, shape_lines}
 use Rattle.strips.specs.StripRecord.{first_inside, past_inside, strip_with, strip_of, empty_strip, strip_in, strip_before, address_in, strip_read, StripFits}
 
@@ -55,18 +54,18 @@ pub strip_of_is : (plan : Plan) (half : Half) (k pass : ℕ) {shape : BlockShape
 unfolding strip_of shape_of
 strip_of_is plan half k pass shaped starts o a b c d e = e ∙ rw (a, b, c, d, shaped, starts, o)
 
-module _ (plan : Plan) (k pass : ℕ) (found : Neighbour) (is : found ≡ found_neighbour (neighbour plan.grid k pass)) where
-  pub before_below : (j : ℕ) → found ≡ Block j → k < needed_marks plan → j < needed_marks plan
-  before_below j e here = neighbour_below plan.grid k pass j here (found_block (neighbour plan.grid k pass) found j is e)
+module _ (plan : Plan) (k pass : ℕ) where
+  pub before_below : (j : ℕ) → Some j ≡ found_neighbour (neighbour plan.grid k pass) → k < needed_marks plan → j < needed_marks plan
+  before_below j is here = neighbour_below plan.grid k pass j here (found_block (neighbour plan.grid k pass) j is)
 
-  pub before_block : (j : ℕ) (strip : Strip) → found ≡ Block j → strip ≡ strip_of plan Linked j pass
-      → strip ≡ strip_before plan k pass
+  pub before_block : (j : ℕ) (strip : Strip) → Some j ≡ found_neighbour (neighbour plan.grid k pass)
+      → strip ≡ strip_of plan Linked j pass → strip ≡ strip_before plan k pass
   unfolding strip_before
-  before_block j strip e f = rw (found_block (neighbour plan.grid k pass) found j is e) f
+  before_block j strip is f = rw (found_block (neighbour plan.grid k pass) j is) f
 
-  pub before_none : found ≡ Beyond → empty_strip ≡ strip_before plan k pass
+  pub before_none : None ≡ found_neighbour (neighbour plan.grid k pass) → empty_strip ≡ strip_before plan k pass
   unfolding strip_before
-  before_none e = rw (found_none (neighbour plan.grid k pass) found is e)
+  before_none is = rw (found_none (neighbour plan.grid k pass) is)
 
 -- ---- one strip
 
