@@ -1,6 +1,5 @@
 -- Inner: the values of the code's records, and what inner functions ask of their callers.
-use Rattle.std.specs.Prelude.{◌≡◌, true, ℕ, ◌+◌, ◌<◌, ltb, Option, Some, None}
-use Rattle.std.proofs.Math.Option.{Option as Beside, none, some}
+use Rattle.std.specs.Prelude.{◌≡◌, true, ℕ, ◌+◌, ◌<◌, ltb}
 use Rattle.axis.specs.Axis.{axis_of, along, across}
 use Rattle.grid.specs.declared.Grid.{Grid}
 use Rattle.grid.specs.declared.Position.{Position}
@@ -52,8 +51,3 @@ line_of_blocks grid at pass =
       followed = ltb (index_along at pass + 1) (line_count grid pass);
       step = line_step_of grid pass;
     }
-
--- The value of a neighbour.
-abbrev pub found_neighbour : Beside ℕ → Option ℕ
-found_neighbour none = None
-found_neighbour (some j) = Some j

@@ -5,7 +5,7 @@
 ghost use Rattle.std.specs.Prelude.{◌≡◌, ◌<◌, true};
 ghost use Rattle.axis.specs.Axis.{direction_of};
 ghost use Rattle.grid.specs.Grid.{block_count, block_extent, grid_kept, block_rows_of, block_columns_of, block_total, block_height, block_width, block_area, line_count, has_after, neighbour};
-ghost use Rattle.grid.specs.Shapes.{InGrid, InBlocks, position_of, index_along, shape_of, shape_extent, shape_lines, line_of_blocks, found_neighbour};
+ghost use Rattle.grid.specs.Shapes.{InGrid, InBlocks, position_of, index_along, shape_of, shape_extent, shape_lines, line_of_blocks};
 
 // The most rows and columns of a map, and the longest side of a block: `size_limit` and `side_limit` of specs/Grid.antt are the same
 // numbers.
@@ -147,7 +147,7 @@ impl Grid {
     // The block that a pass comes from: above, below, left or right; none where the map ends.
     pub fn neighbour(self, k: usize, pass: usize) -> Option<usize>
         requires { InGrid self k }
-        ensures { result ≡ found_neighbour (neighbour self k pass) }
+        ensures { result ≡ neighbour self k pass }
     {
         let line = self.block_line(self.position(k), pass);
         if axis::is_backward(pass) {
