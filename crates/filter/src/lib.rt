@@ -47,16 +47,10 @@ struct Lines {
 pub fn filter_words(pass: plan::Pass) -> FilterWords
     ensures { result ≡ filter_words pass }
 {
-    let mut coefficients = [0; plan::ORDER_LIMIT];
-    let mut place = 0;
-    while place < plan::ORDER_LIMIT {
-        coefficients[place] = word::residue(pass.coefficients[place]);
-        place += 1;
-    }
     FilterWords {
         gain: word::residue(pass.gain),
         order: pass.order,
-        coefficients: coefficients,
+        coefficients: pass.coefficients.map(word::residue),
     }
 }
 
@@ -64,21 +58,21 @@ pub fn filter_words(pass: plan::Pass) -> FilterWords
 pub fn filter_with_gain(pass: plan::Pass, gain: u64) -> FilterWords
     ensures { result ≡ with_gain gain (filter_words pass) }
 {
-    let mut words = filter_words(pass);
-    words.gain = gain;
-    words
+    FilterWords {
+        gain,
+        ..filter_words(pass)
+    }
 }
 
 // The gain of pass i as a residue where i lies from `first` to before `past`, and 1 where it does not.
 fn gain_within(pass: plan::Pass, i: usize, first: usize, past: usize) -> u64
     ensures { result ≡ cond (leb first i && ltb i past) (residue pass.gain) 1 }
 {
-    if first <= i {
-        if i < past {
-            return word::residue(pass.gain);
-        }
+    if (first..past).contains(&i) {
+        word::residue(pass.gain)
+    } else {
+        1
     }
-    1
 }
 
 // The product of the gains of `count` passes of a plan, from pass `first` on. The loop goes over all four: the compiler
@@ -88,11 +82,9 @@ pub fn gains_from(plan: plan::Plan, first: usize, count: usize) -> u64
     ensures { result ≡ gains_from (filters_of plan) first count }
 {
     let mut product = 1;
-    let mut i = 0;
-    while i < 4 {
+    for i in 0..4 {
         let gain = gain_within(plan.passes[i], i, first, first + count);
         product = word::mul(product, gain);
-        i += 1;
     }
     product
 }
@@ -133,14 +125,12 @@ fn less_feedback(
     ensures { result ≡ feedback_from taken coefficients.now order word forth back buffer.now place }
 {
     let mut sum = word;
-    let mut tap = taken;
-    while tap < plan::ORDER_LIMIT {
+    for tap in taken..plan::ORDER_LIMIT {
         let distance = tap + 1;
         if distance <= order {
             let before = place + distance * back - distance * forth;
             sum = word::sub(sum, word::mul(coefficients[tap], buffer[before]));
         }
-        tap = distance;
     }
     sum
 }
@@ -192,12 +182,9 @@ fn outputs_at_place(
     requires { (order ≤ order_limit) × PlacesFit (length buffer.old) place forth back apart lines order }
     ensures { buffer.new ≡ outputs_at (filter_by 1 order coefficients.now) forth back apart place lines buffer.old }
 {
-    let mut line = 0;
-    while line < lines {
+    for line in 0..lines {
         let here = place + line * apart;
-        let output = output_at(buffer, here, forth, back, coefficients, order);
-        buffer[here] = output;
-        line += 1;
+        buffer[here] = output_at(buffer, here, forth, back, coefficients, order);
     }
 }
 
@@ -217,15 +204,13 @@ fn outputs_at_two_places(
     ensures { buffer.new ≡ outputs_at_two (filter_by 1 order coefficients.now) forth back apart place lines buffer.old }
 {
     let own = *coefficients;
-    let mut line = 0;
-    while line < lines {
+    for line in 0..lines {
         let here = place + line * apart;
         let next = here + forth - back;
         let output = output_at(buffer, here, forth, back, &own, order);
         let later = next_output_at(buffer, next, forth, back, &own, order, output);
         buffer[here] = output;
         buffer[next] = later;
-        line += 1;
     }
 }
 
@@ -273,8 +258,7 @@ fn outputs_in_pairs(
     requires { (0 < order) × (order ≤ order_limit) × (0 < pairs → order ≤ time) × LinesFit (length buffer.old) lines (time + 2 * pairs) × Apart lines (time + 2 * pairs) }
     ensures { buffer.new ≡ filter_in_place lines (filter_by 1 order coefficients.now) time (2 * pairs) buffer.old }
 {
-    let mut pair = 0;
-    while pair < pairs {
+    for pair in 0..pairs {
         let place = lead_place(lines, time + 2 * pair);
         outputs_at_two_places(
             buffer,
@@ -286,7 +270,6 @@ fn outputs_in_pairs(
             coefficients,
             order,
         );
-        pair += 1;
     }
 }
 
@@ -303,11 +286,9 @@ fn outputs_short_of_taps(
     requires { (order ≤ order_limit) × (places ≤ order - history) × LinesFit (length buffer.old) lines (history + places) }
     ensures { buffer.new ≡ filter_in_place lines (filter_by 1 order coefficients.now) history places buffer.old }
 {
-    let mut done = 0;
-    while done < places {
+    for done in 0..places {
         let time = history + done;
         outputs_at_time(buffer, lines, time, coefficients, time);
-        done += 1;
     }
 }
 
@@ -324,7 +305,7 @@ fn filter_lines(
     requires { (0 < order) × (order ≤ order_limit) × LinesFit (length buffer.old) lines (history + places) × Apart lines (history + places) }
     ensures { buffer.new ≡ filter_in_place lines (filter_by 1 order coefficients.now) history places buffer.old }
 {
-    let lead = number::lesser(places, order - number::lesser(order, history));
+    let lead = places.min(order.saturating_sub(history));
     outputs_short_of_taps(buffer, lines, history, lead, coefficients, order);
     let pairs = (places - lead) / 2;
     outputs_in_pairs(buffer, lines, history + lead, pairs, coefficients, order);
@@ -359,12 +340,8 @@ fn scale_row(buffer: &mut [u64], start: usize, width: usize, gain: u64)
     requires { start + width ≤ length buffer.old }
     ensures { buffer.new ≡ row_written start (scaled_from gain buffer.old start 1) width buffer.old }
 {
-    let mut column = 0;
-    while column < width {
-        let place = start + column;
-        let word = word::mul(gain, buffer[place]);
-        buffer[place] = word;
-        column += 1;
+    for word in &mut buffer[start..start + width] {
+        *word = word::mul(gain, *word);
     }
 }
 
@@ -376,11 +353,9 @@ fn scale_window(buffer: &mut [u64], window: Window, gain: u64)
     if gain == 1 {
         return;
     }
-    let mut row = 0;
-    while row < window.height {
+    for row in 0..window.height {
         let start = (window.top + row) * window.stride + window.left;
         scale_row(buffer, start, window.width, gain);
-        row += 1;
     }
 }
 

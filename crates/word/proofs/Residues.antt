@@ -68,10 +68,10 @@ pub residue_not_negative : (n : ℕ) → n < 2 ^ 63 → n ≡ residue (pos n)
 unfolding residue modulus
 residue_not_negative n h = sym (mod-eq_of_lt (omega arith))
 
-pub residue_negative : (n : ℕ) → n < 2 ^ 63 → 18446744073709551615 - n ≡ residue (negsuc n)
+pub residue_negative : (n : ℕ) → n < 2 ^ 63 → 2 ^ 64 - suc n ≡ residue (negsuc n)
 unfolding residue modulus minus_one
 residue_negative n h =
     sym
-    (ap (◌% 2 ^ 64) {y = (18446744073709551615 - n) + 2 ^ 64 * n} (omega arith)
-    ∙ add-mul-mod_self_left (18446744073709551615 - n) (2 ^ 64) n
+    (ap (◌% 2 ^ 64) {y = (2 ^ 64 - suc n) + 2 ^ 64 * n} (omega arith)
+    ∙ add-mul-mod_self_left (2 ^ 64 - suc n) (2 ^ 64) n
     ∙ mod-eq_of_lt (omega arith))

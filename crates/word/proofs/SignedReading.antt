@@ -1,5 +1,5 @@
 -- A word read as signed: the one number of signed 64 bits with that residue. Assumes nothing.
-use Rattle.std.proofs.Common.{◌≡◌, ℕ, suc, ◌-◌, ◌^◌, ◌<◌, true, ℤ, pos, negsuc, neg_ℤ, sym, refl, ap, ◌∙◌, arith, ltb-true}
+use Rattle.std.proofs.Common.{◌≡◌, ℕ, ◌-◌, ◌^◌, ◌<◌, true, ℤ, pos, negsuc, neg_ℤ, sym, refl, ap, ◌∙◌, arith, ltb-true}
 use Rattle.number.specs.SignedBits.{in_signed, twos_complement, signed_bits}
 use Rattle.number.proofs.SignedBits.{complement_kept, bits_of_complement, complement_of_bits}
 use Rattle.word.specs.Word.{residue, signed}
@@ -29,9 +29,7 @@ signed_last = refl
 -- The residue of a number of signed 64 bits is its bits.
 residue_bits : (z : ℤ) → in_signed 64 z ≡ true → residue z ≡ signed_bits 64 z
 residue_bits (pos n) kept = sym (residue_not_negative n (ltb-true n (2 ^ 63) kept))
-residue_bits (negsuc n) kept =
-    let h = ltb-true n (2 ^ 63) kept in
-    let e : 18446744073709551615 - n ≡ 2 ^ 64 - suc n = omega arith in sym (residue_negative n h) ∙ e
+residue_bits (negsuc n) kept = sym (residue_negative n (ltb-true n (2 ^ 63) kept))
 
 signed_in_range : (word : ℕ) → word < 2 ^ 64 → in_signed 64 (signed word) ≡ true
 unfolding signed

@@ -1,4 +1,5 @@
 // Words of 64 bits modulo 2^64: sum, difference, product, the residues of signed numbers, and words read as signed.
+// Each is one method of the standard library; its contract here is in the words ⊕, ⊖, ⊗, `residue` and `signed`.
 #![tactic(auto)]
 
 ghost use Rattle.std.specs.Prelude.{◌≡◌};
@@ -8,54 +9,40 @@ ghost use Rattle.word.specs.Word.{◌⊕◌, ◌⊖◌, ◌⊗◌, residue, sign
 pub fn add(a: u64, b: u64) -> u64
     ensures { result ≡ a ⊕ b }
 {
-    std::num::wrapping_add_u64(a, b)
+    a.wrapping_add(b)
 }
 
 // a - b modulo 2^64.
 pub fn sub(a: u64, b: u64) -> u64
     ensures { result ≡ a ⊖ b }
 {
-    std::num::wrapping_sub_u64(a, b)
+    a.wrapping_sub(b)
 }
 
-// a * b modulo 2^64, from halves of 32 bits: the cross products count 2^32 times, and the product of the upper halves
-// not at all. It compiles to one multiply instruction.
+// a * b modulo 2^64.
 pub fn mul(a: u64, b: u64) -> u64
     ensures { result ≡ a ⊗ b }
 {
-    let a_low = a % 4294967296;
-    let a_high = a / 4294967296;
-    let b_low = b % 4294967296;
-    let b_high = b / 4294967296;
-    let cross = std::num::wrapping_add_u64(a_low * b_high, b_low * a_high);
-    std::num::wrapping_add_u64(cross << 32, a_low * b_low)
+    a.wrapping_mul(b)
 }
 
 // The residue of a signed number: a gain, a coefficient, or a height made wider.
 pub fn residue(value: i64) -> u64
     ensures { result ≡ residue value }
 {
-    if value < 0 {
-        18446744073709551615 - (-1 - value) as u64
-    } else {
-        value as u64
-    }
+    value.cast_unsigned()
 }
 
 // The residue of a height.
 pub fn residue_of_height(height: i32) -> u64
     ensures { result ≡ residue height }
 {
-    residue(height as i64)
+    residue(i64::from(height))
 }
 
-// A word read as a signed number, two's complement. It compiles to nothing.
+// A word read as a signed number, two's complement.
 pub fn signed(word: u64) -> i64
     ensures { result ≡ signed word }
 {
-    if word < 9223372036854775808 {
-        word as i64
-    } else {
-        -1 - (18446744073709551615 - word) as i64
-    }
+    word.cast_signed()
 }

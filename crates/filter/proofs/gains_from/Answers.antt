@@ -11,20 +11,18 @@ use Rattle.filter.proofs.gains_from.Goals as goal
 pub loop-i-init : goal.loop-i-init
 loop-i-init c =
     let none : min (0 - c.args.first) c.args.count ≡ 0 = omega arith in
-    (omega arith, rw none (sym (gains_from_none _ _)))
+    rw none (sym (gains_from_none _ _))
 
 pub loop-i-preserved : goal.loop-i-preserved
 unfolding filter_of
 loop-i-preserved c =
-    let a = c.args in (
-      omega arith,
-      c.mul-product.ensures
-          ∙ ap₂ ◌⊗◌ c.loop-i.invariant.1 c.gain_within-gain.ensures
-          ∙ gains_on (filters_of a.plan) a.first a.count c.loop-i.i,
-    )
+    let a = c.args in
+    c.mul-product.ensures
+    ∙ ap₂ ◌⊗◌ c.loop-i.invariant c.gain_within-gain.ensures
+    ∙ gains_on (filters_of a.plan) a.first a.count c.loop-i.i
 
 pub returns : goal.returns
 returns c =
     let a = c.args in
     let e : min (c.loop-i.i - a.first) a.count ≡ a.count = omega (arith, c.requires) in
-    rw e at c.loop-i.invariant.1
+    rw e at c.loop-i.invariant

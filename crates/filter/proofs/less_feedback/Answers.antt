@@ -6,7 +6,7 @@ use lib.ListN.{length}
 use Rattle.filter.specs.Kernel.{TapsFit}
 use Rattle.filter.proofs.Turns.{taps_fit, taps_none, tap_taken, tap_left}
 use Rattle.filter.proofs.less_feedback.Goals as goal
-use Rattle.filter.proofs.less_feedback.Goals.{Then-distance-order}
+use Rattle.filter.proofs.less_feedback.Goals.{Then-distance-order, then-distance-order, else-distance-order}
 
 -- The word of this turn's tap is in the buffer.
 tap_fits : (c : Then-distance-order)
@@ -16,7 +16,7 @@ tap_fits c =
     taps_fit c.requires.2 (c.loop-tap.tap + 1) (omega arith)
 
 pub loop-tap-init : goal.loop-tap-init
-loop-tap-init c = (omega arith, omega arith, taps_none _ _ _ _ _ _ _ _)
+loop-tap-init c = taps_none _ _ _ _ _ _ _ _
 
 pub overflow_mul-before : goal.overflow_mul-before
 overflow_mul-before c =
@@ -42,20 +42,19 @@ pub bounds-buffer-before : goal.bounds-buffer-before
 bounds-buffer-before c =
     let h = tap_fits (goal.at.bounds-buffer-before c).Then-distance-order in omega arith
 
-pub loop-tap-preserved-then-distance-order : goal.loop-tap-preserved-then-distance-order
-loop-tap-preserved-then-distance-order c = (
-  omega arith,
-  omega arith,
-  tap_taken _ _ _ _ _ _ _ _ c.loop-tap.tap _ _ _ (omega arith) (omega arith) c.loop-tap.invariant.2 c.mul.ensures
-      c.sub-sum.ensures,
-)
-
 pub loop-tap-preserved : goal.loop-tap-preserved
 loop-tap-preserved c =
-    (omega arith, omega arith, tap_left _ _ _ _ _ _ _ _ c.loop-tap.tap _ (omega arith) c.loop-tap.invariant.2)
+    elim c.if-distance-order.branch [
+      | then-distance-order w ↦
+          rw w.sum-is
+          (tap_taken _ _ _ _ _ _ _ _ c.loop-tap.tap _ _ _ (omega arith) (omega arith) c.loop-tap.invariant w.mul.ensures
+          w.sub-sum.ensures)
+      | else-distance-order w ↦
+          rw w.sum-is (tap_left _ _ _ _ _ _ _ _ c.loop-tap.tap _ (omega arith) c.loop-tap.invariant)
+    ]
 
 pub returns : goal.returns
 returns c =
     let z : min c.args.order c.loop-tap.tap ≡ c.args.order =
     omega arith in
-    rw z at c.loop-tap.invariant.2
+    rw z at c.loop-tap.invariant

@@ -16,7 +16,7 @@ here c = c.requires.1.high c.loop-line.line (omega arith)
 
 pub loop-line-init : goal.loop-line-init
 unfolding outputs_at
-loop-line-init c = (omega arith, refl, refl)
+loop-line-init c = (refl, refl)
 
 pub overflow_mul-here : goal.overflow_mul-here
 overflow_mul-here c = omega (arith, here (goal.at.overflow_mul-here c).In-loop-line)
@@ -24,9 +24,9 @@ overflow_mul-here c = omega (arith, here (goal.at.overflow_mul-here c).In-loop-l
 pub overflow_add-here : goal.overflow_add-here
 overflow_add-here c = omega (arith, here (goal.at.overflow_add-here c).In-loop-line)
 
-pub output_at-output-requires : goal.output_at-output-requires
-output_at-output-requires c =
-    let h = here (goal.at.output_at-output-requires c).In-loop-line in (omega arith, record { low = omega arith; high = omega arith })
+pub output_at-requires : goal.output_at-requires
+output_at-requires c =
+    let h = here (goal.at.output_at-requires c).In-loop-line in (omega arith, record { low = omega arith; high = omega arith })
 
 pub offset_bounds-buffer-here : goal.offset_bounds-buffer-here
 offset_bounds-buffer-here c = omega (arith, here (goal.at.offset_bounds-buffer-here c).In-loop-line)
@@ -36,12 +36,11 @@ bounds-buffer-here c = omega (arith, here (goal.at.bounds-buffer-here c).In-loop
 
 pub loop-line-preserved : goal.loop-line-preserved
 loop-line-preserved c = (
-  omega arith,
-  length-set c.loop-line.buffer _ _ ∙ c.loop-line.invariant.1,
-  line_more _ _ _ _ _ _ _ c.loop-line.invariant.2 c.output_at-output.ensures,
+  length-set c.loop-line.buffer _ _ ∙ c.loop-line.invariant.0,
+  line_more _ _ _ _ _ _ _ c.loop-line.invariant.1 c.output_at.ensures,
 )
 
 pub returns : goal.returns
 returns c =
     let e : c.loop-line.line ≡ c.args.lines = omega arith in
-    rw e at c.loop-line.invariant.2
+    rw e at c.loop-line.invariant.1

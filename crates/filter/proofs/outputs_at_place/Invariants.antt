@@ -1,6 +1,5 @@
 -- `outputs_at_place` has stored the outputs of the lines passed so far.
 use mathlib.Core.Path.{◌≡◌}
-use Prim.Native.Nat.{◌-◌, ◌≤◌}
 use lib.ListN.{length}
 use Rattle.filter.specs.FilterWords.{filter_by}
 use Rattle.filter.specs.Kernel.{outputs_at}
@@ -8,9 +7,5 @@ use Rattle.filter.proofs.outputs_at_place.Given as goal
 
 abbrev pub invariant-loop-line : goal.invariant-loop-line
 invariant-loop-line l =
-    (l.line ≤ l.lines)
-    × (length l.buffer ≡ length l.initial.buffer)
+    (length l.buffer ≡ length l.initial.buffer)
     × (l.buffer ≡ outputs_at (filter_by 1 l.order l.coefficients) l.forth l.back l.apart l.place l.line l.initial.buffer)
-
-abbrev pub decreases-loop-line : goal.decreases-loop-line
-decreases-loop-line l = l.lines - l.line

@@ -18,7 +18,7 @@ turn c =
 
 pub loop-line-init : goal.loop-line-init
 unfolding outputs_at
-loop-line-init c = (omega arith, refl, refl)
+loop-line-init c = (refl, refl)
 
 pub overflow_mul-here : goal.overflow_mul-here
 overflow_mul-here c = let h = turn (goal.at.overflow_mul-here c).In-loop-line in omega arith
@@ -62,14 +62,13 @@ bounds-buffer-next c =
 pub loop-line-preserved : goal.loop-line-preserved
 loop-line-preserved c =
     let h = turn (goal.at.loop-line-preserved c).In-loop-line in (
-      omega arith,
-      simp length-set c.loop-line.invariant.1,
+      simp length-set c.loop-line.invariant.0,
       line_two_more (filter_by 1 c.args.order c.args.coefficients.now) _ _ _ _ _ c.requires.2 c.loop-line.line
-          (omega arith) _ c.loop-line.invariant.2 (omega arith) c.output_at-output.ensures
+          (omega arith) _ c.loop-line.invariant.1 (omega arith) c.output_at-output.ensures
           c.next_output_at-later.ensures,
     )
 
 pub returns : goal.returns
 returns c =
     let e : c.loop-line.line ≡ c.args.lines = omega arith in
-    rw e at c.loop-line.invariant.2
+    rw e at c.loop-line.invariant.1

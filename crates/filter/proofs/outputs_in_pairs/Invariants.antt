@@ -1,6 +1,6 @@
 -- `outputs_in_pairs` has done the pairs of places passed so far of all lines.
 use mathlib.Core.Path.{◌≡◌}
-use Prim.Native.Nat.{◌-◌, ◌*◌, ◌≤◌}
+use Prim.Native.Nat.{◌*◌}
 use lib.ListN.{length}
 use Rattle.filter.specs.FilterWords.{filter_by}
 use Rattle.filter.specs.Kernel.{filter_in_place}
@@ -8,9 +8,5 @@ use Rattle.filter.proofs.outputs_in_pairs.Given as goal
 
 abbrev pub invariant-loop-pair : goal.invariant-loop-pair
 invariant-loop-pair l =
-    (l.pair ≤ l.pairs)
-    × (length l.buffer ≡ length l.initial.buffer)
+    (length l.buffer ≡ length l.initial.buffer)
     × (l.buffer ≡ filter_in_place l.lines (filter_by 1 l.order l.coefficients) l.time (2 * l.pair) l.initial.buffer)
-
-abbrev pub decreases-loop-pair : goal.decreases-loop-pair
-decreases-loop-pair l = l.pairs - l.pair

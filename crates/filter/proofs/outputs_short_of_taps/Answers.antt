@@ -9,14 +9,14 @@ use Rattle.filter.proofs.outputs_short_of_taps.Goals as goal
 
 pub loop-done-init : goal.loop-done-init
 unfolding filter_in_place
-loop-done-init c = (omega arith, refl, refl)
+loop-done-init c = (refl, refl)
 
 pub overflow_add-time : goal.overflow_add-time
 overflow_add-time c = omega (arith, c.requires.2.enough)
 
 pub outputs_at_time-requires : goal.outputs_at_time-requires
 outputs_at_time-requires c =
-    let e : length c.loop-done.buffer ≡ length c.args.buffer.now = c.loop-done.invariant.1 in (
+    let e : length c.loop-done.buffer ≡ length c.args.buffer.now = c.loop-done.invariant.0 in (
       omega arith,
       omega arith,
       rw e (lines_fit_fewer c.requires.2 (c.args.history + c.loop-done.done + 1) (omega arith)),
@@ -27,12 +27,11 @@ loop-done-preserved c =
     let a = c.args in
     let time : ℕ = a.history + c.loop-done.done in
     let all_before : min a.order time ≡ time = omega arith in (
-      omega arith,
-      omega (arith, c.outputs_at_time.auto, c.loop-done.invariant.1),
-      place_more _ _ _ c.loop-done.done _ c.loop-done.buffer c.loop-done.invariant.2 (rw all_before c.outputs_at_time.ensures),
+      omega (arith, c.outputs_at_time.auto, c.loop-done.invariant.0),
+      place_more _ _ _ c.loop-done.done _ c.loop-done.buffer c.loop-done.invariant.1 (rw all_before c.outputs_at_time.ensures),
     )
 
 pub returns : goal.returns
 returns c =
     let e : c.loop-done.done ≡ c.args.places = omega arith in
-    rw e at c.loop-done.invariant.2
+    rw e at c.loop-done.invariant.1

@@ -23,7 +23,7 @@ returns-then-gain-eq1 c =
     (sym (scale_unchanged c.args.window _ c.args.buffer.now (λ i. omega (arith, c.type_inv.buffer i))))
 
 pub loop-row-init : goal.loop-row-init
-loop-row-init c = (omega arith, refl, rectangle_none _ _ _ _)
+loop-row-init c = (refl, rectangle_none _ _ _ _)
 
 pub overflow_add-start : goal.overflow_add-start
 overflow_add-start c = omega (arith, (this_row (goal.at.overflow_add-start c).In-loop-row).0)
@@ -40,12 +40,11 @@ scale_row-requires c = omega (arith, (this_row (goal.at.scale_row-requires c).In
 
 pub loop-row-preserved : goal.loop-row-preserved
 loop-row-preserved c = (
-  omega arith,
-  omega (arith, c.scale_row.auto, c.loop-row.invariant.1),
-  scale_row _ c.args.window c.requires c.loop-row.row c.args.buffer.now c.loop-row.buffer c.loop-row.invariant.2 c.scale_row.ensures,
+  omega (arith, c.scale_row.auto, c.loop-row.invariant.0),
+  scale_row _ c.args.window c.requires c.loop-row.row c.args.buffer.now c.loop-row.buffer c.loop-row.invariant.1 c.scale_row.ensures,
 )
 
 pub returns : goal.returns
 returns c =
     let e : c.loop-row.row ≡ c.args.window.height = omega arith in
-    rw e at c.loop-row.invariant.2
+    rw e at c.loop-row.invariant.1

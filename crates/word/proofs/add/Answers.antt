@@ -1,7 +1,8 @@
 -- `word::add` is the sum of words.
-use Rattle.std.proofs.Common.{◌∙◌}
-use Rattle.word.proofs.Machine.{sum_is}
+use Rattle.std.proofs.Common.{refl}
+use Rattle.word.specs.Word.{◌⊕◌, modulus}
 use Rattle.word.proofs.add.Goals as goal
 
 pub returns : goal.returns
-returns c = c.wrapping_add_u64.ensures.value ∙ sum_is _ _
+unfolding ◌⊕◌ modulus
+returns c = refl
