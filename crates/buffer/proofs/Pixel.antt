@@ -5,6 +5,7 @@ use mathlib.Core.List.{List, map}
 use Prim.Native.Nat.{ℕ, ◌<◌, ◌^◌}
 use lib.IntN.{ℤ, pos, neg_ℤ}
 use lib.ListN.{get_or, get_or-map}
+use mir.ValLaws.{to_z-of_z}
 use Rattle.number.specs.Numbers.{row_major}
 use Rattle.number.proofs.SignedBits.{eq_z_true, eq_z_refl, eq_z_false}
 use Rattle.word.specs.Word.{residue}
@@ -27,6 +28,17 @@ reading_dropout height e = rw e
 pub reading_other : (height : ℤ) → is_dropout height ≡ false → reading height ≡ height
 unfolding reading
 reading_other height e = rw e
+
+pub pixel_dropout : (height : ℤ) → is_dropout height ≡ true → pixel height ≡ 0
+unfolding pixel
+pixel_dropout height e = ap residue (reading_dropout height e) ∙ residue_zero
+
+pub pixel_other : (height : ℤ) → is_dropout height ≡ false → pixel height ≡ residue height
+unfolding pixel
+pixel_other height e = ap residue (reading_other height e)
+
+-- What `read_pixel` needs: the two, at the height itself and not at its bits.
+pub ruleset pixels = (pixel_dropout, pixel_other, to_z-of_z)
 
 not_dropout : (height : ℤ) → (height ≡ neg_ℤ (pos 2147483648) → ⊥) → is_dropout height ≡ false
 unfolding is_dropout

@@ -1,23 +1,20 @@
--- `copy_words` has copied the words passed so far.
-use mathlib.Core.Path.{◌≡◌, refl, ◌∙◌}
+-- `copy_words` puts the row in at once.
+use mathlib.Core.Path.{◌∙◌, ap}
+use Prim.Native.Nat.{◌+◌}
 use native.Mathlib.Omega.{arith}
-use lib.ListN.{length-set}
+use lib.ListN.{length}
+use Rattle.std.proofs.lemmas.List.Edits.{get_or-between, length-between}
 use Rattle.buffer.specs.Copies.{words_from}
-use Rattle.buffer.proofs.Copies.{row_none, row_more}
+use Rattle.buffer.specs.Lists.{word_at}
+use Rattle.buffer.proofs.Copies.{row_put}
 use Rattle.buffer.proofs.copy_words.Goals as goal
-
-pub loop-i-init : goal.loop-i-init
-loop-i-init c = (omega arith, refl, row_none _ (words_from c.args.from.now c.args.from_start) _)
-
-pub loop-i-preserved : goal.loop-i-preserved
-loop-i-preserved c =
-    let words = words_from c.args.from.now c.args.from_start in (
-      omega arith,
-      length-set c.loop-i.to _ _ ∙ c.loop-i.invariant.1,
-      row_more _ words c.loop-i.i _ c.loop-i.to _ c.loop-i.invariant.2 refl,
-    )
 
 pub returns : goal.returns
 returns c =
-    let e : c.loop-i.i ≡ c.args.count = omega arith in
-    rw e at c.loop-i.invariant.2
+    let a = c.args in
+    let copied = c.copy_from_slice.ensures.after in
+    row_put a.to_start a.count (words_from a.from.now a.from_start) a.to.now _ (omega arith)
+    (ap length copied ∙ length-between a.from.now a.from_start (a.from_start + a.count) (omega arith) ∙ omega arith)
+    (λ i h.
+    ap (λ l. word_at l i) copied
+    ∙ get_or-between a.from.now a.from_start (a.from_start + a.count) i 0 (omega arith))
