@@ -3,6 +3,7 @@ use mathlib.Core.Path.{◌≡◌, refl, sym, ap, ◌∙◌}
 use mathlib.Core.Logic.{◌⊎◌, inl, inr, ⊎_elim}
 use mathlib.Core.Bool.{Bool, true, false, not, cond}
 use mathlib.Core.List.{List}
+use Rattle.std.specs.Prelude.{Option, None, Some, Ok}
 use Prim.Native.Nat.{ℕ, ◌+◌, ◌<◌}
 use native.Mathlib.Omega.{arith}
 use lib.Dec.{ltb, eqb}
@@ -20,10 +21,8 @@ use Rattle.report.specs.Report.{progress_of, report}
 use Rattle.report.proofs.Claims.{found_ready, reported}
 use Rattle.turns.specs.declared.Job.{Job}
 use Rattle.turns.specs.declared.Turn.{Turn}
-use Rattle.turns.specs.declared.Turn.TheVariants.{Named, EveryJobDone}
-use Rattle.turns.specs.declared.DispatchAnswer.TheVariants.{Made}
 use Rattle.turns.specs.Jobs.{job_at, grid_of, jobs_kept, well_placed, first_misplaced, broken_place, first_broken_place}
-use Rattle.turns.specs.Turn.{marks_from, marked_in, job_done, passed_over, turn}
+use Rattle.turns.specs.Turn.{marks_from, marked_in, job_done, passed_over, turn_to, turn}
 use Rattle.turns.specs.Dispatch.{TurnValues, zero_turn, turn_values, dispatch_given, dispatch_rows, dispatch}
 use Rattle.turns.specs.Answers.{LetThrough, LetThroughIsAccepted, Refuses, RefusesAtTheLeast, naming, NoneIfAllDone, WellNamed, NamesWell}
 use Rattle.turns.proofs.Least.{clash, least_below_law, least_holds, least_bound}
@@ -34,7 +33,7 @@ use Rattle.turns.proofs.Turns.{round_in, come_before, passed_done, Found, named_
 
 module _ (jobs : List Job) (last : ℕ) (marks : List ℕ) where
   -- The turn is answered on what the refusals let through,
-  pub let_through_made : LetThrough jobs marks → dispatch jobs last marks ≡ dispatch_given (Made (turn jobs last marks))
+  pub let_through_made : LetThrough jobs marks → dispatch jobs last marks ≡ dispatch_given (Ok (turn jobs last marks))
   unfolding dispatch dispatch_rows
   let_through_made a =
       let p = let_through_passes jobs marks a in
@@ -137,17 +136,17 @@ refuses_at_the_least = least_refused
 -- ---- what is named
 
 -- The values of a turn tell which it is.
-turn_of_values : TurnValues → Turn
-turn_of_values values = cond (eqb values.named 1) (Named values.job values.task values.block) EveryJobDone
+turn_of_values : TurnValues → Option Turn
+turn_of_values values = cond (eqb values.named 1) (Some (turn_to values.job values.task values.block)) None
 
-values_back : (found : Turn) → turn_of_values (turn_values found) ≡ found
+values_back : (found : Option Turn) → turn_of_values (turn_values found) ≡ found
 unfolding turn_of_values
-values_back (Named i t k) = refl
-values_back EveryJobDone = refl
+values_back (Some found) = refl
+values_back None = refl
 
 module _ (jobs : List Job) (last : ℕ) (marks : List ℕ) where
   -- An answer with a turn is accepted, and has the turn.
-  pub made_turn : (found : Turn) → dispatch jobs last marks ≡ dispatch_given (Made found)
+  pub made_turn : (found : Option Turn) → dispatch jobs last marks ≡ dispatch_given (Ok found)
       → LetThrough jobs marks × (turn jobs last marks ≡ found)
   made_turn found e =
       let a = accepted_let_through jobs last marks (ap (λ (g : Given TurnValues). g.answer) e) in (
@@ -163,11 +162,11 @@ module _ (jobs : List Job) (last : ℕ) (marks : List ℕ) where
   unfolding dispatch
   names_or_none = by (first_due (dispatch_rows jobs marks)) (turn jobs last marks)
     where
-      by : (answer : Answer) (found : Turn)
+      by : (answer : Answer) (found : Option Turn)
           → ((i : ℕ) × (t : ℕ) × (k : ℕ) × (given answer (turn_values found) zero_turn ≡ naming i t k))
           ⊎ ((given answer (turn_values found) zero_turn).value ≡ zero_turn)
-      by accepted (Named i t k) = inl (i, t, k, refl)
-      by accepted EveryJobDone = inr refl
+      by accepted (Some found) = inl (found.job, found.task, found.block, refl)
+      by accepted None = inr refl
       by (refused number place) found = inr refl
 
   -- The report on the marks of a job names its first ready task.
@@ -191,7 +190,7 @@ module _ (jobs : List Job) (last : ℕ) (marks : List ℕ) where
 
   named_well : (i t k : ℕ) → dispatch jobs last marks ≡ naming i t k → WellNamed jobs last marks i t k
   named_well i t k e =
-      let (a, is) = made_turn (Named i t k) e in
+      let (a, is) = made_turn (Some (turn_to i t k)) e in
       let f = named_found jobs last marks i t k is in
       let found_in = f.inside in
       let inside : i < length jobs = rw f.round (round_in jobs last (passed_over jobs last marks) (omega arith)) in
@@ -210,6 +209,6 @@ names_well = named_well
 
 pub none_if_all_done : NoneIfAllDone
 none_if_all_done jobs last marks a = (
-  λ e. none_all_done jobs last marks (made_turn jobs last marks EveryJobDone e).1,
-  λ all. let_through_made jobs last marks a ∙ ap (λ found. dispatch_given (Made found)) (all_done_none jobs last marks all),
+  λ e. none_all_done jobs last marks (made_turn jobs last marks None e).1,
+  λ all. let_through_made jobs last marks a ∙ ap (λ found. dispatch_given (Ok found)) (all_done_none jobs last marks all),
 )

@@ -3,6 +3,7 @@ use mathlib.Core.Path.{◌≡◌, refl, sym, ap, ◌∙◌}
 use mathlib.Core.Logic.{◌⊎◌, inl, inr, ⊎_elim, ◌≢◌}
 use mathlib.Core.Bool.{false}
 use mathlib.Core.List.{List}
+use Rattle.std.specs.Prelude.{Ok}
 use Prim.Native.Nat.{ℕ, zero, suc, ◌+◌, ◌-◌, ◌<◌, ◌≤◌}
 use native.Mathlib.Omega.{arith}
 use native.Mathlib.Decide.{ℕ_discrete}
@@ -10,7 +11,6 @@ use native.Mathlib.Nat.{eq-or-lt_of_le}
 use lib.ListN.{length}
 use Rattle.refusal.specs.Table.{Given}
 use Rattle.turns.specs.declared.Job.{Job}
-use Rattle.turns.specs.declared.DispatchAnswer.TheVariants.{Made}
 use Rattle.turns.specs.Jobs.{job_at}
 use Rattle.turns.specs.Turn.{job_done, going_round}
 use Rattle.turns.specs.Dispatch.{TurnValues, dispatch_given}
@@ -63,7 +63,7 @@ module _ (jobs : List Job) (first : ℕ) (marks_at : ℕ → List ℕ) (m i : �
         let last = last_before jobs first marks_at n in
         let w = waiting n s.from (omega (arith, s.upto)) s.unnamed in
         let (p, l, u, b, q) = names_upto jobs last (marks_at n) d s.round (rw s.at w.unmarked) in
-        by p l u b (let_through_made jobs last (marks_at n) w.taken ∙ ap (λ found. dispatch_given (Made found)) q)
+        by p l u b (let_through_made jobs last (marks_at n) w.taken ∙ ap (λ found. dispatch_given (Ok found)) q)
         (ℕ_discrete (going_round jobs last p) i)
       where
         by : (p : ℕ) → p ≤ d → (u b : ℕ)

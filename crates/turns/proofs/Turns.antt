@@ -4,6 +4,7 @@ use mathlib.Core.Path.{◌≡◌, refl, sym, ap, ◌∙◌}
 use mathlib.Core.Logic.{⊎_elim}
 use mathlib.Core.Bool.{Bool, true, false, not, ◌||◌}
 use mathlib.Core.List.{List}
+use Rattle.std.specs.Prelude.{None, Some}
 use Prim.Native.Nat.{ℕ, suc, ◌+◌, ◌-◌, ◌%◌, ◌<◌, ◌≤◌}
 use native.Mathlib.Omega.{arith}
 use native.Mathlib.Nat.{mod-lt, mod-eq_of_lt, add-mod_right, mod-add-mod}
@@ -23,9 +24,9 @@ use Rattle.report.specs.declared.Next.TheVariants.{Ready, Nothing}
 use Rattle.report.specs.Report.{first_ready}
 use Rattle.report.proofs.Claims.{none_all}
 use Rattle.turns.specs.declared.Job.{Job}
-use Rattle.turns.specs.declared.Turn.TheVariants.{Named, EveryJobDone}
+use Rattle.turns.specs.declared.Turn.{Turn}
 use Rattle.turns.specs.Jobs.{job_at, grid_of}
-use Rattle.turns.specs.Turn.{marks_from, marked_in, marked_if_exists, job_done, look_from, going_round, waits, passed_over, turn_with, turn_of, turn}
+use Rattle.turns.specs.Turn.{marks_from, marked_in, marked_if_exists, job_done, look_from, going_round, waits, passed_over, turn_to, turn_with, turn_of, turn}
 use Rattle.turns.specs.Answers.{DoneIfAllMarked, ComesBefore, between, behind, from_start, BeginsWithFirst}
 use Rattle.turns.proofs.Least.{clash, least_below_law, least_holds, least_none}
 
@@ -202,7 +203,7 @@ module _ (jobs : List Job) (last : ℕ) (marks : List ℕ) where
   turn_found l = rw lt-ltb
 
   -- where not, none is named.
-  pub turn_none : length jobs ≤ passed_over jobs last marks → turn jobs last marks ≡ EveryJobDone
+  pub turn_none : length jobs ≤ passed_over jobs last marks → turn jobs last marks ≡ None
   unfolding turn
   turn_none g = rw le-ltb
 
@@ -213,7 +214,7 @@ module _ (jobs : List Job) (last : ℕ) (marks : List ℕ) where
 
   -- Where the job d places on has unmarked tasks, it or one before it is named.
   pub names_upto : (d : ℕ) → d < length jobs → job_done (job_at jobs (going_round jobs last d)) marks ≡ false
-      → (w : ℕ) × (w ≤ d) × (t : ℕ) × (k : ℕ) × (turn jobs last marks ≡ Named (going_round jobs last w) t k)
+      → (w : ℕ) × (w ≤ d) × (t : ℕ) × (k : ℕ) × (turn jobs last marks ≡ Some (turn_to (going_round jobs last w) t k))
   names_upto d h e =
       let w = passed_over jobs last marks in
       let l : w ≤ d = ⊎_elim (λ (g : d < w). clash (passed_done d g) e) (λ (g : w ≤ d). g) (lt_or_ge d w) in
@@ -227,7 +228,7 @@ module _ (jobs : List Job) (last : ℕ) (marks : List ℕ) where
     pub unmarked : job_done (job_at jobs i) marks ≡ false
     pub first : first_ready (grid_of (job_at jobs i)) (marked_in (job_at jobs i) marks) ≡ Ready t k
 
-  pub named_found : (i t k : ℕ) → turn jobs last marks ≡ Named i t k → Found i t k
+  pub named_found : (i t k : ℕ) → turn jobs last marks ≡ Some (turn_to i t k) → Found i t k
   named_found i t k e =
       ⊎_elim (λ (l : passed_over jobs last marks < length jobs). by l _ refl (sym (turn_found l) ∙ e))
       (λ (g : length jobs ≤ passed_over jobs last marks).
@@ -238,16 +239,15 @@ module _ (jobs : List Job) (last : ℕ) (marks : List ℕ) where
     where
       by : passed_over jobs last marks < length jobs → (next : Next)
           → first_ready (grid_of (job_at jobs next_job)) (marked_in (job_at jobs next_job) marks) ≡ next
-          → turn_with next_job next ≡ Named i t k → Found i t k
+          → turn_with next_job next ≡ Some (turn_to i t k) → Found i t k
       by l Nothing q e = let z : ◌≡◌ {A = ℕ} 0 1 = cc in absurd (omega arith)
       by l (Ready u b) q e =
-          let x : next_job ≡ i = cc in
-          let y : u ≡ t = cc in
-          let z : b ≡ k = cc in
-          rw (← x, ← y, ← z) (record { inside = l; round = refl; unmarked = next_unmarked l; first = q })
+          let same : turn_to next_job u b ≡ turn_to i t k = cc in
+          rw (← ap (λ (found : Turn). found.job) same, ← ap (λ (found : Turn). found.task) same, ← ap (λ (found : Turn). found.block) same)
+          (record { inside = l; round = refl; unmarked = next_unmarked l; first = q })
 
   -- A turn that names none finds every job done,
-  pub none_all_done : turn jobs last marks ≡ EveryJobDone → (i : ℕ) → i < length jobs → job_done (job_at jobs i) marks ≡ true
+  pub none_all_done : turn jobs last marks ≡ None → (i : ℕ) → i < length jobs → job_done (job_at jobs i) marks ≡ true
   none_all_done e i h = by (job_done (job_at jobs i) marks) refl
     where
       by : (is : Bool) → job_done (job_at jobs i) marks ≡ is → is ≡ true
@@ -259,7 +259,7 @@ module _ (jobs : List Job) (last : ℕ) (marks : List ℕ) where
           absurd (omega arith)
 
   -- and one that finds every job done names none.
-  pub all_done_none : ((i : ℕ) → i < length jobs → job_done (job_at jobs i) marks ≡ true) → turn jobs last marks ≡ EveryJobDone
+  pub all_done_none : ((i : ℕ) → i < length jobs → job_done (job_at jobs i) marks ≡ true) → turn jobs last marks ≡ None
   unfolding passed_over
   all_done_none all =
       let e =

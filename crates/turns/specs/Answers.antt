@@ -1,5 +1,5 @@
 -- What is claimed of one call of the dispatcher.
-use Rattle.std.specs.Prelude.{◌≡◌, ◌⊎◌, ◌↔◌, ◌≢◌, true, false, List, ℕ, ◌+◌, ◌<◌, ◌≤◌, length}
+use Rattle.std.specs.Prelude.{◌≡◌, ◌⊎◌, ◌↔◌, ◌≢◌, true, false, List, ℕ, ◌+◌, ◌<◌, ◌≤◌, length, None, Some, Ok}
 use Rattle.refusal.specs.Refusals.{accepted, refused}
 use Rattle.refusal.specs.Table.{Given}
 use Rattle.grid.specs.Grid.{block_total}
@@ -9,10 +9,8 @@ use Rattle.tasks.specs.Tasks.{exists}
 use Rattle.tasks.specs.Marks.{mark_valid_at}
 use Rattle.report.specs.Report.{report}
 use Rattle.turns.specs.declared.Job.{Job}
-use Rattle.turns.specs.declared.Turn.TheVariants.{Named, EveryJobDone}
-use Rattle.turns.specs.declared.DispatchAnswer.TheVariants.{Made}
 use Rattle.turns.specs.Jobs.{job_limit, job_at, grid_of, sizes_kept, marks_end, overlap, holds_place}
-use Rattle.turns.specs.Turn.{marks_from, marked_in, ready_in, job_done, going_round}
+use Rattle.turns.specs.Turn.{marks_from, marked_in, ready_in, job_done, going_round, turn_to}
 use Rattle.turns.specs.Dispatch.{TurnValues, dispatch_given, dispatch}
 
 -- ---- refusals
@@ -88,11 +86,11 @@ DoneIfAllMarked =
 
 -- The answer that names task t of block k of job i,
 abbrev pub naming : (i t k : ℕ) → Given TurnValues
-naming i t k = dispatch_given (Made (Named i t k))
+naming i t k = dispatch_given (Ok (Some (turn_to i t k)))
 
 -- and the one that names none.
 abbrev pub naming_none : Given TurnValues
-naming_none = dispatch_given (Made EveryJobDone)
+naming_none = dispatch_given (Ok None)
 
 -- An accepted call names none exactly if every job is done; in an empty list that is always so.
 abbrev pub NoneIfAllDone : Type 0

@@ -1,6 +1,6 @@
 -- A turn: the next job after the one named last that has unmarked tasks, going round, with its first ready task. Document 02,
 -- CR 9.
-use Rattle.std.specs.Prelude.{Bool, not, ◌||◌, cond, List, ℕ, suc, ◌+◌, ◌%◌, ltb, length, drop}
+use Rattle.std.specs.Prelude.{Bool, not, ◌||◌, cond, List, ℕ, suc, ◌+◌, ◌%◌, ltb, length, drop, Option, None, Some}
 use Rattle.number.specs.Numbers.{all_below}
 use Rattle.grid.specs.Grid.{block_total}
 use Rattle.tasks.specs.Tasks.{exists, ready}
@@ -10,7 +10,6 @@ use Rattle.report.specs.declared.Next.TheVariants.{Ready, Nothing}
 use Rattle.report.specs.Report.{first_ready}
 use Rattle.turns.specs.declared.Job.{Job}
 use Rattle.turns.specs.declared.Turn.{Turn}
-use Rattle.turns.specs.declared.Turn.TheVariants.{Named, EveryJobDone}
 use Rattle.turns.specs.Jobs.{least_from, job_at, grid_of}
 
 -- A job's marks, which the report would be lent: the common list from the job's start on.
@@ -49,17 +48,21 @@ waits jobs last marks d = not (job_done (job_at jobs (going_round jobs last d)) 
 unfoldable pub passed_over : List Job → (last : ℕ) → List ℕ → ℕ
 passed_over jobs last marks = least_from (waits jobs last marks) 0 (length jobs)
 
+-- The turn of job i with task t of block k.
+abbrev pub turn_to : (i t k : ℕ) → Turn
+turn_to i t k = record { job = i; task = t; block = k }
+
 -- Job i with the ready task that is found for it; none where none is, which no job with unmarked tasks comes to.
-abbrev pub turn_with : ℕ → Next → Turn
-turn_with i (Ready t k) = Named i t k
-turn_with i Nothing = EveryJobDone
+abbrev pub turn_with : ℕ → Next → Option Turn
+turn_with i (Ready t k) = Some (turn_to i t k)
+turn_with i Nothing = None
 
 -- A job as job i of the list, with its first ready task as the report finds it.
-abbrev pub turn_of : (i : ℕ) → Job → List ℕ → Turn
+abbrev pub turn_of : (i : ℕ) → Job → List ℕ → Option Turn
 turn_of i job marks = turn_with i (first_ready (grid_of job) (marked_in job marks))
 
--- The turn after the job `last` was named.
-unfoldable pub turn : List Job → (last : ℕ) → List ℕ → Turn
+-- The turn after the job `last` was named; none where all jobs are done.
+unfoldable pub turn : List Job → (last : ℕ) → List ℕ → Option Turn
 turn jobs last marks =
     let i = going_round jobs last (passed_over jobs last marks) in
-    cond (ltb (passed_over jobs last marks) (length jobs)) (turn_of i (job_at jobs i) marks) EveryJobDone
+    cond (ltb (passed_over jobs last marks) (length jobs)) (turn_of i (job_at jobs i) marks) None
