@@ -5,9 +5,9 @@ use mathlib.Core.Bool.{true}
 use mathlib.Core.List.{List, [], ◌++◌}
 use Prim.Native.Nat.{ℕ, ◌≤◌}
 use native.Mathlib.Omega.{arith}
-use lib.ListN.{length, drop}
+use lib.ListN.{length, drop, length-map}
 use Rattle.refusal.specs.declared.Refusal.{Refusal}
-use Rattle.refusal.specs.Refusals.{refused_for, accepted}
+use Rattle.refusal.specs.Refusals.{Answer, refused_for, accepted}
 use Rattle.plan.specs.declared.Plan.{Plan}
 use Rattle.plan.specs.declared.Sizes.{Sizes}
 use Rattle.plan.specs.declared.PlanSizes.{PlanSizes}
@@ -19,7 +19,7 @@ use Rattle.plan.proofs.FirstTests.{suffices, lent_accepted, least_short_decides}
 use Rattle.plan.proofs.Known.{sizes_known, sizes_refused}
 use Rattle.filter.specs.PlanFilters.{word_map_of}
 use Rattle.serial.specs.Serial.{lent_to_passes, serial_answer, ShortPasses, result_words, passes_output, serial_words_output}
-use Rattle.serial.specs.Stages.{MapFits}
+use Rattle.serial.specs.Stages.{map_words, MapFits}
 
 -- ---- a map or an output that is too short
 
@@ -70,24 +70,28 @@ output_of_accepted plan X map_length output e = rw e
 
 -- ---- the ways out
 
-module _ (plan : Plan) (words output : List ℕ) (known : PlanSizes) (map_length : ℕ) (is_long : map_length ≡ length words)
-    (is : sizes_given known ≡ sizes_for plan (lent_to_passes map_length (length output))) where
+module _ {P : Type 0} (plan : Plan) (word : P → ℕ) (map_pixels : List P) (output : List ℕ) (known : PlanSizes)
+    (is : sizes_given known ≡ sizes_for plan (lent_to_passes (length map_pixels) (length output))) where
+  abbrev answer : Answer
+  answer = serial_answer plan (length map_pixels) (length output)
+
   pub passes_refused : (refusal : Refusal) → known ≡ Refused refusal
-      → (refused_for refusal ≡ serial_answer plan (length words) (length output))
-      × (output ≡ serial_words_output plan words output)
+      → (refused_for refusal ≡ answer) × (output ≡ serial_words_output plan (map_words word map_pixels) output)
   unfolding serial_answer passes_output
   passes_refused refusal e =
-      let refuses = rw is_long at (sizes_refused plan (lent_to_passes map_length (length output)) known is refusal e) in
-      (refuses, rw (← refuses))
+      let refuses = sizes_refused plan (lent_to_passes (length map_pixels) (length output)) known is refusal e in
+      (refuses, rw (length-map, ← refuses))
 
   module _ (sizes : Sizes) (e : known ≡ Known sizes) where
-    accepts : serial_answer plan (length words) (length output) ≡ accepted
+    accepts : answer ≡ accepted
     unfolding serial_answer
-    accepts = rw is_long at (sizes_known plan (lent_to_passes map_length (length output)) known is sizes e).0
+    accepts = (sizes_known plan (lent_to_passes (length map_pixels) (length output)) known is sizes e).0
 
-    pub map_fits : MapFits plan (length words) (length output)
-    map_fits = accepted_fits plan (length words) (length output) accepts
+    pub map_fits : MapFits plan (length map_pixels) (length output)
+    map_fits = accepted_fits plan (length map_pixels) (length output) accepts
 
-    pub passes_accepted : (after : List ℕ) → after ≡ result_words plan (word_map_of plan words) ++ drop (needed_pixels plan) output
-        → (accepted ≡ serial_answer plan (length words) (length output)) × (after ≡ serial_words_output plan words output)
-    passes_accepted after is = (sym accepts, is ∙ output_of_accepted plan _ (length words) output accepts)
+    pub passes_accepted : (after : List ℕ)
+        → after ≡ result_words plan (word_map_of plan (map_words word map_pixels)) ++ drop (needed_pixels plan) output
+        → (accepted ≡ answer) × (after ≡ serial_words_output plan (map_words word map_pixels) output)
+    passes_accepted after is =
+        (sym accepts, is ∙ rw length-map (output_of_accepted plan _ (length map_pixels) output accepts))

@@ -11,6 +11,7 @@ use Rattle.plan.specs.declared.Plan.{Plan}
 use Rattle.plan.specs.Rules.{keeps_rules}
 use Rattle.plan.specs.Sizes.{needed_pixels}
 use Rattle.plan.proofs.Record.{rules}
+use Rattle.plan.proofs.Needed.{bounds}
 use Rattle.axis.specs.Axis.{Axis, columns, rows, Direction, forward, backward, axis_of, direction_of}
 use Rattle.filter.specs.declared.FilterWords.{FilterWords}
 use Rattle.filter.specs.FilterWords.{filter_with, gains_first_words}
@@ -70,11 +71,13 @@ band_fits plan n e counted kept is_pass long =
       output_long = long;
     })
 
--- and have no more pixels than it.
+-- and have no more pixels than it, which are few.
 pub band_in_map : (plan : Plan) (n : ℕ) {band : Band} → band ≡ band_of plan n → n < band_count plan
-    → band.top * plan.grid.columns + band.height * plan.grid.columns ≤ needed_pixels plan
-band_in_map plan n e counted =
-    rw e (rows_in_map plan _ _ (extent_inside plan.grid.rows band_rows n counted))
+    → keeps_rules plan ≡ true
+    → (band.top * plan.grid.columns + band.height * plan.grid.columns ≤ needed_pixels plan) × (needed_pixels plan ≤ 16777216)
+band_in_map plan n e counted kept =
+    rw e
+    (rows_in_map plan _ _ (extent_inside plan.grid.rows band_rows n counted), (bounds plan kept).pixels_high)
 
 -- ---- passes over rows
 

@@ -1,24 +1,20 @@
 -- Inner: what the steps of the serial passes require, and the folds that they are.
-use Rattle.std.specs.Prelude.{◌≡◌, true, List, map, ℕ, zero, suc, ◌+◌, ◌-◌, ◌*◌, ◌<◌, ◌≤◌, ℤ}
+use Rattle.std.specs.Prelude.{◌≡◌, true, List, map, ℕ, zero, suc, ◌+◌, ◌-◌, ◌*◌, ◌<◌, ◌≤◌}
 use Rattle.grid.specs.Grid.{block_count, block_extent}
 use Rattle.plan.specs.declared.Plan.{Plan}
 use Rattle.plan.specs.Rules.{order_limit, keeps_rules}
 use Rattle.plan.specs.Sizes.{needed_pixels}
 use Rattle.axis.specs.Axis.{Axis, columns, rows, Direction, forward, backward, axis_of, direction_of}
 use Rattle.filter.specs.declared.Window.{Window}
-use Rattle.buffer.specs.Pixel.{pixel}
 use Rattle.buffer.specs.Copies.{words_from}
 use Rattle.buffer.specs.Written.{row_written}
 use Rattle.filter.specs.FilterWords.{gains_first_filters}
 use Rattle.filter.specs.Windows.{window_pass}
 use Rattle.serial.specs.declared.Band.{Band}
-use Rattle.serial.specs.declared.Source.{Source}
-use Rattle.serial.specs.declared.Source.TheVariants.{Heights, Words}
 
--- The words of a map, as the passes take them: of heights the pixels, of words these as they are.
-abbrev pub map_words : Source → (heights : List ℤ) → (words : List ℕ) → List ℕ
-map_words Heights heights words = map pixel heights
-map_words Words heights words = words
+-- The words of a map, as the passes take them: the word of each pixel.
+abbrev pub map_words : {P : Type 0} → (word : P → ℕ) → (map_pixels : List P) → List ℕ
+map_words word map_pixels = map word map_pixels
 
 -- The output with so many words of the map read into it from a place on.
 abbrev pub words_read : (from count : ℕ) → (words output : List ℕ) → List ℕ

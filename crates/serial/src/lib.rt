@@ -2,11 +2,12 @@
 // top, and up from the bottom with right and left behind it.
 #![tactic(auto)]
 
-ghost use Rattle.std.specs.Prelude.{◌≡◌, true, ◌++◌, ◌+◌, ◌<◌, ◌≤◌, length, drop};
+ghost use Rattle.std.specs.Prelude.{◌≡◌, true, ◌++◌, ℕ, ◌+◌, ◌<◌, ◌≤◌, length, drop};
 ghost use Rattle.refusal.specs.Table.{answer_of};
 ghost use Rattle.plan.specs.Rules.{keeps_rules};
 ghost use Rattle.plan.specs.Sizes.{needed_pixels};
 ghost use Rattle.axis.specs.Axis.{axis_of, direction_of};
+ghost use Rattle.buffer.specs.Pixel.{pixel};
 ghost use Rattle.filter.specs.PlanFilters.{word_map_of};
 ghost use Rattle.serial.specs.Serial.{serial_answer, result_words, serial_output, serial_words_output};
 ghost use Rattle.serial.specs.Stages.{map_words, words_read, MapFits, RowsFit, BandFits, history_rows, rows_passed, band_count, band_of, band_passed, bands_read_down, bands_finished};
@@ -28,12 +29,30 @@ struct Band {
     height: usize,
 }
 
-// What a lent map is of: heights, which the pixel reader makes words of, or words. A function that takes both lists and a
-// source reads the one of that source.
-#[derive(Clone, Copy)]
-enum Source {
-    Heights,
-    Words,
+// A pixel of a lent map: a height, which the pixel reader makes a word of, or a word as it is.
+trait Pixel {
+    ghost word: { Self → ℕ };
+
+    // The words of so many pixels, read into the output from the place on where they stand in the map.
+    fn read_words(map: &[Self], output: &mut [u64], from: usize, count: usize)
+        requires { (from + count ≤ length map.now) × (from + count ≤ length output.old) }
+        ensures { output.new ≡ words_read from count (map_words word map.now) output.old };
+}
+
+impl Pixel for i32 {
+    ghost word = { pixel };
+
+    fn read_words(map: &[i32], output: &mut [u64], from: usize, count: usize) {
+        buffer::read_heights(map, from, output, from, count);
+    }
+}
+
+impl Pixel for u64 {
+    ghost word = { λ w. w };
+
+    fn read_words(map: &[u64], output: &mut [u64], from: usize, count: usize) {
+        buffer::copy_words(map, from, output, from, count);
+    }
 }
 
 // The passes down, up, right and left over a map of heights: the first rows × columns words of the output are their
@@ -42,8 +61,7 @@ pub fn serial_passes(plan: Plan, map: &[i32], output: &mut [u64]) -> Outcome
     ensures answer { answer_of result ≡ serial_answer plan (length map.now) (length output.old) }
     ensures result { output.new ≡ serial_output plan map.now output.old }
 {
-    let no_words = [0; 1];
-    run_passes(plan, Source::Heights, map, &no_words, output)
+    run_passes(plan, map, output)
 }
 
 // The same over a map of words, none of which is taken for a dropout: sums and differences of maps, or an output.
@@ -51,53 +69,35 @@ pub fn serial_words(plan: Plan, map: &[u64], output: &mut [u64]) -> Outcome
     ensures answer { answer_of result ≡ serial_answer plan (length map.now) (length output.old) }
     ensures result { output.new ≡ serial_words_output plan map.now output.old }
 {
-    let no_heights = [0; 1];
-    run_passes(plan, Source::Words, &no_heights, map, output)
+    run_passes(plan, map, output)
 }
 
 // The call over a map of either kind.
-fn run_passes(
-    plan: Plan,
-    source: Source,
-    heights: &[i32],
-    words: &[u64],
-    output: &mut [u64],
-) -> Outcome
-    ensures answer { answer_of result ≡ serial_answer plan (length (map_words source heights.now words.now)) (length output.old) }
-    ensures result { output.new ≡ serial_words_output plan (map_words source heights.now words.now) output.old }
+fn run_passes<P: Pixel>(plan: Plan, map: &[P], output: &mut [u64]) -> Outcome
+    ensures answer { answer_of result ≡ serial_answer plan (length map.now) (length output.old) }
+    ensures result { output.new ≡ serial_words_output plan (map_words P.word map.now) output.old }
 {
     let lent = Lengths {
         of7: BufferOf7::NoneOf7,
         strips: Length::NotLent,
-        map: Length::Of(map_length(source, heights, words)),
+        map: Length::Of(map.len()),
         output: Length::Of(output.len()),
     };
-    let known = plan.sizes_for(lent);
-    match known {
+    match plan.sizes_for(lent) {
         PlanSizes::Refused(refusal) => Outcome::Refused(refusal),
         PlanSizes::Known(_) => {
-            filter_map(plan, source, heights, words, output);
+            filter_map(plan, map, output);
             Outcome::Accepted
         }
     }
 }
 
-// How many places the map of a source has.
-fn map_length(source: Source, heights: &[i32], words: &[u64]) -> usize
-    ensures { result ≡ length (map_words source heights.now words.now) }
-{
-    match source {
-        Source::Heights => heights.len(),
-        Source::Words => words.len(),
-    }
-}
-
 // The passes over a map that fits.
-fn filter_map(plan: Plan, source: Source, heights: &[i32], words: &[u64], output: &mut [u64])
-    requires { MapFits plan (length (map_words source heights.now words.now)) (length output.old) }
-    ensures { output.new ≡ result_words plan (word_map_of plan (map_words source heights.now words.now)) ++ drop (needed_pixels plan) output.old }
+fn filter_map<P: Pixel>(plan: Plan, map: &[P], output: &mut [u64])
+    requires { MapFits plan (length map.now) (length output.old) }
+    ensures { output.new ≡ result_words plan (word_map_of plan (map_words P.word map.now)) ++ drop (needed_pixels plan) output.old }
 {
-    read_down(plan, source, heights, words, output);
+    read_down(plan, map, output);
     finish_up(plan, output);
 }
 
@@ -125,66 +125,45 @@ fn band_of(plan: Plan, band: usize) -> Band
 }
 
 // The map read and the pass down over it, band by band from the top.
-fn read_down(plan: Plan, source: Source, heights: &[i32], words: &[u64], output: &mut [u64])
-    requires { MapFits plan (length (map_words source heights.now words.now)) (length output.old) }
-    ensures { output.new ≡ bands_read_down plan (map_words source heights.now words.now) (band_count plan) output.old }
+fn read_down<P: Pixel>(plan: Plan, map: &[P], output: &mut [u64])
+    requires { MapFits plan (length map.now) (length output.old) }
+    ensures { output.new ≡ bands_read_down plan (map_words P.word map.now) (band_count plan) output.old }
 {
-    let bands = band_count(plan);
-    let mut band = 0;
-    while band < bands {
+    for band in 0..band_count(plan) {
         let at = band_of(plan, band);
         let from = at.top * plan.grid.columns;
         let count = at.height * plan.grid.columns;
-        read_words(source, heights, words, output, from, count);
-        pass_over_rows(plan, output, at.top, at.height, 0);
-        band += 1;
+        P::read_words(map, output, from, count);
+        pass_over_rows(plan, output, at, 0);
     }
 }
 
-// So many words of the map, read into the output from a place on.
-fn read_words(
-    source: Source,
-    heights: &[i32],
-    words: &[u64],
-    output: &mut [u64],
-    from: usize,
-    count: usize,
-)
-    requires { (from + count ≤ length (map_words source heights.now words.now)) × (from + count ≤ length output.old) }
-    ensures { output.new ≡ words_read from count (map_words source heights.now words.now) output.old }
-{
-    match source {
-        Source::Heights => buffer::read_heights(heights, from, output, from, count),
-        Source::Words => buffer::copy_words(words, from, output, from, count),
-    }
-}
-
-// How many rows of the map a pass along columns does before it comes to those from `top` on; a pass along rows begins
-// with each row.
-fn history_rows(rows: usize, top: usize, height: usize, pass: usize) -> usize
-    requires { top + height ≤ rows }
-    ensures { result ≡ history_rows (axis_of pass) (direction_of pass) rows top height }
+// How many rows of the map a pass along columns does before it comes to those of a band; a pass along rows begins with
+// each row.
+fn history_rows(rows: usize, band: Band, pass: usize) -> usize
+    requires { band.top + band.height ≤ rows }
+    ensures { result ≡ history_rows (axis_of pass) (direction_of pass) rows band.top band.height }
 {
     if axis::is_backward(pass) {
-        return axis::along(pass, rows - top - height, 0);
+        return axis::along(pass, rows - band.top - band.height, 0);
     }
-    axis::along(pass, top, 0)
+    axis::along(pass, band.top, 0)
 }
 
-// A pass of the plan over some rows of the map, with the rows that it has done before them for history.
-fn pass_over_rows(plan: Plan, output: &mut [u64], top: usize, height: usize, pass: usize)
-    requires { RowsFit plan (length output.old) top height pass }
-    ensures { output.new ≡ rows_passed plan top height pass output.old }
+// A pass of the plan over the rows of a band, with the rows that it has done before them for history.
+fn pass_over_rows(plan: Plan, output: &mut [u64], band: Band, pass: usize)
+    requires { RowsFit plan (length output.old) band.top band.height pass }
+    ensures { output.new ≡ rows_passed plan band.top band.height pass output.old }
 {
     let filter = filter::gains_first(plan, pass);
     let window = Window {
         stride: plan.grid.columns,
-        top: top,
+        top: band.top,
         left: 0,
-        height: height,
+        height: band.height,
         width: plan.grid.columns,
     };
-    let history = history_rows(plan.grid.rows, top, height, pass);
+    let history = history_rows(plan.grid.rows, band, pass);
     filter::run_pass(output, window, pass, history, filter);
 }
 
@@ -193,8 +172,7 @@ fn pass_over_band(plan: Plan, output: &mut [u64], band: usize, pass: usize)
     requires { BandFits plan (length output.old) band pass }
     ensures { output.new ≡ band_passed plan band pass output.old }
 {
-    let at = band_of(plan, band);
-    pass_over_rows(plan, output, at.top, at.height, pass);
+    pass_over_rows(plan, output, band_of(plan, band), pass);
 }
 
 // The pass up, band by band from the bottom, and both row passes one band behind it: over a band, up reads the band

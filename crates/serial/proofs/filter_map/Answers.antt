@@ -4,6 +4,6 @@ use Rattle.serial.proofs.Serial.{steps_reach}
 use Rattle.serial.proofs.filter_map.Goals as goal
 
 pub returns : goal.returns
-returns c =
-    steps_reach c.args.plan (map_words c.args.source c.args.heights.now c.args.words.now) c.requires.kept c.args.output.now c.requires.output_long
-    c.read_down.ensures c.finish_up.ensures
+returns g c =
+    steps_reach c.args.plan (map_words g.P.Pixel.word c.args.map.now) c.requires.kept c.args.output.now
+    c.requires.output_long c.read_down.ensures c.finish_up.ensures

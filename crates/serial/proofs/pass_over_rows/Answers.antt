@@ -11,12 +11,12 @@ run_pass-requires c =
       rw (c.gains_first-filter.ensures, gains_first_words_order a.plan a.pass)
           (order_limited_at a.plan c.requires.kept a.pass c.requires.is_pass),
       rw c.history_rows-history.ensures
-          (rows_fit a.plan c.requires.kept (length a.output.now) a.top a.height c.requires.tall c.requires.in_map
+          (rows_fit a.plan c.requires.kept (length a.output.now) a.band.top a.band.height c.requires.tall c.requires.in_map
           c.requires.output_long _ _),
     )
 
 pub returns : goal.returns
 returns c =
     let a = c.args in
-    rows_passed_law a.plan a.top a.height a.pass a.output.now c.gains_first-filter.ensures
+    rows_passed_law a.plan a.band.top a.band.height a.pass a.output.now c.gains_first-filter.ensures
     c.history_rows-history.ensures c.run_pass.ensures
