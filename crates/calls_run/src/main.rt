@@ -8,12 +8,11 @@
 // block is collected and each recall is refused too.
 #![tactic(auto)]
 
-ghost use Rattle.std.specs.Prelude.{◌≤◌, length, IfOk};
+ghost use Rattle.std.specs.Prelude.{◌≤◌, length};
 
-use plan::{Plan, PlanSizes};
-use refusal::{Outcome, Refusal};
+use plan::Plan;
 use std::io;
-use std::io::{Read, Write};
+use std::io::Write;
 
 const PIXEL_LIMIT: usize = 256;
 
@@ -29,53 +28,32 @@ const UNWRITTEN: u64 = 77;
 
 fn main(rt: HostRuntime) -> io::Result<()> {
     let mut input = [0; 4 * INPUT_WORDS];
-    let count = read_full(&mut rt.stdin(), &mut input)?;
+    let count = smooth_job::read_full(&mut rt.stdin(), &mut input)?;
     run_input(&mut io::writer(&rt), &input[..count])
-}
-
-// Reads until the buffer is full or the input ends, and answers how many bytes came.
-fn read_full<R: Read>(reader: &mut R, buffer: &mut [u8]) -> io::Result<usize>
-    ensures { IfOk result (λ count. count ≤ length buffer.new) }
-{
-    let mut count = 0;
-    while count < buffer.len() {
-        let more = reader.read(&mut buffer[count..])?;
-        if more == 0 {
-            break;
-        }
-        count += more;
-    }
-    Ok(count)
 }
 
 // The plan, and then the job on the words after it.
 fn run_input<W: Write>(out: &mut W, input: &[u8]) -> io::Result<()> {
     let mut words = [0; INPUT_WORDS];
     let count = take_words(input, &mut words);
-    let first = number::lesser(smooth_job::plan_length(input), count);
-    let read = plan_reader::read_plan(&words[..first]);
-    let outcome = read.outcome;
-    match outcome {
-        Outcome::Accepted => {
-            let plan = read.plan;
-            run_plan(out, plan, &words[first..count])
-        }
-        Outcome::Refused(refusal) => print_refusal(out, refusal),
+    let first = smooth_job::plan_length(input).min(count);
+    match plan_reader::read_plan(&words[..first]) {
+        Ok(plan) => run_plan(out, plan, &words[first..count]),
+        Err(refusal) => writeln!(out, "{refusal}"),
     }
 }
 
 // The heights, and buffers of just the needed lengths.
 fn run_plan<W: Write>(out: &mut W, plan: Plan, words: &[u32]) -> io::Result<()> {
-    let known = plan.sizes();
-    let PlanSizes::Known(sizes) = known else {
+    let Ok(sizes) = plan.sizes() else {
         return Ok(());
     };
     let mut heights = [0; PIXEL_LIMIT];
     let pixels = take_heights(words, sizes.pixels, &mut heights);
     let mut marks = [0; PIXEL_LIMIT];
-    let mark_count = number::lesser(sizes.marks, PIXEL_LIMIT);
+    let mark_count = sizes.marks.min(PIXEL_LIMIT);
     let mut strips = [0; STRIP_LIMIT];
-    let strip_count = number::lesser(sizes.strips, STRIP_LIMIT);
+    let strip_count = sizes.strips.min(STRIP_LIMIT);
     let mut output = [UNWRITTEN; PIXEL_LIMIT];
     run_job(
         out,
@@ -101,9 +79,8 @@ fn run_job<W: Write>(
     let mut tasks = [0; CALL_LIMIT];
     let mut blocks = [0; CALL_LIMIT];
     let count = take_calls(words, &mut tasks, &mut blocks);
-    let outcome = job::start(plan, marks, strips);
-    match outcome {
-        Outcome::Accepted => run_list(
+    match job::start(plan, marks, strips) {
+        Ok(()) => run_list(
             out,
             plan,
             &tasks[..count],
@@ -113,7 +90,7 @@ fn run_job<W: Write>(
             strips,
             output,
         ),
-        Outcome::Refused(refusal) => print_refusal(out, refusal),
+        Err(refusal) => writeln!(out, "{refusal}"),
     }
 }
 
@@ -150,7 +127,7 @@ fn run_list<W: Write>(
 fn take_words(input: &[u8], words: &mut [u32]) -> usize
     ensures { result ≤ length words.new }
 {
-    let count = number::lesser(input.len() / 4, words.len());
+    let count = (input.len() / 4).min(words.len());
     for i in 0..count {
         words[i] = smooth_job::word_at(input, i);
     }
@@ -161,7 +138,7 @@ fn take_words(input: &[u8], words: &mut [u32]) -> usize
 fn take_heights(words: &[u32], wanted: usize, heights: &mut [i32]) -> usize
     ensures { (result ≤ length words.now) × (result ≤ length heights.new) }
 {
-    let count = number::lesser(wanted, number::lesser(words.len(), heights.len()));
+    let count = wanted.min(words.len()).min(heights.len());
     for i in 0..count {
         heights[i] = smooth_job::decode_signed32(words[i]);
     }
@@ -172,25 +149,15 @@ fn take_heights(words: &[u32], wanted: usize, heights: &mut [i32]) -> usize
 fn take_calls(words: &[u32], tasks: &mut [usize], blocks: &mut [usize]) -> usize
     ensures { (result ≤ length tasks.new) × (result ≤ length blocks.new) }
 {
-    let count = number::lesser(words.len() / 2, number::lesser(tasks.len(), blocks.len()));
+    let count = (words.len() / 2).min(tasks.len()).min(blocks.len());
     for i in 0..count {
-        tasks[i] = number(words[2 * i]);
-        blocks[i] = number(words[2 * i + 1]);
+        tasks[i] = words[2 * i] as usize;
+        blocks[i] = words[2 * i + 1] as usize;
     }
     count
 }
 
-fn number(word: u32) -> usize {
-    word as usize
-}
-
 // ---- printing
-
-fn print_refusal<W: Write>(out: &mut W, refusal: Refusal) -> io::Result<()> {
-    let number = refusal.number();
-    let place = refusal.place();
-    writeln!(out, "refused {number} at {place}")
-}
 
 // How many calls of each list were accepted, and the buffers.
 fn print_job<W: Write>(

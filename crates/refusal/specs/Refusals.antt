@@ -1,5 +1,5 @@
 -- What each refusal is in documents 01 and 02: its number and its place.
-use Rattle.std.specs.Prelude.{ℕ}
+use Rattle.std.specs.Prelude.{ℕ, List, ◌++◌, codes, decimal}
 use Rattle.refusal.specs.declared.Reason.{Reason}
 use Rattle.refusal.specs.declared.Refusal.{Refusal}
 use Rattle.refusal.specs.declared.Refusal.TheVariants.{WordsEndEarly, AnotherKindDue, OutOfRange, SideBelowOrder, WordsAfterEnd, RecordBreaksRule, BufferTooShort, NoSuchTask, MarkBroken, AlreadyMarked, NeedUnmarked, RectangleOutside, InputUnfit, StripsTooShort, MapTooShort, OutputTooShort, BlockNotCollected, JobMisplaced}
@@ -52,3 +52,8 @@ place_of refusal = (reason_of refusal).place
 -- and both as an answer.
 abbrev pub refused_for : Refusal → Answer
 refused_for refusal = refused (number_of refusal) (place_of refusal)
+
+-- What is printed of a refusal: its number and its place.
+abbrev pub refusal_text : Refusal → List ℕ
+refusal_text refusal =
+    codes "refused " ++ (decimal (number_of refusal) ++ (codes " at " ++ decimal (place_of refusal)))

@@ -2,12 +2,15 @@
 // it: the value of an accepted call, or why it was refused.
 #![tactic(auto)]
 
-ghost use Rattle.std.specs.Prelude.{◌≡◌, cond, ltb};
-ghost use Rattle.refusal.specs.Refusals.{number_of, place_of, accepted, refused_for};
+ghost use Rattle.std.specs.Prelude.{◌≡◌, cond, ltb, Some};
+ghost use Rattle.refusal.specs.Refusals.{number_of, place_of, accepted, refused_for, refusal_text};
 ghost use Rattle.refusal.specs.Table.{answer_of};
 
+use std::error::Error;
+use std::fmt;
+
 // Why a call was refused. A case holds the place that goes with it where the place varies.
-#[derive(Clone, Copy)]
+#[derive(Clone, Copy, Debug, PartialEq, Eq)]
 pub enum Refusal {
     WordsEndEarly(usize),
     AnotherKindDue(usize),
@@ -82,6 +85,18 @@ impl Refusal {
         reason.place
     }
 }
+
+// A refusal is printed as its number and its place.
+impl fmt::Display for Refusal {
+    ghost output = { λ refusal. Some (refusal_text refusal) };
+
+    fn fmt<W: fmt::Write>(&self, f: &mut fmt::Formatter<W>) -> fmt::Result {
+        let Reason { number, place } = self.reason();
+        write!(f, "refused {number} at {place}")
+    }
+}
+
+impl Error for Refusal {}
 
 fn row(number: u32, place: usize) -> Reason
     ensures { (result.number ≡ number) × (result.place ≡ place) }

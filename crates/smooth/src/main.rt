@@ -4,11 +4,10 @@
 ghost use Rattle.std.specs.Prelude.{◌≡◌, ◌+◌, ◌*◌, ◌<◌, ◌≤◌, length, take, IfOk, IfSome, OnOk};
 ghost use Rattle.std.specs.Io.KnownBytes.{Appends, Consumes, ConsumesCount, IsAtEnd};
 ghost use Rattle.smooth.specs.Input.{StandsFor};
-ghost use Rattle.refusal.specs.Refusals.{number_of, place_of};
-ghost use Rattle.smooth.specs.Printed.{word_text, row_text, rows_text, refusal_text, output_text, given_text, program_text};
-ghost use Rattle.smooth_job.specs.Program.{input_limit, cut_limit, smooth_given};
+ghost use Rattle.smooth.specs.Printed.{word_text, row_text, rows_text, output_text, given_text, program_text};
+ghost use Rattle.smooth_job.specs.Program.{input_limit, cut_limit, line_in, smooth_given};
 
-use refusal::{Outcome, Refusal};
+use refusal::Refusal;
 use smooth_job::{CUT_LIMIT, INPUT_LIMIT, PIXEL_LIMIT, Smoothed};
 use std::io;
 use std::io::{Read, Write};
@@ -28,8 +27,8 @@ fn run<R: Read, W: Write>(reader: &mut R, out: &mut W) -> io::Result<()>
     let mut input = [0; CUT_LIMIT];
     let count = read_input(reader, &mut input)?;
     let mut output = [0; PIXEL_LIMIT];
-    let smoothed = smooth_job::smooth(&input[..count], &mut output);
-    print_answer(out, smoothed, &output)
+    let answer = smooth_job::smooth(&input[..count], &mut output);
+    print_answer(out, answer, &output)
 }
 
 // ---- reading
@@ -40,29 +39,12 @@ fn read_input<R: Read>(reader: &mut R, input: &mut [u8]) -> io::Result<usize>
     ensures limit { IfOk result (λ count. count ≤ cut_limit) }
     ensures whole { IfOk result (λ count. IfSome (R.remaining reader.old) (λ whole. length whole < READ_LIMIT → StandsFor whole input.new count)) }
 {
-    let first = read_full(reader, &mut input[..INPUT_LIMIT])?;
+    let first = smooth_job::read_full(reader, &mut input[..INPUT_LIMIT])?;
     if first < INPUT_LIMIT {
         return Ok(first);
     }
     let count = count_input(reader)?;
     Ok(smooth_job::cut_length(count))
-}
-
-// Reads until the buffer is full or the input ends, and answers how many bytes came.
-fn read_full<R: Read>(reader: &mut R, buffer: &mut [u8]) -> io::Result<usize>
-    ensures room { IfOk result (λ count. count ≤ length buffer.new) }
-    ensures bytes { IfOk result (λ count. Consumes (R.remaining reader.old) (R.remaining reader.new) (take count buffer.new)) }
-    ensures end { IfOk result (λ count. count < length buffer.new → IsAtEnd (R.remaining reader.new)) }
-{
-    let mut count = 0;
-    while count < buffer.len() {
-        let more = reader.read(&mut buffer[count..])?;
-        if more == 0 {
-            return Ok(count);
-        }
-        count += more;
-    }
-    Ok(count)
 }
 
 // How many bytes an input has whose first are read.
@@ -92,30 +74,25 @@ fn read_more<R: Read>(reader: &mut R) -> io::Result<usize>
 
 // ---- printing
 
-fn print_answer<W: Write>(out: &mut W, smoothed: Smoothed, output: &[u64]) -> io::Result<()>
-    requires { smoothed.rows * smoothed.columns ≤ length output.now }
-    ensures { OnOk result (Appends (W.contents out.old) (W.contents out.new) (given_text (smooth_given smoothed) output.now)) }
+fn print_answer<W: Write>(
+    out: &mut W,
+    answer: Result<Smoothed, Refusal>,
+    output: &[u64],
+) -> io::Result<()>
+    requires { IfOk answer (λ smoothed. smoothed.rows * smoothed.columns ≤ length output.now) }
+    ensures { OnOk result (Appends (W.contents out.old) (W.contents out.new) (given_text (smooth_given answer) output.now)) }
 {
-    match smoothed.outcome {
-        Outcome::Accepted => print_output(out, smoothed, output),
-        Outcome::Refused(refusal) => print_refusal(out, refusal),
+    match answer {
+        Ok(smoothed) => print_output(out, smoothed, output),
+        Err(refusal) => writeln!(out, "{refusal}"),
     }
-}
-
-fn print_refusal<W: Write>(out: &mut W, refusal: Refusal) -> io::Result<()>
-    ensures { OnOk result (Appends (W.contents out.old) (W.contents out.new) (refusal_text (number_of refusal) (place_of refusal))) }
-{
-    let number = refusal.number();
-    let place = refusal.place();
-    writeln!(out, "refused {number} at {place}")
 }
 
 fn print_output<W: Write>(out: &mut W, smoothed: Smoothed, output: &[u64]) -> io::Result<()>
     requires { smoothed.rows * smoothed.columns ≤ length output.now }
-    ensures { OnOk result (Appends (W.contents out.old) (W.contents out.new) (output_text (smooth_given smoothed).value output.now)) }
+    ensures { OnOk result (Appends (W.contents out.old) (W.contents out.new) (output_text (line_in smoothed) output.now)) }
 {
     let Smoothed {
-        outcome: _,
         rows,
         columns,
         marked,

@@ -1,7 +1,8 @@
 // Document 01's program on its input: the tests, the plan, the heights, and the whole job. Reading and printing are left to main.
 #![tactic(auto)]
 
-ghost use Rattle.std.specs.Prelude.{◌≡◌, true, ◌+◌, ◌*◌, ◌/◌, ◌<◌, ◌≤◌, length, replicate};
+ghost use Rattle.std.specs.Prelude.{◌≡◌, true, ◌+◌, ◌*◌, ◌/◌, ◌<◌, ◌≤◌, length, replicate, take, IfOk};
+ghost use Rattle.std.specs.Io.KnownBytes.{Consumes, IsAtEnd};
 ghost use Rattle.plan.specs.Rules.{keeps_rules};
 ghost use Rattle.refusal.specs.Refusals.{number_of, place_of};
 ghost use Rattle.plan.specs.Sizes.{needed_pixels, word_limit};
@@ -12,6 +13,8 @@ ghost use Rattle.smooth_job.specs.Program.{pixel_limit, strip_limit, byte_at, wo
 
 use plan::Plan;
 use refusal::Refusal;
+use std::io;
+use std::io::Read;
 
 // The most pixels, and room for the strips of any job of so many: `pixel_limit` and `strip_limit` of specs/Program.antt are the same
 // numbers.
@@ -58,7 +61,25 @@ pub fn cut_length(length: usize) -> usize
     }
 }
 
-// ---- words
+// ---- bytes and words
+
+// Reads until the buffer is full or the input ends, and answers how many bytes came. A read tells how many bytes came with it:
+// no count runs by one, and std's `read_exact` does not say how many came before an end.
+pub fn read_full<R: Read>(reader: &mut R, buffer: &mut [u8]) -> io::Result<usize>
+    ensures room { IfOk result (λ count. count ≤ length buffer.new) }
+    ensures bytes { IfOk result (λ count. Consumes (R.remaining reader.old) (R.remaining reader.new) (take count buffer.new)) }
+    ensures end { IfOk result (λ count. count < length buffer.new → IsAtEnd (R.remaining reader.new)) }
+{
+    let mut count = 0;
+    while count < buffer.len() {
+        let more = reader.read(&mut buffer[count..])?;
+        if more == 0 {
+            return Ok(count);
+        }
+        count += more;
+    }
+    Ok(count)
+}
 
 fn byte_at(input: &[u8], at: usize) -> u32
     requires { at < length input.now }

@@ -1,7 +1,7 @@
 -- The bytes that came lie at the buffer's start; the measure is the room that is left.
 use Rattle.std.proofs.Common.{◌≡◌, ◌-◌, ◌≤◌, length, take}
 use Rattle.std.specs.Io.KnownBytes.{Consumes}
-use Rattle.smooth.proofs.read_full.Given as goal
+use Rattle.smooth_job.proofs.read_full.Given as goal
 
 abbrev pub invariant-loop-count : goal.invariant-loop-count
 invariant-loop-count g l =
