@@ -60,6 +60,9 @@ band_small plan n e counted kept =
     let few = (bounds plan kept).pixels_high in
     (omega arith, omega arith)
 
+-- What the functions that go over bands need of them.
+pub ruleset bands = (band_fits, band_in_map, band_small)
+
 -- ---- passes over rows
 
 module _ (plan : Plan) (kept : keeps_rules plan ≡ true) (n top height : ℕ) (tall : 0 < height)

@@ -29,6 +29,22 @@ struct Band {
     height: usize,
 }
 
+impl Band {
+    // How many of a map's rows a pass along columns does before it comes to those of the band; a pass along rows begins
+    // with each row.
+    fn history_rows(self, rows: usize, pass: usize) -> usize
+        requires { self.top + self.height ≤ rows }
+        ensures { result ≡ history_rows (axis_of pass) (direction_of pass) rows self.top self.height }
+    {
+        let before = if axis::is_backward(pass) {
+            rows - self.top - self.height
+        } else {
+            self.top
+        };
+        axis::along(pass, before, 0)
+    }
+}
+
 // A pixel of a lent map: a height, which the pixel reader makes a word of, or a word as it is.
 trait Pixel {
     ghost word: { Self → ℕ };
@@ -127,7 +143,7 @@ fn band_of(plan: Plan, band: usize) -> Band
 }
 
 // The map read and the pass down over it, band by band from the top.
-#[tactic(auto, using(crate::proofs::Stages::band_small, crate::proofs::Stages::band_in_map, crate::proofs::Stages::band_fits), unfolding(crate::specs::Stages::bands_read_down))]
+#[tactic(auto, using(crate::proofs::Stages::bands), unfolding(crate::specs::Stages::bands_read_down))]
 fn read_down<P: Pixel>(plan: Plan, map: &[P], output: &mut [u64])
     requires { MapFits plan (length map.now) (length output.old) }
     ensures { output.new ≡ bands_read_down plan (map_words P.word map.now) (band_count plan) output.old }
@@ -141,21 +157,8 @@ fn read_down<P: Pixel>(plan: Plan, map: &[P], output: &mut [u64])
     }
 }
 
-// How many rows of the map a pass along columns does before it comes to those of a band; a pass along rows begins with
-// each row.
-fn history_rows(rows: usize, band: Band, pass: usize) -> usize
-    requires { band.top + band.height ≤ rows }
-    ensures { result ≡ history_rows (axis_of pass) (direction_of pass) rows band.top band.height }
-{
-    let before = if axis::is_backward(pass) {
-        rows - band.top - band.height
-    } else {
-        band.top
-    };
-    axis::along(pass, before, 0)
-}
-
 // A pass of the plan over the rows of a band, with the rows that it has done before them for history.
+// Plan and output are two parameters: a struct of both would need a clause in each function that its plan stays.
 #[tactic(auto, using(crate::proofs::Stages::rows_passed_law))]
 fn pass_over_rows(plan: Plan, output: &mut [u64], band: Band, pass: usize)
     requires { RowsFit plan (length output.old) band.top band.height pass }
@@ -169,12 +172,12 @@ fn pass_over_rows(plan: Plan, output: &mut [u64], band: Band, pass: usize)
         height: band.height,
         width: plan.grid.columns,
     };
-    let history = history_rows(plan.grid.rows, band, pass);
+    let history = band.history_rows(plan.grid.rows, pass);
     filter::run_pass(output, window, pass, history, filter);
 }
 
 // A pass over a band.
-#[tactic(auto, using(crate::proofs::Stages::band_fits))]
+#[tactic(auto, using(crate::proofs::Stages::bands))]
 fn pass_over_band(plan: Plan, output: &mut [u64], band: usize, pass: usize)
     requires { BandFits plan (length output.old) band pass }
     ensures { output.new ≡ band_passed plan band pass output.old }
