@@ -57,7 +57,8 @@ module _ (plan : Plan) (heights : List ℤ) (output : List ℕ) where
   unfolding passes_output result_words serial_output serial_words
   heights_output = refl
 
-  pub heights_as_words : serial_words_output plan (map pixel heights) output ≡ serial_output plan heights output
+  pub heights_as_words : serial_output plan heights output ≡ serial_words_output plan (map pixel heights) output
   heights_as_words =
-      ap₂ (λ X n. passes_output plan X n output) (pixels_map plan.grid.columns heights) (length-map heights pixel)
-      ∙ heights_output
+      sym
+      (ap₂ (λ X n. passes_output plan X n output) (pixels_map plan.grid.columns heights) (length-map heights pixel)
+      ∙ heights_output)

@@ -2,9 +2,8 @@
 use mathlib.Core.Path.{◌≡◌, ap, ◌∙◌}
 use mathlib.Core.Bool.{true}
 use mathlib.Core.List.{List}
-use Prim.Native.Nat.{ℕ, suc, ◌+◌, ◌-◌, ◌*◌, ◌<◌, ◌≤◌}
+use Prim.Native.Nat.{ℕ, ◌+◌, ◌-◌, ◌*◌, ◌<◌, ◌≤◌}
 use native.Mathlib.Nat.{add-mul, mul-le-mul_right}
-use native.Mathlib.Numerals.{add-one}
 use native.Mathlib.Omega.{arith}
 use Rattle.grid.proofs.Extents.{count_positive, extent_positive, extent_inside}
 use Rattle.plan.specs.declared.Plan.{Plan}
@@ -19,31 +18,7 @@ use Rattle.filter.specs.Windows.{window_pass, WindowFits}
 use Rattle.filter.proofs.Filters.{gains_first_words_filter}
 use Rattle.filter.proofs.WindowWords.{fits_alone}
 use Rattle.serial.specs.declared.Band.{Band}
-use Rattle.serial.specs.Stages.{rows_read, RowsFit, map_rows, history_rows, rows_passed, band_rows, band_count, band_of, band_passed, bands_read_down, band_finished, last_band, bands_passed_up, bands_finished}
-
--- ---- one turn of each loop
-
-pub band_read_down : (plan : Plan) (words : List ℕ) (n : ℕ) (output : List ℕ) {a b c : List ℕ} {band : Band}
-    → band ≡ band_of plan n → a ≡ bands_read_down plan words n output
-    → b ≡ rows_read plan words band.top band.height a
-    → c ≡ rows_passed plan band.top band.height 0 b → c ≡ bands_read_down plan words (n + 1) output
-unfolding bands_read_down
-band_read_down plan words n output e f g h =
-    let read = rw e at g in
-    let passed = rw e at h in
-    rw add-one (cc)
-
-pub band_up_more : (plan : Plan) (n : ℕ) (output : List ℕ) {a b c d : List ℕ} {band : ℕ}
-    → band ≡ last_band plan - suc n → a ≡ bands_passed_up plan n output → b ≡ band_passed plan band 1 a
-    → c ≡ band_passed plan (band + 1) 2 b → d ≡ band_passed plan (band + 1) 3 c → d ≡ bands_passed_up plan (n + 1) output
-unfolding bands_passed_up band_finished
-band_up_more plan n output e f g h i = rw (add-one n) (cc)
-
-pub bands_up_all : (plan : Plan) (n last : ℕ) (output : List ℕ) {a b c d : List ℕ} → last ≡ last_band plan → n ≡ last
-    → a ≡ band_passed plan last 1 output → b ≡ bands_passed_up plan n a → c ≡ band_passed plan 0 2 b
-    → d ≡ band_passed plan 0 3 c → d ≡ bands_finished plan output
-unfolding bands_finished band_finished
-bands_up_all plan n last output e f g h i j = cc
+use Rattle.serial.specs.Stages.{RowsFit, map_rows, history_rows, rows_passed, band_rows, band_count, band_of}
 
 -- ---- windows of the map
 
@@ -71,13 +46,22 @@ band_fits plan n e counted kept is_pass long =
       output_long = long;
     })
 
--- and have no more pixels than it, which are few.
+-- and have no more pixels than it,
 pub band_in_map : (plan : Plan) (n : ℕ) {band : Band} → band ≡ band_of plan n → n < band_count plan
-    → keeps_rules plan ≡ true
-    → (band.top * plan.grid.columns + band.height * plan.grid.columns ≤ needed_pixels plan) × (needed_pixels plan ≤ 16777216)
-band_in_map plan n e counted kept =
-    rw e
-    (rows_in_map plan _ _ (extent_inside plan.grid.rows band_rows n counted), (bounds plan kept).pixels_high)
+    → band.top * plan.grid.columns + band.height * plan.grid.columns ≤ needed_pixels plan
+band_in_map plan n e counted =
+    rw e (rows_in_map plan _ _ (extent_inside plan.grid.rows band_rows n counted))
+
+-- which are few.
+pub band_small : (plan : Plan) (n : ℕ) {band : Band} → band ≡ band_of plan n → n < band_count plan → keeps_rules plan ≡ true
+    → (band.height * plan.grid.columns ≤ 16777216) × (band.top * plan.grid.columns ≤ 16777216)
+band_small plan n e counted kept =
+    let inside = band_in_map plan n e counted in
+    let few = (bounds plan kept).pixels_high in
+    (omega arith, omega arith)
+
+-- What the functions that go over bands need of them.
+pub ruleset bands = (band_fits, band_in_map, band_small)
 
 -- ---- passes over rows
 

@@ -10,7 +10,7 @@ ghost use Rattle.axis.specs.Axis.{axis_of, direction_of};
 ghost use Rattle.buffer.specs.Pixel.{pixel};
 ghost use Rattle.filter.specs.PlanFilters.{word_map_of};
 ghost use Rattle.serial.specs.Serial.{serial_answer, result_words, serial_output, serial_words_output};
-ghost use Rattle.serial.specs.Stages.{map_words, words_read, MapFits, RowsFit, BandFits, history_rows, rows_passed, band_count, band_of, band_passed, bands_read_down, bands_finished};
+ghost use Rattle.serial.specs.Stages.{map_words, words_read, MapFits, RowsFit, BandFits, history_rows, rows_passed, band_count, band_of, band_passed, band_finished, bands_read_down, bands_finished};
 
 use filter::Window;
 use grid::Grid;
@@ -27,6 +27,22 @@ const BAND: usize = plan::ORDER_LIMIT;
 struct Band {
     top: usize,
     height: usize,
+}
+
+impl Band {
+    // How many of a map's rows a pass along columns does before it comes to those of the band; a pass along rows begins
+    // with each row.
+    fn history_rows(self, rows: usize, pass: usize) -> usize
+        requires { self.top + self.height ≤ rows }
+        ensures { result ≡ history_rows (axis_of pass) (direction_of pass) rows self.top self.height }
+    {
+        let before = if axis::is_backward(pass) {
+            rows - self.top - self.height
+        } else {
+            self.top
+        };
+        axis::along(pass, before, 0)
+    }
 }
 
 // A pixel of a lent map: a height, which the pixel reader makes a word of, or a word as it is.
@@ -57,6 +73,7 @@ impl Pixel for u64 {
 
 // The passes down, up, right and left over a map of heights: the first rows × columns words of the output are their
 // result.
+#[tactic(auto, using(crate::proofs::Outputs::heights_as_words))]
 pub fn serial_passes(plan: Plan, map: &[i32], output: &mut [u64]) -> Outcome
     ensures answer { answer_of result ≡ serial_answer plan (length map.now) (length output.old) }
     ensures result { output.new ≡ serial_output plan map.now output.old }
@@ -93,6 +110,7 @@ fn run_passes<P: Pixel>(plan: Plan, map: &[P], output: &mut [u64]) -> Outcome
 }
 
 // The passes over a map that fits.
+#[tactic(auto, using(crate::proofs::Serial::steps_reach))]
 fn filter_map<P: Pixel>(plan: Plan, map: &[P], output: &mut [u64])
     requires { MapFits plan (length map.now) (length output.old) }
     ensures { output.new ≡ result_words plan (word_map_of plan (map_words P.word map.now)) ++ drop (needed_pixels plan) output.old }
@@ -125,6 +143,7 @@ fn band_of(plan: Plan, band: usize) -> Band
 }
 
 // The map read and the pass down over it, band by band from the top.
+#[tactic(auto, using(crate::proofs::Stages::bands), unfolding(crate::specs::Stages::bands_read_down))]
 fn read_down<P: Pixel>(plan: Plan, map: &[P], output: &mut [u64])
     requires { MapFits plan (length map.now) (length output.old) }
     ensures { output.new ≡ bands_read_down plan (map_words P.word map.now) (band_count plan) output.old }
@@ -138,19 +157,9 @@ fn read_down<P: Pixel>(plan: Plan, map: &[P], output: &mut [u64])
     }
 }
 
-// How many rows of the map a pass along columns does before it comes to those of a band; a pass along rows begins with
-// each row.
-fn history_rows(rows: usize, band: Band, pass: usize) -> usize
-    requires { band.top + band.height ≤ rows }
-    ensures { result ≡ history_rows (axis_of pass) (direction_of pass) rows band.top band.height }
-{
-    if axis::is_backward(pass) {
-        return axis::along(pass, rows - band.top - band.height, 0);
-    }
-    axis::along(pass, band.top, 0)
-}
-
 // A pass of the plan over the rows of a band, with the rows that it has done before them for history.
+// Plan and output are two parameters: a struct of both would need a clause in each function that its plan stays.
+#[tactic(auto, using(crate::proofs::Stages::rows_passed_law))]
 fn pass_over_rows(plan: Plan, output: &mut [u64], band: Band, pass: usize)
     requires { RowsFit plan (length output.old) band.top band.height pass }
     ensures { output.new ≡ rows_passed plan band.top band.height pass output.old }
@@ -163,11 +172,12 @@ fn pass_over_rows(plan: Plan, output: &mut [u64], band: Band, pass: usize)
         height: band.height,
         width: plan.grid.columns,
     };
-    let history = history_rows(plan.grid.rows, band, pass);
+    let history = band.history_rows(plan.grid.rows, pass);
     filter::run_pass(output, window, pass, history, filter);
 }
 
 // A pass over a band.
+#[tactic(auto, using(crate::proofs::Stages::bands))]
 fn pass_over_band(plan: Plan, output: &mut [u64], band: usize, pass: usize)
     requires { BandFits plan (length output.old) band pass }
     ensures { output.new ≡ band_passed plan band pass output.old }
@@ -175,22 +185,28 @@ fn pass_over_band(plan: Plan, output: &mut [u64], band: usize, pass: usize)
     pass_over_rows(plan, output, band_of(plan, band), pass);
 }
 
+// Both row passes over a band.
+#[tactic(auto, unfolding(crate::specs::Stages::band_finished))]
+fn finish_band(plan: Plan, output: &mut [u64], band: usize)
+    requires { (keeps_rules plan ≡ true) × (band < band_count plan) × (needed_pixels plan ≤ length output.old) }
+    ensures { output.new ≡ band_finished plan band output.old }
+{
+    pass_over_band(plan, output, band, 2);
+    pass_over_band(plan, output, band, 3);
+}
+
 // The pass up, band by band from the bottom, and both row passes one band behind it: over a band, up reads the band
 // below as it left it and nothing further down, since a band has no fewer rows than a filter has taps.
+#[tactic(auto, using(crate::proofs::Stages::some_bands), unfolding(crate::specs::Stages::bands_passed_up, crate::specs::Stages::bands_finished))]
 fn finish_up(plan: Plan, output: &mut [u64])
     requires { (keeps_rules plan ≡ true) × (needed_pixels plan ≤ length output.old) }
     ensures { output.new ≡ bands_finished plan output.old }
 {
     let last = band_count(plan) - 1;
     pass_over_band(plan, output, last, 1);
-    let mut done = 0;
-    while done < last {
-        done += 1;
-        let band = last - done;
+    for band in (0..last).rev() {
         pass_over_band(plan, output, band, 1);
-        pass_over_band(plan, output, band + 1, 2);
-        pass_over_band(plan, output, band + 1, 3);
+        finish_band(plan, output, band + 1);
     }
-    pass_over_band(plan, output, 0, 2);
-    pass_over_band(plan, output, 0, 3);
+    finish_band(plan, output, 0);
 }

@@ -1,8 +1,8 @@
--- `pass_over_rows` is the pass over the window of those rows with the plan's filter, the gains in the first pass.
+-- The window of those rows fits the output, and the order of the plan's filter its limit.
 use lib.ListN.{length}
 use Rattle.plan.proofs.Record.{order_limited_at}
 use Rattle.filter.proofs.Filters.{gains_first_words_order}
-use Rattle.serial.proofs.Stages.{rows_fit, rows_passed_law}
+use Rattle.serial.proofs.Stages.{rows_fit}
 use Rattle.serial.proofs.pass_over_rows.Goals as goal
 
 pub run_pass-requires : goal.run_pass-requires
@@ -14,9 +14,3 @@ run_pass-requires c =
           (rows_fit a.plan c.requires.kept (length a.output.now) a.band.top a.band.height c.requires.tall c.requires.in_map
           c.requires.output_long _ _),
     )
-
-pub returns : goal.returns
-returns c =
-    let a = c.args in
-    rows_passed_law a.plan a.band.top a.band.height a.pass a.output.now c.gains_first-filter.ensures
-    c.history_rows-history.ensures c.run_pass.ensures
