@@ -1,5 +1,4 @@
-pub mod Conjunction
 pub mod PassPlaces
 pub mod RefusalRows
 pub mod RecordParts
-pub mod ReadAnswers
+pub mod MadeArrays

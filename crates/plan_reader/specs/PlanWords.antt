@@ -4,6 +4,17 @@ use Rattle.plan.specs.Rules.{order_limit}
 use Rattle.number.specs.Numbers.{within}
 use Rattle.number.specs.SignedBits.{twos_complement}
 use Rattle.grid.specs.Grid.{size_limit, side_limit}
+use Rattle.plan_reader.specs.declared.Kind.{Kind}
+use Rattle.plan_reader.specs.declared.Kind.TheVariants.{Size, Block, Pass, Gain, Coefficient, End}
+
+-- The number of each kind of plan words.
+abbrev pub kind_number : Kind → ℕ
+kind_number Size = 1
+kind_number Block = 2
+kind_number Pass = 3
+kind_number Gain = 4
+kind_number Coefficient = 5
+kind_number End = 6
 
 -- Size, kind 1: the rows in bits 13 to 25.
 abbrev pub rows_in : ℕ → ℕ

@@ -1,13 +1,13 @@
 -- Reading a plan: which word is due at which place, the table of refusals, and the record that the words hold.
 -- Places count from 0. Size stands at 0, block at 1, and then pass, gain and coefficients of four passes, and the end.
-use Rattle.std.specs.Prelude.{Bool, true, not, cond, List, [], ◌∷◌, ◌++◌, ℕ, zero, suc, ◌+◌, ℤ, pos, ltb, leb, eqb, length, replicate}
-use Rattle.refusal.specs.Table.{Row, ◌at◌when◌, first_due, answer_of, Given, given}
+use Rattle.std.specs.Prelude.{Bool, true, not, cond, List, [], ◌∷◌, ◌++◌, ℕ, zero, suc, ◌+◌, ℤ, pos, ltb, leb, eqb, length, replicate, Result}
+use Rattle.refusal.specs.declared.Refusal.{Refusal}
+use Rattle.refusal.specs.Table.{Row, ◌at◌when◌, first_due, Given, given, given_by}
 use Rattle.plan.specs.declared.Pass.{Pass}
 use Rattle.plan.specs.declared.Plan.{Plan}
 use Rattle.plan.specs.Rules.{order_limit}
 use Rattle.number.specs.Numbers.{all_below}
 use Rattle.buffer.specs.Lists.{word_at, list_of, joined}
-use Rattle.plan_reader.specs.declared.PlanRead.{PlanRead}
 use Rattle.plan_reader.specs.PlanWords.{rows_in, columns_in, size_allowed, side_allowed, order_in, pass_allowed, end_allowed, signed28, end_kind}
 use Rattle.number.specs.KindWords.{kind_of, payload_of}
 
@@ -117,6 +117,6 @@ zero_plan = record { grid = record { rows = 0; columns = 0; side = 0 }; passes =
 unfoldable pub read_plan : List ℕ → Given Plan
 read_plan words = given (first_due (plan_rows words)) (plan_from words) zero_plan
 
--- Document 01's number and place, and the record, that `read_plan` answers.
-abbrev pub read_given : PlanRead → Given Plan
-read_given read = record { answer = answer_of read.outcome; value = read.plan }
+-- Document 01's number and place, and the record, of what `read_plan` answers; a record of zeros beside a refusal.
+abbrev pub read_given : Result Plan Refusal → Given Plan
+read_given = given_by zero_plan

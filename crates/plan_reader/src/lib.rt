@@ -5,39 +5,45 @@ ghost use Rattle.std.specs.Prelude.{◌≡◌, ◌+◌, ◌<◌, ◌≤◌, ◌%
 ghost use Rattle.refusal.specs.Table.{first_due, answer_of};
 ghost use Rattle.plan.specs.Rules.{order_limit};
 ghost use Rattle.buffer.specs.Lists.{word_at};
-ghost use Rattle.plan_reader.specs.PlanWords.{rows_in, columns_in, size_allowed, order_in, pass_allowed, signed28};
-ghost use Rattle.plan_reader.specs.ReadPlan.{payload_at, order_at, pass_place, word_rows, head_rows, coefficient_rows, pass_rows, passes_rows, end_rows, side_rows, plan_rows, coefficient_in, pass_from, plan_from, zero_pass, zero_plan, read_plan, read_given};
-ghost use Rattle.number.specs.KindWords.{payload_limit};
+ghost use Rattle.plan_reader.specs.PlanWords.{rows_in, columns_in, size_allowed, order_in, pass_allowed, signed28, kind_number};
+ghost use Rattle.plan_reader.specs.ReadPlan.{payload_at, order_at, pass_place, word_rows, head_rows, coefficient_rows, pass_rows, passes_rows, end_rows, side_rows, plan_rows, coefficient_in, pass_from, plan_from, read_plan, read_given};
+ghost use Rattle.number.specs.KindWords.{payload_limit, word_of};
 
 use grid::Grid;
 use plan::{Pass, Plan};
-use refusal::{Outcome, Refusal};
+use refusal::Refusal;
 
-// The kind of the end word; `end_kind` of specs/PlanWords.antt is the same number.
-pub const END_KIND: u32 = 6;
-
-// The plan that was read, or a plan of zeros beside a refusal.
+// The kinds of plan words, by document 01's numbers.
 #[derive(Clone, Copy)]
-pub struct PlanRead {
-    pub outcome: Outcome,
-    pub plan: Plan,
+pub enum Kind {
+    Size = 1,
+    Block,
+    Pass,
+    Gain,
+    Coefficient,
+    End,
 }
 
+impl Kind {
+    // The word of this kind with a payload.
+    pub fn word(self, payload: u32) -> u32
+        requires { payload < payload_limit }
+        ensures { result ≡ word_of (kind_number self) payload }
+    {
+        number::word_of(self as u32, payload)
+    }
+}
+
+// The number of the end word's kind; `end_kind` of specs/PlanWords.antt is the same number.
+pub const END_KIND: u32 = Kind::End as u32;
+
 // The plan that the words hold, or the first refusal.
-pub fn read_plan(words: &[u32]) -> PlanRead
+#[tactic(auto, unfolding(crate::specs::ReadPlan::read_plan))]
+pub fn read_plan(words: &[u32]) -> Result<Plan, Refusal>
     ensures { read_given result ≡ read_plan words.now }
 {
-    let outcome = plan_outcome(words);
-    match outcome {
-        Outcome::Accepted => PlanRead {
-            outcome: Outcome::Accepted,
-            plan: plan_from(words),
-        },
-        Outcome::Refused(refusal) => PlanRead {
-            outcome: Outcome::Refused(refusal),
-            plan: zero_plan(),
-        },
-    }
+    test_plan(words)?;
+    Ok(plan_from(words))
 }
 
 // ---- words
@@ -46,7 +52,7 @@ pub fn read_plan(words: &[u32]) -> PlanRead
 fn word_at(words: &[u32], place: usize) -> u32
     ensures { result ≡ word_at words.now place }
 {
-    if place < words.len() { words[place] } else { 0 }
+    words.get(place).copied().unwrap_or(0)
 }
 
 fn payload_at(words: &[u32], place: usize) -> u32
@@ -62,15 +68,14 @@ fn order_at(words: &[u32], place: usize) -> usize
 }
 
 // The place of the pass word of pass i, of the end word for i = 4.
+#[tactic(auto, using(crate::proofs::PassPlaces::pass_place_first, crate::proofs::PassPlaces::pass_place_next, crate::proofs::PassPlaces::pass_place_bounded))]
 fn pass_place(words: &[u32], i: usize) -> usize
     requires { i ≤ 4 }
     ensures { result ≡ pass_place words.now i }
 {
     let mut place = 2;
-    let mut j = 0;
-    while j < i {
-        place = place + 2 + order_at(words, place);
-        j += 1;
+    for _ in 0..i {
+        place += 2 + order_at(words, place);
     }
     place
 }
@@ -96,140 +101,134 @@ fn order_in(payload: u32) -> usize
 fn size_allowed(payload: u32) -> bool
     ensures { result ≡ size_allowed payload }
 {
-    if !number::within(rows_in(payload), grid::SIZE_LIMIT) {
-        return false;
-    }
-    if !number::within(columns_in(payload), grid::SIZE_LIMIT) {
-        return false;
-    }
-    payload / 67108864 == 0
+    number::within(rows_in(payload), grid::SIZE_LIMIT)
+        && number::within(columns_in(payload), grid::SIZE_LIMIT)
+        && payload / 67108864 == 0
 }
 
 fn pass_allowed(pass: usize, payload: u32) -> bool
     ensures { result ≡ pass_allowed pass payload }
 {
-    if (payload / 16 % 4) as usize != pass {
-        return false;
-    }
-    if plan::ORDER_LIMIT < order_in(payload) {
-        return false;
-    }
-    payload / 64 == 0
+    (payload / 16 % 4) as usize == pass
+        && order_in(payload) <= plan::ORDER_LIMIT
+        && payload / 64 == 0
 }
 
 // A payload of signed 28 bits.
+#[tactic(auto, using(number::proofs::SignedBits::complement_low, number::proofs::SignedBits::complement_high), unfolding(crate::specs::PlanWords::signed28))]
 fn decode_signed28(payload: u32) -> i64
     requires { payload < payload_limit }
     ensures { result ≡ signed28 payload }
 {
     if payload < 134217728 {
-        payload as i64
+        i64::from(payload)
     } else {
-        payload as i64 - number::PAYLOAD_LIMIT as i64
+        i64::from(payload) - i64::from(number::PAYLOAD_LIMIT)
     }
 }
 
 // ---- refusals
 
-fn word_outcome(words: &[u32], place: usize, kind: u32, allowed: bool) -> Outcome
-    ensures { answer_of result ≡ first_due (word_rows words.now place kind allowed) }
+#[tactic(auto, unfolding(crate::specs::ReadPlan::word_rows))]
+fn test_word(words: &[u32], place: usize, kind: Kind, allowed: bool) -> Result<(), Refusal>
+    ensures { answer_of result ≡ first_due (word_rows words.now place (kind_number kind) allowed) }
 {
     let count = words.len();
     if count <= place {
-        return Outcome::Refused(Refusal::WordsEndEarly(count));
+        return Err(Refusal::WordsEndEarly(count));
     }
-    if number::kind_of(words[place]) != kind {
-        return Outcome::Refused(Refusal::AnotherKindDue(place));
+    if number::kind_of(words[place]) != kind as u32 {
+        return Err(Refusal::AnotherKindDue(place));
     }
     if !allowed {
-        return Outcome::Refused(Refusal::OutOfRange(place));
+        return Err(Refusal::OutOfRange(place));
     }
-    Outcome::Accepted
+    Ok(())
 }
 
-fn head_outcome(words: &[u32]) -> Outcome
+#[tactic(auto, using(crate::proofs::RefusalRows::in_turn), unfolding(crate::specs::ReadPlan::head_rows))]
+fn test_head(words: &[u32]) -> Result<(), Refusal>
     ensures { answer_of result ≡ first_due (head_rows words.now) }
 {
-    let size = word_outcome(words, 0, 1, size_allowed(payload_at(words, 0)));
-    let block = word_outcome(
+    test_word(words, 0, Kind::Size, size_allowed(payload_at(words, 0)))?;
+    let side = payload_at(words, 1) as usize;
+    test_word(
         words,
         1,
-        2,
-        number::within(payload_at(words, 1) as usize, grid::SIDE_LIMIT),
-    );
-    size.or_first(block)
+        Kind::Block,
+        number::within(side, grid::SIDE_LIMIT),
+    )
 }
 
-fn coefficients_outcome(words: &[u32], place: usize, count: usize) -> Outcome
+#[tactic(auto, using(crate::proofs::RefusalRows::each_in_turn), unfolding(crate::specs::ReadPlan::coefficient_rows))]
+fn test_coefficients(words: &[u32], place: usize, count: usize) -> Result<(), Refusal>
     requires { place + count < 4294967296 }
     ensures { answer_of result ≡ first_due (coefficient_rows words.now place count) }
 {
-    let mut outcome = Outcome::Accepted;
-    let mut j = 0;
-    while j < count {
-        let next = word_outcome(words, place + j, 5, true);
-        outcome = outcome.or_first(next);
-        j += 1;
+    for j in 0..count {
+        test_word(words, place + j, Kind::Coefficient, true)?;
     }
-    outcome
+    Ok(())
 }
 
-fn pass_outcome(words: &[u32], i: usize, place: usize) -> Outcome
+#[tactic(auto, using(crate::proofs::RefusalRows::in_turn), unfolding(crate::specs::ReadPlan::pass_rows))]
+fn test_pass(words: &[u32], i: usize, place: usize) -> Result<(), Refusal>
     requires { place ≤ 1000 }
     ensures { answer_of result ≡ first_due (pass_rows words.now i place) }
 {
-    let head = word_outcome(words, place, 3, pass_allowed(i, payload_at(words, place)));
-    let gain = word_outcome(words, place + 1, 4, true);
-    let coefficients = coefficients_outcome(words, place + 2, order_at(words, place));
-    head.or_first(gain.or_first(coefficients))
+    test_word(
+        words,
+        place,
+        Kind::Pass,
+        pass_allowed(i, payload_at(words, place)),
+    )?;
+    test_word(words, place + 1, Kind::Gain, true)?;
+    test_coefficients(words, place + 2, order_at(words, place))
 }
 
-fn passes_outcome(words: &[u32]) -> Outcome
+#[tactic(auto, using(crate::proofs::RefusalRows::each_in_turn, crate::proofs::PassPlaces::pass_place_bounded), unfolding(crate::specs::ReadPlan::passes_rows))]
+fn test_passes(words: &[u32]) -> Result<(), Refusal>
     ensures { answer_of result ≡ first_due (passes_rows words.now 4) }
 {
-    let mut outcome = Outcome::Accepted;
-    let mut i = 0;
-    while i < 4 {
-        let next = pass_outcome(words, i, pass_place(words, i));
-        outcome = outcome.or_first(next);
-        i += 1;
+    for i in 0..4 {
+        test_pass(words, i, pass_place(words, i))?;
     }
-    outcome
+    Ok(())
 }
 
-fn end_outcome(words: &[u32], place: usize) -> Outcome
+#[tactic(auto, using(crate::proofs::RefusalRows::in_turn), unfolding(crate::specs::ReadPlan::end_rows))]
+fn test_end(words: &[u32], place: usize) -> Result<(), Refusal>
     requires { place ≤ 1000 }
     ensures { answer_of result ≡ first_due (end_rows words.now place) }
 {
-    let end = word_outcome(words, place, END_KIND, payload_at(words, place) == 0);
+    test_word(words, place, Kind::End, payload_at(words, place) == 0)?;
     if place + 1 < words.len() {
-        return end.or_first(Outcome::Refused(Refusal::WordsAfterEnd(place + 1)));
+        return Err(Refusal::WordsAfterEnd(place + 1));
     }
-    end.or_first(Outcome::Accepted)
+    Ok(())
 }
 
-fn side_outcome(words: &[u32]) -> Outcome
+#[tactic(auto, using(number::proofs::Tests::all_none, number::proofs::Tests::all_more, crate::proofs::RefusalRows::side_below, crate::proofs::RefusalRows::side_accepted))]
+fn test_side(words: &[u32]) -> Result<(), Refusal>
     ensures { answer_of result ≡ first_due (side_rows words.now) }
 {
     let side = payload_at(words, 1) as usize;
-    let mut i = 0;
-    while i < 4 {
+    for i in 0..4 {
         if side < order_at(words, pass_place(words, i)) {
-            return Outcome::Refused(Refusal::SideBelowOrder);
+            return Err(Refusal::SideBelowOrder);
         }
-        i += 1;
     }
-    Outcome::Accepted
+    Ok(())
 }
 
-fn plan_outcome(words: &[u32]) -> Outcome
+#[tactic(auto, using(crate::proofs::RefusalRows::in_turn, crate::proofs::PassPlaces::pass_place_bounded), unfolding(crate::specs::ReadPlan::plan_rows))]
+fn test_plan(words: &[u32]) -> Result<(), Refusal>
     ensures { answer_of result ≡ first_due (plan_rows words.now) }
 {
-    let head = head_outcome(words);
-    let passes = passes_outcome(words);
-    let end = end_outcome(words, pass_place(words, 4));
-    let side = side_outcome(words);
-    head.or_first(passes.or_first(end.or_first(side)))
+    test_head(words)?;
+    test_passes(words)?;
+    test_end(words, pass_place(words, 4))?;
+    test_side(words)
 }
 
 // ---- the record
@@ -239,91 +238,49 @@ fn coefficient_in(words: &[u32], place: usize, j: usize) -> i64
     ensures { result ≡ coefficient_in words.now place j }
 {
     if j < order_at(words, place) {
-        return decode_signed28(payload_at(words, place + 2 + j));
+        decode_signed28(payload_at(words, place + 2 + j))
+    } else {
+        0
     }
-    0
 }
 
 fn coefficients_from(words: &[u32], place: usize) -> [i64; plan::ORDER_LIMIT]
     requires { place ≤ 1000 }
     ensures { result ≡ (pass_from words.now place).coefficients }
 {
-    let mut coefficients = [0; plan::ORDER_LIMIT];
-    let mut j = 0;
-    while j < plan::ORDER_LIMIT {
-        let value = coefficient_in(words, place, j);
-        coefficients[j] = value;
-        j += 1;
-    }
-    coefficients
+    std::array::from_fn(|j| coefficient_in(words, place, j))
 }
 
+#[tactic(auto, unfolding(crate::specs::ReadPlan::pass_from))]
 fn pass_from(words: &[u32], place: usize) -> Pass
     requires { place ≤ 1000 }
     ensures { result ≡ pass_from words.now place }
 {
-    let order = order_at(words, place);
-    let gain = decode_signed28(payload_at(words, place + 1));
-    let coefficients = coefficients_from(words, place);
     Pass {
-        order: order,
-        gain: gain,
-        coefficients: coefficients,
+        order: order_at(words, place),
+        gain: decode_signed28(payload_at(words, place + 1)),
+        coefficients: coefficients_from(words, place),
     }
 }
 
+#[tactic(auto, using(crate::proofs::PassPlaces::pass_place_bounded))]
 fn passes_from(words: &[u32]) -> [Pass; 4]
     ensures { result ≡ (plan_from words.now).passes }
 {
-    let empty = zero_pass();
-    let mut passes = [empty; 4];
-    let mut i = 0;
-    while i < 4 {
-        let pass = pass_from(words, pass_place(words, i));
-        passes[i] = pass;
-        i += 1;
-    }
-    passes
+    std::array::from_fn(|i| pass_from(words, pass_place(words, i)))
 }
 
+#[tactic(auto, unfolding(crate::specs::ReadPlan::plan_from))]
 fn plan_from(words: &[u32]) -> Plan
     ensures { result ≡ plan_from words.now }
 {
     let size = payload_at(words, 0);
-    let side = payload_at(words, 1);
-    let passes = passes_from(words);
-    let grid = Grid {
-        rows: rows_in(size),
-        columns: columns_in(size),
-        side: side as usize,
-    };
     Plan {
-        grid: grid,
-        passes: passes,
-    }
-}
-
-pub fn zero_pass() -> Pass
-    ensures { result ≡ zero_pass }
-{
-    Pass {
-        order: 0,
-        gain: 0,
-        coefficients: [0; plan::ORDER_LIMIT],
-    }
-}
-
-fn zero_plan() -> Plan
-    ensures { result ≡ zero_plan }
-{
-    let pass = zero_pass();
-    let grid = Grid {
-        rows: 0,
-        columns: 0,
-        side: 0,
-    };
-    Plan {
-        grid: grid,
-        passes: [pass; 4],
+        grid: Grid {
+            rows: rows_in(size),
+            columns: columns_in(size),
+            side: payload_at(words, 1) as usize,
+        },
+        passes: passes_from(words),
     }
 }

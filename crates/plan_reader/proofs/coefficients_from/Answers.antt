@@ -1,28 +1,11 @@
--- `plan_reader::coefficients_from` meets its contract: the first j places are filled. Assumes nothing.
-use Rattle.std.proofs.Common.{w64}
-use mathlib.Core.Path.{◌≡◌, sym}
-use native.Mathlib.Omega.{arith}
-use borrow.Author.Rules.{rules}
-use lib.ListN.{length-set}
+-- `plan_reader::coefficients_from` meets its contract: each place has its coefficient. Assumes nothing.
+use Rattle.std.proofs.Common.{rules, pos}
 use Rattle.plan.specs.Rules.{order_limit}
-use Rattle.buffer.proofs.Listed.{listed_none, filled_more, filled_all}
-use Rattle.plan_reader.specs.ReadPlan.{pass_from}
-use Rattle.number.proofs.SignedBits.{read_back_law}
+use Rattle.plan_reader.specs.ReadPlan.{pass_from, coefficient_in}
+use Rattle.plan_reader.proofs.MadeArrays.{made_listed}
 use Rattle.plan_reader.proofs.coefficients_from.Goals as goal
-
-pub loop-j-init : goal.loop-j-init
-loop-j-init c = (omega arith, search rules, sym (listed_none _))
-
-pub loop-j-preserved : goal.loop-j-preserved
-loop-j-preserved c = (
-  omega arith,
-  simp length-set (omega arith),
-  filled_more _ _ _ _ (omega arith) (read_back_law {w = w64} (search rules) c.coefficient_in-value.ensures) c.loop-j.invariant.2,
-)
 
 pub returns : goal.returns
 unfolding pass_from
 returns c =
-    let l = c.loop-j in
-    let e : l.j ≡ order_limit = omega arith in
-    filled_all _ _ order_limit l.invariant.1 (rw e at l.invariant.2)
+    made_listed _ (coefficient_in c.args.words.now c.args.place) order_limit (λ i answer after h called. search rules) (pos 0) c.from_fn.ensures.items
