@@ -1,7 +1,7 @@
 -- The linked strip of the neighbour that a pass comes from, as a rectangle: it lies in the list of strips, and its lines and
 -- places are no more than the margin's. Assumes nothing.
 use mathlib.Core.Path.{◌≡◌, refl}
-use mathlib.Core.Option.{Option, none, some}
+use Rattle.std.specs.Prelude.{Option, None, Some}
 use Prim.Native.Nat.{ℕ, ◌+◌, ◌-◌, ◌*◌, ◌≤◌, ◌<◌}
 use native.Mathlib.Nat.{mul-le-mul_right}
 use native.Mathlib.Omega.{arith}
@@ -110,10 +110,10 @@ before_lies {plan} {k} block pass {n} below long =
     lines : ℕ → ℕ
     lines j = lines_across plan.grid j pass
 
-    by : (o : Option ℕ) → ((j : ℕ) → o ≡ some j → (j < needed_marks plan) × (lines j ≡ lines k))
+    by : (o : Option ℕ) → ((j : ℕ) → o ≡ Some j → (j < needed_marks plan) × (lines j ≡ lines k))
         → StripLies (axis_of pass) n (order_of plan pass) (lines k) (strip_in plan pass o)
-    by none f = nothing_lies (axis_of pass) n (order_of plan pass) _
-    by (some j) f =
+    by None f = nothing_lies (axis_of pass) n (order_of plan pass) _
+    by (Some j) f =
         let extent = extent_along plan.grid j pass in
         let d = direction_of pass in
         let order = order_of plan pass in

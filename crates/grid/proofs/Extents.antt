@@ -1,12 +1,13 @@
 -- Laws of the block count and the block extent, over plain numbers: a length `n`, a block side `b`, a block `m`. Assumes nothing.
 use mathlib.Core.Path.{◌≡◌, sym}
 use mathlib.Core.Logic.{⊎_elim}
-use Prim.Native.Nat.{ℕ, zero, suc, ◌+◌, ◌-◌, ◌*◌, ◌/◌, ◌%◌, ◌<◌, ◌≤◌}
+use Prim.Native.Nat.{ℕ, zero, suc, ◌+◌, ◌-◌, ◌*◌, ◌/◌, ◌%◌, ◌<◌, ◌≤◌, min}
 use native.Mathlib.Omega.{arith}
 use native.Mathlib.Nat.{add-mul, mul-le-mul_left, div-zero, div-add-mod', mod-lt, div-eq_of_lt-le, le-div_iff_mul-le, min-le_left, min-le_right, le-min, min-eq_left, min-eq_right}
 use Rattle.grid.specs.Grid.{block_count, block_extent}
 use lib.Dec.{ltb}
 use borrow.Author.Tests.{ltb-true, lt-ltb}
+use Rattle.std.proofs.lemmas.Grind.{div_ceil_times}
 use Rattle.number.proofs.Tests.{lt_or_ge, same_test}
 
 pub count_side_zero : (n : ℕ) → block_count n 0 ≡ 0
@@ -14,19 +15,12 @@ unfolding block_count
 count_side_zero n = div-zero _
 
 module _ (n b : ℕ) (side : 1 ≤ b) where
-  -- The count by the remainder, as the code makes it.
-  pub count_exact : n % b ≡ 0 → n / b ≡ block_count n b
+  -- The count by the remainder, as `div_ceil` makes it.
+  pub count_rounded_up : n / b + min 1 (n % b) ≡ block_count n b
   unfolding block_count
-  count_exact e =
-      let d = div-add-mod' n b in
-      sym (div-eq_of_lt-le b (omega arith) (rw add-mul (omega arith)))
-
-  pub count_rounded : (n % b ≡ 0 → ⊥) → n / b + 1 ≡ block_count n b
-  unfolding block_count
-  count_rounded e =
-      let d = div-add-mod' n b in
-      let l = mod-lt n side in
-      sym (div-eq_of_lt-le b (rw add-mul (omega arith)) (rw (add-mul, add-mul) (omega arith)))
+  count_rounded_up =
+      let times = div_ceil_times n b side in
+      sym (div-eq_of_lt-le b (omega (arith, times.1)) (rw add-mul (omega (arith, times.0))))
 
   -- A block that starts inside the length is counted.
   pub start_counted : (m : ℕ) → m * b < n → m < block_count n b

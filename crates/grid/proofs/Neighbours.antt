@@ -2,7 +2,7 @@
 -- that a pass goes on from is the neighbour of the block that it goes on to. Assumes nothing.
 use mathlib.Core.Path.{◌≡◌, refl, ap, sym, ◌∙◌}
 use mathlib.Core.Bool.{Bool, true, false, cond}
-use mathlib.Core.Option.{Option, none, some, map, some-injective, some-ne-none}
+use Rattle.std.specs.Prelude.{Option, None, Some, option_map}
 use Prim.Native.Nat.{ℕ, zero, suc, ◌+◌, ◌*◌, ◌-◌, ◌<◌}
 use native.Mathlib.Omega.{arith}
 use lib.Dec.{ltb}
@@ -20,18 +20,18 @@ index_before forward m = m - 1
 index_before backward m = m + 1
 
 abbrev pub block_before : Direction → (count m : ℕ) → Option ℕ
-block_before d count m = cond (has_before d count m) (some (index_before d m)) none
+block_before d count m = cond (has_before d count m) (Some (index_before d m)) None
 
 abbrev pub index_after : Direction → ℕ → ℕ
 index_after forward m = m + 1
 index_after backward m = m - 1
 
 -- What a test chooses where the choice is `some`.
-pub chosen : (test : Bool) (v j : ℕ) → cond test (some v) none ≡ some j → (test ≡ true) × (v ≡ j)
-chosen true v j e = (refl, some-injective v j e)
-chosen false v j e = absurd (some-ne-none j (sym e))
+pub chosen : (test : Bool) (v j : ℕ) → cond test (Some v) None ≡ Some j → (test ≡ true) × (v ≡ j)
+chosen true v j e = (refl, cc)
+chosen false v j e = cc
 
-pub before_below : (d : Direction) (count m j : ℕ) → m < count → block_before d count m ≡ some j → j < count
+pub before_below : (d : Direction) (count m j : ℕ) → m < count → block_before d count m ≡ Some j → j < count
 before_below forward count m j h e = let q : m - 1 ≡ j = (chosen (ltb 0 m) _ j e).1 in omega arith
 before_below backward count m j h e =
     let c = chosen _ _ j e in
@@ -39,7 +39,7 @@ before_below backward count m j h e =
     let q = c.1 in
     omega arith
 
-before_goes_on : (d : Direction) (count m j : ℕ) → m < count → block_before d count m ≡ some j → has_after d count j ≡ true
+before_goes_on : (d : Direction) (count m j : ℕ) → m < count → block_before d count m ≡ Some j → has_after d count j ≡ true
 before_goes_on forward count m j h e =
     let c = chosen _ _ j e in
     let p = ltb-true 0 m c.0 in
@@ -52,8 +52,8 @@ after_below forward count m h e = ltb-true (m + 1) count e
 after_below backward count m h e = omega arith
 
 before_after : (d : Direction) (count m : ℕ) → m < count → has_after d count m ≡ true
-    → block_before d count (index_after d m) ≡ some m
-before_after forward count m h e = rw (lt-ltb 0 (m + 1) (omega arith)) (ap some (omega arith))
+    → block_before d count (index_after d m) ≡ Some m
+before_after forward count m h e = rw (lt-ltb 0 (m + 1) (omega arith)) (ap Some (omega arith))
 before_after backward count m h e =
     let p : 0 < m = ltb-true 0 m e in
     let q : (m - 1) + 1 ≡ m = omega arith in
@@ -67,8 +67,8 @@ block_beside columns grid k m = block_number grid m (block_column grid k)
 block_beside rows grid k n = block_number grid (block_row grid k) n
 
 mapped : (g : ℕ → ℕ) (test : Bool) (v j : ℕ) → (test ≡ true → g v ≡ j)
-    → cond test (some j) none ≡ map g (cond test (some v) none)
-mapped g true v j e = ap some (sym (e refl))
+    → cond test (Some j) None ≡ option_map g (cond test (Some v) None)
+mapped g true v j e = ap Some (sym (e refl))
 mapped g false v j e = refl
 
 row_above : (m n w k : ℕ) → m * w + n ≡ k → 0 < m → (m - 1) * w + n ≡ k - w
@@ -95,7 +95,7 @@ step_is_beside grid k rows backward e =
 -- The neighbour is the block before in the line of block k.
 pub neighbour_beside : (grid : Grid) (k pass : ℕ)
     → neighbour grid k pass
-    ≡ map (block_beside (axis_of pass) grid k)
+    ≡ option_map (block_beside (axis_of pass) grid k)
     (block_before (direction_of pass) (line_count grid pass) (line_index grid k pass))
 unfolding neighbour
 neighbour_beside grid k pass =
@@ -129,10 +129,10 @@ module _ (grid : Grid) (k : ℕ) (here : k < block_total grid) where
   beside_self columns = number_of_block grid k
   beside_self rows = number_of_block grid k
 
-mapped_some : (g : ℕ → ℕ) (o : Option ℕ) (j : ℕ) (P : ℕ → Type 0) → ((m : ℕ) → o ≡ some m → P (g m))
-    → map g o ≡ some j → P j
-mapped_some g none j P f e = absurd (some-ne-none j (sym e))
-mapped_some g (some m) j P f e = rw (← some-injective (g m) j e) (f m refl)
+mapped_some : (g : ℕ → ℕ) (o : Option ℕ) (j : ℕ) (P : ℕ → Type 0) → ((m : ℕ) → o ≡ Some m → P (g m))
+    → option_map g o ≡ Some j → P j
+mapped_some g None j P f e = cc
+mapped_some g (Some m) j P f e = let same : g m ≡ j = cc in rw (← same) (f m refl)
 
 -- Block j is the one before block k in its line along a pass: next to it along the pass, and at the same place across it.
 pub record StandsBefore (grid : Grid) (k pass j : ℕ) : Type 0 where
@@ -141,10 +141,10 @@ pub record StandsBefore (grid : Grid) (k pass j : ℕ) : Type 0 where
   pub across_pass : across (axis_of pass) (block_row grid j) (block_column grid j)
       ≡ across (axis_of pass) (block_row grid k) (block_column grid k)
 
-module _ (grid : Grid) (k pass j : ℕ) (here : k < block_total grid) (e : neighbour grid k pass ≡ some j) where
+module _ (grid : Grid) (k pass j : ℕ) (here : k < block_total grid) (e : neighbour grid k pass ≡ Some j) where
   -- What holds of every block before block k in its line holds of the neighbour.
   neighbour_has : (P : ℕ → Type 0)
-      → ((m : ℕ) → m < line_count grid pass → block_before (direction_of pass) (line_count grid pass) (line_index grid k pass) ≡ some m
+      → ((m : ℕ) → m < line_count grid pass → block_before (direction_of pass) (line_count grid pass) (line_index grid k pass) ≡ Some m
       → P (block_beside (axis_of pass) grid k m))
       → P j
   neighbour_has P f =
@@ -208,17 +208,17 @@ module _ (grid : Grid) (k pass : ℕ) (here : k < block_total grid) (on : goes_o
   next_below = beside_below grid k here (axis_of pass) _ after_counted
 
   -- Block k is the neighbour that the pass comes from there.
-  pub next_neighbour : neighbour grid (next_block grid k pass) pass ≡ some k
+  pub next_neighbour : neighbour grid (next_block grid k pass) pass ≡ Some k
   next_neighbour =
       neighbour_beside grid (next_block grid k pass) pass
       ∙ ap
       (λ m.
-      map (block_beside (axis_of pass) grid (next_block grid k pass))
+      option_map (block_beside (axis_of pass) grid (next_block grid k pass))
       (block_before (direction_of pass) (line_count grid pass) m))
       (beside_along grid k here (axis_of pass) _ after_counted)
-      ∙ ap (map (block_beside (axis_of pass) grid (next_block grid k pass)))
+      ∙ ap (option_map (block_beside (axis_of pass) grid (next_block grid k pass)))
       (before_after (direction_of pass) _ _ (index_below grid k here (axis_of pass)) has_after_law)
-      ∙ ap some (back (axis_of pass) _ after_counted ∙ beside_self grid k here (axis_of pass))
+      ∙ ap Some (back (axis_of pass) _ after_counted ∙ beside_self grid k here (axis_of pass))
     where
       back : (a : Axis) (m : ℕ) → m < along a (block_rows_of grid) (block_columns_of grid)
           → block_beside a grid (block_beside a grid k m) (along a (block_row grid k) (block_column grid k))

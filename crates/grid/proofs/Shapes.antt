@@ -2,7 +2,7 @@
 -- Assumes nothing.
 use mathlib.Core.Path.{◌≡◌, refl, sym, ap, ◌∙◌}
 use mathlib.Core.Bool.{Bool, true, false, cond}
-use mathlib.Core.Option.{Option, none, some}
+use Rattle.std.specs.Prelude.{Some, None}
 use Prim.Native.Nat.{ℕ, ◌+◌, ◌*◌, ◌≤◌, ◌<◌}
 use native.Mathlib.Nat.{div-add-mod', mul-le-mul_right}
 use native.Mathlib.Omega.{arith}
@@ -11,10 +11,8 @@ use Rattle.axis.specs.Axis.{Axis, columns, rows, Direction, forward, backward, a
 use Rattle.grid.specs.declared.Grid.{Grid}
 use Rattle.grid.specs.declared.Position.{Position}
 use Rattle.grid.specs.declared.BlockLine.{BlockLine}
-use Rattle.grid.specs.declared.Neighbour.{Neighbour}
-use Rattle.grid.specs.declared.Neighbour.TheVariants.{Block, Beyond}
 use Rattle.grid.specs.Grid.{grid_kept, block_rows_of, block_columns_of, block_total, block_height, block_width, block_row, block_column, rows_of, columns_of, block_pixel_place, line_index, line_count, line_step_of, has_before, has_after, step_before, neighbour, goes_on}
-use Rattle.grid.specs.Shapes.{InBlocks, position_of, index_along, shape_of, line_of_blocks, found_neighbour}
+use Rattle.grid.specs.Shapes.{InBlocks, position_of, index_along, shape_of, line_of_blocks}
 use Rattle.grid.proofs.Extents.{counted_test}
 use Rattle.grid.proofs.Blocks.{ranges, located}
 
@@ -65,9 +63,9 @@ after_in backward line = ltb 0 line.index
 
 module _ (grid : Grid) (pass : ℕ) (line : BlockLine) (d : Direction) (runs : direction_of pass ≡ d) where
   module _ (k : ℕ) (at : Position) (stands : at ≡ position_of grid k) (is : line ≡ line_of_blocks grid at pass) where
-    before_is : neighbour grid k pass ≡ cond (before_in d line) (some (step_before d line.step k)) none
+    before_is : neighbour grid k pass ≡ cond (before_in d line) (Some (step_before d line.step k)) None
     unfolding neighbour line_of_blocks position_of
-    before_is = rw (is, stands, runs) (ap (λ z. cond z (some (step_before d (line_step_of grid pass) k)) none) (by d))
+    before_is = rw (is, stands, runs) (ap (λ z. cond z (Some (step_before d (line_step_of grid pass) k)) None) (by d))
       where
         by : (e : Direction)
             → has_before e (line_count grid pass) (line_index grid k pass) ≡ before_in e (line_of_blocks grid (position_of grid k) pass)
@@ -75,13 +73,11 @@ module _ (grid : Grid) (pass : ℕ) (line : BlockLine) (d : Direction) (runs : d
         by backward = refl
 
     -- A block before, or none.
-    pub found_before : before_in d line ≡ true → Block (step_before d line.step k) ≡ found_neighbour (neighbour grid k pass)
-    found_before e =
-        sym (ap found_neighbour before_is ∙ ap (λ z. found_neighbour (cond z (some (step_before d line.step k)) none)) e)
+    pub found_before : before_in d line ≡ true → Some (step_before d line.step k) ≡ neighbour grid k pass
+    found_before e = sym (before_is ∙ ap (λ z. cond z (Some (step_before d line.step k)) None) e)
 
-    pub none_before : before_in d line ≡ false → Beyond ≡ found_neighbour (neighbour grid k pass)
-    none_before e =
-        sym (ap found_neighbour before_is ∙ ap (λ z. found_neighbour (cond z (some (step_before d line.step k)) none)) e)
+    pub none_before : before_in d line ≡ false → None ≡ neighbour grid k pass
+    none_before e = sym (before_is ∙ ap (λ z. cond z (Some (step_before d line.step k)) None) e)
 
   -- Whether there is one after.
   pub goes_on_law : (at : Position) → line ≡ line_of_blocks grid at pass
@@ -93,15 +89,6 @@ module _ (grid : Grid) (pass : ℕ) (line : BlockLine) (d : Direction) (runs : d
           → after_in e (line_of_blocks grid at pass) ≡ has_after e (line_count grid pass) (index_along at pass)
       by forward = refl
       by backward = refl
-
--- What the case of a neighbour says.
-pub found_block : (o : Option ℕ) (found : Neighbour) (j : ℕ) → found ≡ found_neighbour o → found ≡ Block j → o ≡ some j
-found_block none found j e f = cc
-found_block (some i) found j e f = cc
-
-pub found_none : (o : Option ℕ) (found : Neighbour) → found ≡ found_neighbour o → found ≡ Beyond → o ≡ none
-found_none none found e f = refl
-found_none (some i) found e f = cc
 
 -- A block goes on by position as by number.
 pub goes_on_at : (grid : Grid) (k pass : ℕ) {at : Position} → at ≡ position_of grid k

@@ -1,7 +1,6 @@
 -- The blocks of a map: document 01, 'Blocks, marks and strips'. A map of h rows and w columns is cut into blocks of side b, in
 -- M rows and N columns of blocks; block k is block (m, n) with k = m×N + n.
-use Rattle.std.specs.Prelude.{Bool, ◌&&◌, cond, ℕ, ◌+◌, ◌-◌, ◌*◌, ◌/◌, ◌%◌, min, ltb}
-use Rattle.std.proofs.Math.Option.{Option, none, some}
+use Rattle.std.specs.Prelude.{Bool, ◌&&◌, cond, ℕ, ◌+◌, ◌-◌, ◌*◌, ◌/◌, ◌%◌, min, ltb, Option, None, Some}
 use Rattle.number.specs.Numbers.{within, row_major}
 use Rattle.axis.specs.Axis.{Direction, forward, backward, axis_of, direction_of, along, across}
 use Rattle.grid.specs.declared.Grid.{Grid}
@@ -132,8 +131,8 @@ step_before backward step k = k + step
 unfoldable pub neighbour : Grid → (k pass : ℕ) → Option ℕ
 neighbour grid k pass =
     cond (has_before (direction_of pass) (line_count grid pass) (line_index grid k pass))
-    (some (step_before (direction_of pass) (line_step_of grid pass) k))
-    none
+    (Some (step_before (direction_of pass) (line_step_of grid pass) k))
+    None
 
 -- Whether a pass goes on from block k to another block of the map, which then needs block k's strip of the pass: m < M-1
 -- (down), m > 0 (up), n < N-1 (right), n > 0 (left).
@@ -142,5 +141,5 @@ goes_on grid k pass = has_after (direction_of pass) (line_count grid pass) (line
 
 -- What f gives for a neighbour, and 0 where there is none.
 abbrev pub or_zero : (ℕ → ℕ) → Option ℕ → ℕ
-or_zero f none = 0
-or_zero f (some j) = f j
+or_zero f None = 0
+or_zero f (Some j) = f j

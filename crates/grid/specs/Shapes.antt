@@ -1,13 +1,10 @@
 -- Inner: the values of the code's records, and what inner functions ask of their callers.
 use Rattle.std.specs.Prelude.{◌≡◌, true, ℕ, ◌+◌, ◌<◌, ltb}
-use Rattle.std.proofs.Math.Option.{Option, none, some}
 use Rattle.axis.specs.Axis.{axis_of, along, across}
 use Rattle.grid.specs.declared.Grid.{Grid}
 use Rattle.grid.specs.declared.Position.{Position}
 use Rattle.grid.specs.declared.BlockShape.{BlockShape}
 use Rattle.grid.specs.declared.BlockLine.{BlockLine}
-use Rattle.grid.specs.declared.Neighbour.{Neighbour}
-use Rattle.grid.specs.declared.Neighbour.TheVariants.{Block, Beyond}
 use Rattle.grid.specs.Grid.{grid_kept, block_rows_of, block_columns_of, block_total, block_row, block_column, rows_of, columns_of, block_pixel_place, line_count, line_step_of}
 
 -- The sizes are in range, and block k is in the map.
@@ -54,8 +51,3 @@ line_of_blocks grid at pass =
       followed = ltb (index_along at pass + 1) (line_count grid pass);
       step = line_step_of grid pass;
     }
-
--- The value of a neighbour.
-abbrev pub found_neighbour : Option ℕ → Neighbour
-found_neighbour none = Beyond
-found_neighbour (some j) = Block j

@@ -5,7 +5,7 @@
 ghost use Rattle.std.specs.Prelude.{◌≡◌, ◌<◌, true};
 ghost use Rattle.axis.specs.Axis.{direction_of};
 ghost use Rattle.grid.specs.Grid.{block_count, block_extent, grid_kept, block_rows_of, block_columns_of, block_total, block_height, block_width, block_area, line_count, has_after, neighbour};
-ghost use Rattle.grid.specs.Shapes.{InGrid, InBlocks, position_of, index_along, shape_of, shape_extent, shape_lines, line_of_blocks, found_neighbour};
+ghost use Rattle.grid.specs.Shapes.{InGrid, InBlocks, position_of, index_along, shape_of, shape_extent, shape_lines, line_of_blocks};
 
 // The most rows and columns of a map, and the longest side of a block: `size_limit` and `side_limit` of specs/Grid.antt are the same
 // numbers.
@@ -13,7 +13,8 @@ pub const SIZE_LIMIT: usize = 4096;
 
 pub const SIDE_LIMIT: usize = 32;
 
-// A map of rows and columns, cut into blocks of a side.
+// A map of rows and columns, cut into blocks of a side. Its ranges are no invariant of the type: a plan's record holds what a
+// caller gave, and `check` of it is what a call is refused by.
 #[derive(Clone, Copy)]
 pub struct Grid {
     pub rows: usize,
@@ -36,13 +37,6 @@ pub struct BlockShape {
     pub columns: usize,
 }
 
-// The block that a pass comes from, or none where the map ends.
-#[derive(Clone, Copy)]
-pub enum Neighbour {
-    Block(usize),
-    Beyond,
-}
-
 // A block among the blocks in line with it, along a pass: its number, whether another follows it in map order, and how far
 // apart their block numbers lie.
 #[derive(Clone, Copy)]
@@ -54,16 +48,13 @@ struct BlockLine {
 
 impl Grid {
     // Whether the sizes are in document 01's ranges.
+    #[tactic(auto, unfolding(crate::specs::Grid::grid_kept))]
     pub fn check(self) -> bool
         ensures { result ≡ grid_kept self }
     {
-        if !number::within(self.rows, SIZE_LIMIT) {
-            return false;
-        }
-        if !number::within(self.columns, SIZE_LIMIT) {
-            return false;
-        }
-        number::within(self.side, SIDE_LIMIT)
+        number::within(self.rows, SIZE_LIMIT)
+            && number::within(self.columns, SIZE_LIMIT)
+            && number::within(self.side, SIDE_LIMIT)
     }
 
     // The number of rows of blocks.
@@ -96,7 +87,7 @@ impl Grid {
         let block_columns = self.block_columns();
         let row = k / block_columns;
         Position {
-            row: row,
+            row,
             column: k - row * block_columns,
         }
     }
@@ -145,30 +136,28 @@ impl Grid {
         let index = axis::along(pass, at.row, at.column);
         let length = axis::along(pass, self.rows, self.columns);
         BlockLine {
-            index: index,
+            index,
             followed: (index + 1) * self.side < length,
             step: axis::along(pass, self.block_columns(), 1),
         }
     }
 
-    // The block that a pass comes from: above, below, left or right.
-    pub fn neighbour(self, k: usize, pass: usize) -> Neighbour
+    // The block that a pass comes from: above, below, left or right; none where the map ends.
+    pub fn neighbour(self, k: usize, pass: usize) -> Option<usize>
         requires { InGrid self k }
-        ensures { result ≡ found_neighbour (neighbour self k pass) }
+        ensures { result ≡ neighbour self k pass }
     {
         let line = self.block_line(self.position(k), pass);
         if axis::is_backward(pass) {
             if line.followed {
-                Neighbour::Block(k + line.step)
+                Some(k + line.step)
             } else {
-                Neighbour::Beyond
+                None
             }
+        } else if 0 < line.index {
+            Some(k - line.step)
         } else {
-            if 0 < line.index {
-                Neighbour::Block(k - line.step)
-            } else {
-                Neighbour::Beyond
-            }
+            None
         }
     }
 
@@ -206,14 +195,7 @@ impl BlockShape {
 fn block_count(length: usize, side: usize) -> usize
     ensures { result ≡ block_count length side }
 {
-    if side == 0 {
-        return 0;
-    }
-    if length % side == 0 {
-        length / side
-    } else {
-        length / side + 1
-    }
+    if side == 0 { 0 } else { length.div_ceil(side) }
 }
 
 // How much of a length a block has; 0 past the blocks that cover it.
@@ -221,9 +203,10 @@ fn block_extent(length: usize, side: usize, block: usize) -> usize
     ensures { result ≡ block_extent length side block }
 {
     if block < block_count(length, side) {
-        return counted_extent(length, side, block);
+        counted_extent(length, side, block)
+    } else {
+        0
     }
-    0
 }
 
 // The same for a block that is among them.
@@ -231,5 +214,5 @@ pub fn counted_extent(length: usize, side: usize, block: usize) -> usize
     requires { block < block_count length side }
     ensures { result ≡ block_extent length side block }
 {
-    number::lesser(side, length - block * side)
+    side.min(length - block * side)
 }

@@ -5,7 +5,6 @@
 ghost use Rattle.std.specs.Prelude.{◌+◌, ◌≤◌, length};
 ghost use Rattle.link.specs.Courses.{LinkAt};
 
-use grid::Neighbour;
 use plan::Plan;
 use task_words::Half;
 
@@ -46,10 +45,9 @@ fn read_strip(
 fn read_edge(strips: &[u64], plan: Plan, k: usize, pass: usize, read_before: u64) -> u64
     requires { LinkAt plan k pass (length strips.now) }
 {
-    let found = plan.grid.neighbour(k, pass);
-    match found {
-        Neighbour::Block(j) => read_strip(strips, plan, Half::Linked, j, pass, read_before),
-        Neighbour::Beyond => read_before,
+    match plan.grid.neighbour(k, pass) {
+        Some(j) => read_strip(strips, plan, Half::Linked, j, pass, read_before),
+        None => read_before,
     }
 }
 

@@ -4,7 +4,7 @@ use mathlib.Core.Logic.{⊎_elim}
 use mathlib.Core.Bool.{Bool, true, false, not, true≢false}
 use mathlib.Core.List.Memᴰ
 use mathlib.Core.List.{Memᴰ}
-use mathlib.Core.Option.{some}
+use Rattle.std.specs.Prelude.{Some}
 use Prim.Native.Nat.{ℕ, zero, suc, ◌+◌, ◌<◌, ◌≤◌, min}
 use native.Mathlib.Omega.{arith}
 use native.Mathlib.Nat.{eq-or-lt_of_le}
@@ -45,7 +45,7 @@ module _ (grid : Grid) (k j : ℕ) where
 
   -- which there is.
   neighbour_there : (pass : ℕ) → k < block_total grid → Before (direction_of pass) (line_index grid k pass) (line_index grid j pass)
-      → neighbour grid j pass ≡ some (step_before (direction_of pass) (line_step_of grid pass) j)
+      → neighbour grid j pass ≡ Some (step_before (direction_of pass) (line_step_of grid pass) j)
   unfolding neighbour
   neighbour_there pass here before =
       rw (has_before_law (direction_of pass) _ _ _ (index_below grid k here (axis_of pass)) before)
@@ -98,7 +98,7 @@ needs_cleared grid k (through t j there need m n) = by (clears grid k t j) refl 
 
 -- ---- what is cleared needs the block
 
-link_member : (grid : Grid) (j pass i n : ℕ) → pass < n → neighbour grid j pass ≡ some i
+link_member : (grid : Grid) (j pass i n : ℕ) → pass < n → neighbour grid j pass ≡ Some i
     → Memᴰ (record { task = suc pass; block = i }) (link_needs grid j n)
 unfolding link_needs
 link_member grid j pass i zero l e = absurd (omega arith)
@@ -108,7 +108,7 @@ link_member grid j pass i (suc n) l e =
     (eq-or-lt_of_le {n = pass} {m = n} (omega arith))
 
 -- The link of a pass at the neighbour is a need.
-need_member : (grid : Grid) (t j pass i : ℕ) → t < 6 → pass < min t 4 → neighbour grid j pass ≡ some i
+need_member : (grid : Grid) (t j pass i : ℕ) → t < 6 → pass < min t 4 → neighbour grid j pass ≡ Some i
     → Memᴰ (record { task = suc pass; block = i }) (needs_of grid t j)
 need_member grid zero j pass i l b e = absurd (omega arith)
 need_member grid (suc t) j pass i l b e =

@@ -1,8 +1,7 @@
 -- What the code reads from a strip is what the definitions read, and it stands in the list. Assumes nothing.
-use mathlib.Core.Path.{◌≡◌, refl, ap, ap₂, ◌∙◌}
+use mathlib.Core.Path.{◌≡◌, refl, sym, ap, ap₂, ◌∙◌}
 use mathlib.Core.Bool.{Bool, ◌&&◌, cond}
 use mathlib.Core.List.{List}
-use mathlib.Core.Option.{Option, none, some}
 use Prim.Native.Nat.{ℕ, ◌+◌, ◌-◌, ◌*◌, ◌≤◌, ◌<◌, min}
 use native.Mathlib.Omega.{arith}
 use lib.Dec.{ltb, leb}
@@ -18,14 +17,12 @@ use Rattle.task_words.specs.declared.Half.TheVariants.{Linked}
 use Rattle.task_words.specs.Strips.{strip_start, place_in_strip, strip_place, place_inside, inside_block, strip_word, from_edge, nearest_first, past_edges}
 use Rattle.grid.proofs.Neighbours.{neighbour_below}
 use Rattle.grid.proofs.Blocks.{lines_in_side}
-use Rattle.grid.proofs.Shapes.{found_block, found_none}
 use Rattle.task_words.proofs.Strips.{strip_place_below}
 use Rattle.task_words.proofs.StripReads.{from_edge_below}
 use Rattle.grid.specs.declared.BlockShape.{BlockShape}
 use Rattle.strips.specs.declared.Strip.{Strip}
-use Rattle.grid.specs.declared.Neighbour.{Neighbour}
-use Rattle.grid.specs.declared.Neighbour.TheVariants.{Block, Beyond}
-use Rattle.grid.specs.Shapes.{shape_of, found_neighbour, shape_extent, shape_lines}
+use Rattle.std.specs.Prelude.{Some, None, Option}
+use Rattle.grid.specs.Shapes.{shape_of, shape_extent, shape_lines}
 use Rattle.strips.specs.StripRecord.{first_inside, past_inside, strip_with, strip_of, empty_strip, strip_in, strip_before, address_in, strip_read, StripFits}
 
 -- ---- the code's values
@@ -55,18 +52,18 @@ pub strip_of_is : (plan : Plan) (half : Half) (k pass : ℕ) {shape : BlockShape
 unfolding strip_of shape_of
 strip_of_is plan half k pass shaped starts o a b c d e = e ∙ rw (a, b, c, d, shaped, starts, o)
 
-module _ (plan : Plan) (k pass : ℕ) (found : Neighbour) (is : found ≡ found_neighbour (neighbour plan.grid k pass)) where
-  pub before_below : (j : ℕ) → found ≡ Block j → k < needed_marks plan → j < needed_marks plan
-  before_below j e here = neighbour_below plan.grid k pass j here (found_block (neighbour plan.grid k pass) found j is e)
+module _ (plan : Plan) (k pass : ℕ) where
+  pub before_below : (j : ℕ) → Some j ≡ neighbour plan.grid k pass → k < needed_marks plan → j < needed_marks plan
+  before_below j is here = neighbour_below plan.grid k pass j here (sym is)
 
-  pub before_block : (j : ℕ) (strip : Strip) → found ≡ Block j → strip ≡ strip_of plan Linked j pass
+  pub before_block : (j : ℕ) (strip : Strip) → Some j ≡ neighbour plan.grid k pass → strip ≡ strip_of plan Linked j pass
       → strip ≡ strip_before plan k pass
   unfolding strip_before
-  before_block j strip e f = rw (found_block (neighbour plan.grid k pass) found j is e) f
+  before_block j strip is f = rw (← is) f
 
-  pub before_none : found ≡ Beyond → empty_strip ≡ strip_before plan k pass
+  pub before_none : None ≡ neighbour plan.grid k pass → empty_strip ≡ strip_before plan k pass
   unfolding strip_before
-  before_none e = rw (found_none (neighbour plan.grid k pass) found is e)
+  before_none is = rw (← is)
 
 -- ---- one strip
 
@@ -136,9 +133,9 @@ pub before_fits : (plan : Plan) (k pass n : ℕ) → k < needed_marks plan → p
 unfolding strip_before
 before_fits plan k pass n here h long = by (neighbour plan.grid k pass) (λ j e. neighbour_below plan.grid k pass j here e)
   where
-    by : (o : Option ℕ) → ((j : ℕ) → o ≡ some j → j < needed_marks plan) → StripFits n (strip_in plan pass o)
-    by none f = record { inside = λ line place l p. absurd (omega arith) }
-    by (some j) f = strip_fits plan Linked j pass n (f j refl) h long
+    by : (o : Option ℕ) → ((j : ℕ) → o ≡ Some j → j < needed_marks plan) → StripFits n (strip_in plan pass o)
+    by None f = record { inside = λ line place l p. absurd (omega arith) }
+    by (Some j) f = strip_fits plan Linked j pass n (f j refl) h long
 
 -- The word at a distance past block k's edge.
 pub past_edges_read : (plan : Plan) (strips : List ℕ) (k pass line distance : ℕ) → distance < order_of plan pass
@@ -152,5 +149,5 @@ past_edges_read plan strips k pass line distance h = rw (lt-ltb distance (order_
 
     by : (o : Option ℕ)
         → strip_read (strip_in plan pass o) strips line place ≡ or_zero (λ j. strip_word plan strips Linked j pass line place) o
-    by none = empty_read strips line place
-    by (some j) = strip_read_law plan Linked j pass line place strips (from_edge_below (direction_of pass) (order_of plan pass) distance h)
+    by None = empty_read strips line place
+    by (Some j) = strip_read_law plan Linked j pass line place strips (from_edge_below (direction_of pass) (order_of plan pass) distance h)

@@ -1,6 +1,5 @@
 -- Inner: a strip in code, where its words stand, and which of them are read.
-use Rattle.std.specs.Prelude.{◌≡◌, Bool, true, ◌&&◌, cond, List, ℕ, ◌+◌, ◌-◌, ◌*◌, ◌<◌, ◌≤◌, min, ltb, leb}
-use Rattle.std.proofs.Math.Option.{Option, none, some}
+use Rattle.std.specs.Prelude.{◌≡◌, Bool, true, ◌&&◌, cond, List, ℕ, ◌+◌, ◌-◌, ◌*◌, ◌<◌, ◌≤◌, min, ltb, leb, Option, None, Some}
 use Rattle.plan.specs.declared.Plan.{Plan}
 use Rattle.buffer.specs.Lists.{word_at}
 use Rattle.axis.specs.Axis.{Direction, forward, backward, axis_of, direction_of, along}
@@ -64,8 +63,8 @@ empty_strip = record { start = 0; line_step = 0; place_step = 0; lines = 0; firs
 
 -- The linked strip of a pass of a block that may be beyond the map.
 abbrev pub strip_in : Plan → ℕ → Option ℕ → Strip
-strip_in plan pass none = empty_strip
-strip_in plan pass (some j) = strip_of plan Linked j pass
+strip_in plan pass None = empty_strip
+strip_in plan pass (Some j) = strip_of plan Linked j pass
 
 -- The linked strip of the block that a pass comes from.
 unfoldable pub strip_before : Plan → ℕ → ℕ → Strip

@@ -8,7 +8,6 @@ ghost use Rattle.plan.specs.Rules.{keeps_rules};
 ghost use Rattle.task_words.specs.Strips.{words_before_half, strip_start};
 ghost use Rattle.strips.specs.StripRecord.{StripAt, EdgeFits, edge_start, address_in, strip_with, strip_of, strip_before};
 
-use grid::Neighbour;
 use plan::Plan;
 use task_words::Half;
 
@@ -116,10 +115,9 @@ pub fn strip_before(plan: Plan, k: usize, pass: usize) -> Strip
     requires { StripAt plan k pass }
     ensures { result ≡ strip_before plan k pass }
 {
-    let found = plan.grid.neighbour(k, pass);
-    match found {
-        Neighbour::Block(j) => strip_of(plan, Half::Linked, j, pass),
-        Neighbour::Beyond => Strip {
+    match plan.grid.neighbour(k, pass) {
+        Some(j) => strip_of(plan, Half::Linked, j, pass),
+        None => Strip {
             start: 0,
             line_step: 0,
             place_step: 0,

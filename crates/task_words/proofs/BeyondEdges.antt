@@ -2,7 +2,7 @@
 -- Assumes nothing.
 use mathlib.Core.Path.{◌≡◌, refl, ap, sym, ◌∙◌}
 use mathlib.Core.Bool.{Bool, true, false, ◌&&◌, cond}
-use mathlib.Core.Option.{Option, none, some, map}
+use Rattle.std.specs.Prelude.{Option, None, Some, option_map}
 use mathlib.Core.Logic.{⊎_elim}
 use Prim.Native.Nat.{ℕ, zero, suc, ◌+◌, ◌*◌, ◌-◌, ◌≤◌, ◌<◌, min}
 use native.Mathlib.Numerals.{add-one}
@@ -104,10 +104,10 @@ edge_nearest plan j pass Z l i h =
 
 -- ---- a map, cut into blocks
 
-or_zero_map : (f g : ℕ → ℕ) (s : ℕ → ℕ) (o : Option ℕ) → ((m : ℕ) → o ≡ some m → f m ≡ g (s m))
-    → or_zero f o ≡ or_zero g (map s o)
-or_zero_map f g s none e = refl
-or_zero_map f g s (some m) e = e m refl
+or_zero_map : (f g : ℕ → ℕ) (s : ℕ → ℕ) (o : Option ℕ) → ((m : ℕ) → o ≡ Some m → f m ≡ g (s m))
+    → or_zero f o ≡ or_zero g (option_map s o)
+or_zero_map f g s None e = refl
+or_zero_map f g s (Some m) e = e m refl
 
 -- What block j of a map Z has at line l and a distance from the edge where a pass leaves it.
 abbrev edge_of_block : Axis → Direction → Plan → (ℕ → ℕ → ℕ) → (l distance j : ℕ) → ℕ
@@ -122,7 +122,7 @@ beside_is_edge : (a : Axis) (d : Direction) (plan : Plan) (k : ℕ) (here : k < 
     (l i : ℕ) → l < across a (rows_of plan.grid k) (columns_of plan.grid k) → i < plan.grid.side
     → words_beside a d (place_of plan k here) Z l i
     ≡ or_zero (edge_of_block a d plan Z l i)
-    (map (block_beside a plan.grid k)
+    (option_map (block_beside a plan.grid k)
     (block_before d (along a (block_rows_of plan.grid) (block_columns_of plan.grid)) (along a (block_row plan.grid k) (block_column plan.grid k))))
 unfolding words_beside place_of
 beside_is_edge columns d plan k here Z l i p q =
@@ -149,9 +149,9 @@ beside_is_edge rows d plan k here Z l i p q =
     let column = column_of_number plan.grid (block_row plan.grid k) n counted in
     rw (row, column, lt-ltb l (rows_of plan.grid k) p))
 
-pub or_zero_same : (f g : ℕ → ℕ) (o : Option ℕ) → ((j : ℕ) → o ≡ some j → f j ≡ g j) → or_zero f o ≡ or_zero g o
-or_zero_same f g none e = refl
-or_zero_same f g (some j) e = e j refl
+pub or_zero_same : (f g : ℕ → ℕ) (o : Option ℕ) → ((j : ℕ) → o ≡ Some j → f j ≡ g j) → or_zero f o ≡ or_zero g o
+or_zero_same f g None e = refl
+or_zero_same f g (Some j) e = e j refl
 
 -- The words of a map beyond block k, where a pass comes from, are the strip of the neighbour there, nearest first.
 pub beside_strip : (plan : Plan) → SideFits plan → (k : ℕ) (here : k < needed_marks plan) (pass : ℕ) → pass < 4

@@ -3,7 +3,7 @@
 use mathlib.Core.Path.{◌≡◌, refl, sym, ◌∙◌}
 use mathlib.Core.Bool.{Bool, true, false, cond}
 use mathlib.Core.List.{List}
-use mathlib.Core.Option.{some}
+use Rattle.std.specs.Prelude.{Some}
 use Prim.Native.Nat.{ℕ, suc, ◌+◌, ◌≤◌, ◌<◌}
 use native.Mathlib.Omega.{arith}
 use lib.Dec.{ltb}
@@ -114,7 +114,7 @@ read_edge plan strips half k pass Z holds line place h =
 
 -- Two lists that have the same strip of a pass at the neighbour that it comes from.
 pub past_same : (plan : Plan) (s r : List ℕ) (k pass : ℕ)
-    → ((j : ℕ) → neighbour plan.grid k pass ≡ some j → (line place : ℕ) → place < order_of plan pass
+    → ((j : ℕ) → neighbour plan.grid k pass ≡ Some j → (line place : ℕ) → place < order_of plan pass
     → strip_word plan s Linked j pass line place ≡ strip_word plan r Linked j pass line place)
     → (line distance : ℕ) → past_edges plan s k pass line distance ≡ past_edges plan r k pass line distance
 unfolding past_edges
@@ -124,7 +124,7 @@ past_same plan s r k pass e line i =
 -- The linked strips past block k's edges, for the first n passes, are the whole map's.
 abbrev pub NeedsTrue : Plan → (ℕ → ℕ → ℕ) → List ℕ → ℕ → ℕ → Type 0
 NeedsTrue plan X strips k n =
-    (pass j : ℕ) → pass < n → neighbour plan.grid k pass ≡ some j
+    (pass j : ℕ) → pass < n → neighbour plan.grid k pass ≡ Some j
     → HoldsStrip plan strips Linked j pass (matching_word plan X j pass)
 
 -- Then what stands past its edges is what the whole map has there.

@@ -1,7 +1,6 @@
 -- What a task writes depends only on the plan, the block's own heights (collect and finish), its own lone strip (a link) and
 -- the linked strips in its needs: document 01, below the table of tasks; document 02, CR 8.
-use Rattle.std.specs.Prelude.{◌≡◌, true, List, ℕ, suc, ◌<◌}
-use Rattle.std.proofs.Math.Option.{some}
+use Rattle.std.specs.Prelude.{◌≡◌, true, List, ℕ, suc, ◌<◌, Some}
 use Rattle.plan.specs.declared.Plan.{Plan}
 use Rattle.plan.specs.Sizes.{needed_marks, order_of}
 use Rattle.buffer.specs.Lists.{word_at}
@@ -22,7 +21,7 @@ SameStrip plan half k pass s r =
 -- Two lists have the same linked strips past block k's edges for the first n passes: the needs of a link of pass n-1, and of finish
 -- where n is 4.
 abbrev pub SameNeeds : Plan → ℕ → ℕ → (s r : List ℕ) → Type 0
-SameNeeds plan k n s r = (pass j : ℕ) → pass < n → neighbour plan.grid k pass ≡ some j → SameStrip plan Linked j pass s r
+SameNeeds plan k n s r = (pass j : ℕ) → pass < n → neighbour plan.grid k pass ≡ Some j → SameStrip plan Linked j pass s r
 
 -- The words that collect writes,
 abbrev pub CollectDepends : Type 0

@@ -2,7 +2,7 @@
 -- Assumes nothing.
 use mathlib.Core.Path.{◌≡◌, refl, sym, ◌∙◌}
 use mathlib.Core.Bool.{Bool, true, false, true≢false}
-use mathlib.Core.Option.{some}
+use Rattle.std.specs.Prelude.{Some}
 use Prim.Native.Nat.{ℕ, zero, suc, ◌-◌, ◌<◌, ◌≤◌}
 use native.Mathlib.Omega.{arith}
 use lib.Dec.{ltb, eqb}
@@ -84,7 +84,7 @@ link_has grid at (suc pass) h l =
     let e : suc pass - 1 ≡ pass = omega arith in rw e (sym (link_at grid at pass (omega arith)))
 
 -- So a link exists exactly where a neighbour needs it: at the neighbour that a pass comes from,
-pub neighbour_linked : (grid : Grid) (k pass j : ℕ) → k < block_total grid → pass < 4 → neighbour grid k pass ≡ some j
+pub neighbour_linked : (grid : Grid) (k pass j : ℕ) → k < block_total grid → pass < 4 → neighbour grid k pass ≡ Some j
     → exists grid (suc pass) j ≡ true
 neighbour_linked grid k pass j here l e =
     has_exists grid j (neighbour_below grid k pass j here e) (suc pass)
@@ -92,7 +92,7 @@ neighbour_linked grid k pass j here l e =
 
 -- and nowhere else.
 pub link_needed : (grid : Grid) (j pass : ℕ) → pass < 4 → exists grid (suc pass) j ≡ true
-    → (next_block grid j pass < block_total grid) × (neighbour grid (next_block grid j pass) pass ≡ some j)
+    → (next_block grid j pass < block_total grid) × (neighbour grid (next_block grid j pass) pass ≡ Some j)
 link_needed grid j pass l e =
     let here = exists_block grid (suc pass) j e in
     let on = sym (link_exists grid j pass l) ∙ exists_has grid (suc pass) j e in

@@ -1,7 +1,7 @@
 -- What is lent has the marks of a block of the map and of its neighbours.
 -- Assumes nothing.
 use mathlib.Core.Path.{◌≡◌}
-use mathlib.Core.Option.{some}
+use Rattle.std.specs.Prelude.{Some}
 use Prim.Native.Nat.{ℕ, ◌<◌}
 use native.Mathlib.Omega.{arith}
 use Rattle.grid.specs.declared.Grid.{Grid}
@@ -12,7 +12,7 @@ use Rattle.tasks.specs.Lent.{LentAt}
 pub block_lent : {grid : Grid} {length k : ℕ} → LentAt grid length k → k < length
 block_lent a = omega (arith, a.inside, a.lent.enough)
 
-pub beside_lent : {grid : Grid} {length k : ℕ} (pass j : ℕ) → LentAt grid length k → neighbour grid k pass ≡ some j
+pub beside_lent : {grid : Grid} {length k : ℕ} (pass j : ℕ) → LentAt grid length k → neighbour grid k pass ≡ Some j
     → LentAt grid length j
 beside_lent {grid} {length} {k} pass j a e =
     record { lent = a.lent; inside = neighbour_below grid k pass j a.inside e }

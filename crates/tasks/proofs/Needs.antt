@@ -4,7 +4,7 @@ use mathlib.Core.Path.{◌≡◌, refl, sym, ap, ap₂, ◌∙◌}
 use mathlib.Core.Logic.{⊎_elim}
 use mathlib.Core.Bool.{Bool, true, false, not, ◌&&◌, cond, and-true, and_assoc}
 use mathlib.Core.List.{List, [], ◌∷◌, ◌++◌, append_assoc}
-use mathlib.Core.Option.{Option, none, some}
+use Rattle.std.specs.Prelude.{Option, None, Some}
 use Prim.Native.Nat.{ℕ, zero, suc, ◌+◌, ◌-◌, ◌<◌, ◌≤◌, min}
 use native.Mathlib.Omega.{arith}
 use native.Mathlib.Nat.{eq-or-lt_of_le, div-le_self, mod-le}
@@ -26,15 +26,15 @@ use Rattle.tasks.proofs.Existence.{has_exists, exists_block, exists_task, neighb
 
 -- The link of a pass at a neighbour, if there is one.
 abbrev pub need_at : (pass : ℕ) → Option ℕ → List BlockTask
-need_at pass none = []
-need_at pass (some j) = record { task = suc pass; block = j } ∷ []
+need_at pass None = []
+need_at pass (Some j) = record { task = suc pass; block = j } ∷ []
 
 -- The links of the first n passes at the neighbours of block k.
 unfoldable pub link_needs : Grid → (k n : ℕ) → List BlockTask
 link_needs grid k zero = []
 link_needs grid k (suc pass) = link_needs grid k pass ++ need_at pass (neighbour grid k pass)
 
-need_at_law : (pass : ℕ) (test : Bool) (j : ℕ) → need_at pass (cond test (some j) none) ≡ need_if test (suc pass) j
+need_at_law : (pass : ℕ) (test : Bool) (j : ℕ) → need_at pass (cond test (Some j) None) ≡ need_if test (suc pass) j
 need_at_law pass true j = refl
 need_at_law pass false j = refl
 
@@ -63,8 +63,8 @@ module _ (done : ℕ → ℕ → Bool) where
 
   done_at_law : (pass : ℕ) (beside : Option ℕ) → all_done done (need_at pass beside) ≡ link_done_at done pass beside
   unfolding all_done
-  done_at_law pass none = refl
-  done_at_law pass (some j) = and-true (done (suc pass) j)
+  done_at_law pass None = refl
+  done_at_law pass (Some j) = and-true (done (suc pass) j)
 
   done_links : (grid : Grid) (k n : ℕ) → all_done done (link_needs grid k n) ≡ all_below (link_done grid done k) n
   unfolding link_needs all_done all_below link_done
@@ -84,22 +84,22 @@ module _ (done : ℕ → ℕ → Bool) where
 
   -- The code's test of a link: nothing is asked without a neighbour, and with one its link.
   module _ (grid : Grid) (k pass : ℕ) where
-    pub link_absent : neighbour grid k pass ≡ none → true ≡ link_done grid done k pass
+    pub link_absent : neighbour grid k pass ≡ None → true ≡ link_done grid done k pass
     unfolding link_done
     link_absent e = rw e
 
-    pub link_there : (j : ℕ) (answer : Bool) → neighbour grid k pass ≡ some j → answer ≡ done (pass + 1) j
+    pub link_there : (j : ℕ) (answer : Bool) → neighbour grid k pass ≡ Some j → answer ≡ done (pass + 1) j
         → answer ≡ link_done grid done k pass
     unfolding link_done
     link_there j answer e a = rw e (rw (add-one pass) at a)
 
-    link_done_law : ((j : ℕ) → neighbour grid k pass ≡ some j → done (suc pass) j ≡ true) → link_done grid done k pass ≡ true
+    link_done_law : ((j : ℕ) → neighbour grid k pass ≡ Some j → done (suc pass) j ≡ true) → link_done grid done k pass ≡ true
     unfolding link_done
     link_done_law f = by (neighbour grid k pass) f
       where
-        by : (beside : Option ℕ) → ((j : ℕ) → beside ≡ some j → done (suc pass) j ≡ true) → link_done_at done pass beside ≡ true
-        by none f = refl
-        by (some j) f = f j refl
+        by : (beside : Option ℕ) → ((j : ℕ) → beside ≡ Some j → done (suc pass) j ≡ true) → link_done_at done pass beside ≡ true
+        by None f = refl
+        by (Some j) f = f j refl
 
   -- The code's test of the needs of a task after 0: own 0, then the links.
   pub needs_uncollected : (grid : Grid) (t k : ℕ) → 1 ≤ t → t < 6 → done 0 k ≡ false → false ≡ all_done done (needs_of grid t k)
@@ -119,13 +119,13 @@ module _ (done : ℕ → ℕ → Bool) where
     pub needs_collected : done 0 k ≡ true
     needs_collected = and_left (done 0 k) _ both
 
-    pub needs_linked : (pass j : ℕ) → pass < min (suc t) 4 → neighbour grid k pass ≡ some j → done (suc pass) j ≡ true
+    pub needs_linked : (pass j : ℕ) → pass < min (suc t) 4 → neighbour grid k pass ≡ Some j → done (suc pass) j ≡ true
     unfolding link_done
     needs_linked pass j l e = rw e at (all_at (link_done grid done k) (min (suc t) 4) pass (and_right (done 0 k) _ both) l)
 
   -- And what makes the needs of a task done.
   pub needs_all : (grid : Grid) (t k : ℕ) → t < 6 → done 0 k ≡ true
-      → ((pass j : ℕ) → pass < min t 4 → neighbour grid k pass ≡ some j → done (suc pass) j ≡ true)
+      → ((pass j : ℕ) → pass < min t 4 → neighbour grid k pass ≡ Some j → done (suc pass) j ≡ true)
       → all_done done (needs_of grid t k) ≡ true
   needs_all grid zero k l own link = needs_none grid k
   needs_all grid (suc t) k l own link =
@@ -153,8 +153,8 @@ module _ (grid : Grid) (p q : ℕ → ℕ → Bool) (same : (t k : ℕ) → t < 
   link_same k pass h l = by (neighbour grid k pass) refl
     where
       by : (beside : Option ℕ) → neighbour grid k pass ≡ beside → link_done_at p pass beside ≡ link_done_at q pass beside
-      by none e = refl
-      by (some j) e = same (suc pass) j (omega arith) (neighbour_below grid k pass j h e)
+      by None e = refl
+      by (Some j) e = same (suc pass) j (omega arith) (neighbour_below grid k pass j h e)
 
   links_same : (k n : ℕ) → k < block_total grid → n ≤ 4 → all_below (link_done grid p k) n ≡ all_below (link_done grid q k) n
   unfolding all_below
@@ -208,7 +208,7 @@ distance forward blocks k = k
 distance backward blocks k = blocks - k
 
 -- and the neighbour that the pass comes from is nearer.
-module _ (grid : Grid) (k pass j : ℕ) (here : k < block_total grid) (e : neighbour grid k pass ≡ some j) where
+module _ (grid : Grid) (k pass j : ℕ) (here : k < block_total grid) (e : neighbour grid k pass ≡ Some j) where
   index_most : (a : Axis) → along a (block_row grid k) (block_column grid k) ≤ k
   unfolding block_row block_column
   index_most columns = div-le_self k (block_columns_of grid)

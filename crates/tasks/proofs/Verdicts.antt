@@ -4,7 +4,7 @@
 use mathlib.Core.Path.{◌≡◌, refl, sym, ap, ◌∙◌}
 use mathlib.Core.Bool.{Bool, true, false, not, ◌&&◌, cond, true≢false}
 use mathlib.Core.List.{List, [], ◌∷◌, ◌++◌}
-use mathlib.Core.Option.{Option, none, some}
+use Rattle.std.specs.Prelude.{Option, None, Some}
 use mathlib.Core.Logic.{⊎_elim}
 use Prim.Native.Nat.{ℕ, zero, suc, ◌+◌, ◌^◌, ◌<◌, ◌≤◌, min}
 use native.Mathlib.Omega.{arith}
@@ -125,11 +125,11 @@ module _ (grid : Grid) (marks : List ℕ) where
   -- The look at the neighbour of a pass,
   module _ (k pass : ℕ) where
     -- as the code takes it,
-    pub beside_absent : neighbour grid k pass ≡ none → block_total grid ≡ broken_beside grid marks k pass
+    pub beside_absent : neighbour grid k pass ≡ None → block_total grid ≡ broken_beside grid marks k pass
     unfolding broken_beside
     beside_absent e = rw e
 
-    pub beside_there : (j answer : ℕ) → neighbour grid k pass ≡ some j → answer ≡ broken_at grid marks j
+    pub beside_there : (j answer : ℕ) → neighbour grid k pass ≡ Some j → answer ≡ broken_at grid marks j
         → answer ≡ broken_beside grid marks k pass
     unfolding broken_beside
     beside_there j answer e a = rw e a
@@ -142,8 +142,8 @@ module _ (grid : Grid) (marks : List ℕ) where
       where
         by : (beside : Option ℕ) → neighbour grid k pass ≡ beside
             → least_broken_of grid marks (blocks_of (need_at pass beside)) ≡ broken_in grid marks beside
-        by none e = refl
-        by (some j) e = omega (arith, broken_most j (neighbour_below grid k pass j h e))
+        by None e = refl
+        by (Some j) e = omega (arith, broken_most j (neighbour_below grid k pass j h e))
 
   -- The least broken mark among that of block k and those of its neighbours for the first n passes.
   pub least_around : ℕ → ℕ → ℕ
@@ -186,8 +186,8 @@ module _ (grid : Grid) (marks : List ℕ) where
     around_valid valid (suc pass) = omega (arith, around_valid valid pass, by (neighbour grid k pass) refl)
       where
         by : (beside : Option ℕ) → neighbour grid k pass ≡ beside → broken_in grid marks beside ≡ block_total grid
-        by none e = refl
-        by (some j) e = rw (valid j (neighbour_below grid k pass j h e))
+        by None e = refl
+        by (Some j) e = rw (valid j (neighbour_below grid k pass j h e))
 
     none_broken : Valid grid marks → (t : ℕ) → t < 6 → least_broken grid marks t k ≡ block_total grid
     none_broken valid t l = sym (around_is t l) ∙ around_valid valid (min t 4)

@@ -1,7 +1,6 @@
 -- Document 01's tables of tasks and needs beside the geometry of blocks: they say the same. The code goes by the geometry, pass by
 -- pass.
-use Rattle.std.specs.Prelude.{Bool, true, ◌&&◌, List, ◌≡◌, ℕ, suc, ◌<◌, min}
-use Rattle.std.proofs.Math.Option.{Option, none, some}
+use Rattle.std.specs.Prelude.{Bool, true, ◌&&◌, List, ◌≡◌, ℕ, suc, ◌<◌, min, Option, None, Some}
 use Rattle.number.specs.Numbers.{all_below}
 use Rattle.grid.specs.declared.Grid.{Grid}
 use Rattle.grid.specs.Grid.{block_total, block_row, block_column, neighbour, goes_on}
@@ -10,8 +9,8 @@ use Rattle.tasks.specs.Verdict.{broken_at}
 
 -- The link of a pass is done at a neighbour; nothing is asked where there is none.
 abbrev pub link_done_at : (ℕ → ℕ → Bool) → (pass : ℕ) → Option ℕ → Bool
-link_done_at done pass none = true
-link_done_at done pass (some j) = done (suc pass) j
+link_done_at done pass None = true
+link_done_at done pass (Some j) = done (suc pass) j
 
 -- The link of a pass is done at the neighbour of block k that the pass comes from.
 unfoldable pub link_done : Grid → (ℕ → ℕ → Bool) → (k pass : ℕ) → Bool
@@ -33,8 +32,8 @@ NeedsDone =
 
 -- A neighbour whose mark has a wrong kind or a spare bit; M×N where it has not, or where there is none.
 abbrev pub broken_in : Grid → List ℕ → Option ℕ → ℕ
-broken_in grid marks none = block_total grid
-broken_in grid marks (some j) = broken_at grid marks j
+broken_in grid marks None = block_total grid
+broken_in grid marks (Some j) = broken_at grid marks j
 
 -- The same of the neighbour of block k that a pass comes from.
 unfoldable pub broken_beside : Grid → List ℕ → (k pass : ℕ) → ℕ

@@ -14,7 +14,7 @@ ghost use Rattle.tasks.specs.Verdict.{broken_at, least_broken, verdict_rows};
 ghost use Rattle.tasks.specs.Neighbours.{link_done, broken_beside};
 ghost use Rattle.tasks.specs.Lent.{Lent, LentAt};
 
-use grid::{Grid, Neighbour, Position};
+use grid::{Grid, Position};
 use refusal::{Outcome, Refusal};
 
 // Tasks 0 to 5: collect, the links down, up, right and left, finish.
@@ -122,10 +122,9 @@ fn link_marked(grid: Grid, marks: &[u32], pass: usize, block: usize) -> bool
     requires { LentAt grid (length marks.now) block × (pass < 4) }
     ensures { result ≡ link_done grid (is_marked marks.now) block pass }
 {
-    let beside = grid.neighbour(block, pass);
-    match beside {
-        Neighbour::Block(j) => is_marked(marks, pass + 1, j),
-        Neighbour::Beyond => true,
+    match grid.neighbour(block, pass) {
+        Some(j) => is_marked(marks, pass + 1, j),
+        None => true,
     }
 }
 
@@ -189,10 +188,9 @@ fn broken_beside(grid: Grid, marks: &[u32], pass: usize, block: usize) -> usize
     requires { LentAt grid (length marks.now) block × (pass < 4) }
     ensures { result ≡ broken_beside grid marks.now block pass }
 {
-    let beside = grid.neighbour(block, pass);
-    match beside {
-        Neighbour::Block(j) => broken_at(grid, marks, j),
-        Neighbour::Beyond => grid.blocks(),
+    match grid.neighbour(block, pass) {
+        Some(j) => broken_at(grid, marks, j),
+        None => grid.blocks(),
     }
 }
 

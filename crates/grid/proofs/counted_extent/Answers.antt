@@ -12,4 +12,4 @@ overflow_sub-length c = omega (arith, counted_start _ _ _ c.requires)
 
 pub returns : goal.returns
 unfolding block_extent
-returns c = c.lesser.ensures
+returns c = c.min.ensures

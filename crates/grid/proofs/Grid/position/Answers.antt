@@ -12,12 +12,6 @@ pub nonzero_div-row : goal.nonzero_div-row
 nonzero_div-row c =
     omega (arith, c.block_columns-block_columns.ensures, (ranges c.args.self c.requires).block_columns_low)
 
-pub overflow_mul-result : goal.overflow_mul-result
-overflow_mul-result c = omega (arith, div-add-mod' c.args.k c.block_columns-block_columns.result)
-
-pub overflow_sub-result : goal.overflow_sub-result
-overflow_sub-result c = omega (arith, div-add-mod' c.args.k c.block_columns-block_columns.result)
-
 pub returns : goal.returns
 unfolding position_of block_row block_column
 returns c =
