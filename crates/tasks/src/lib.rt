@@ -15,7 +15,7 @@ ghost use Rattle.tasks.specs.Neighbours.{link_done, broken_beside};
 ghost use Rattle.tasks.specs.Lent.{Lent, LentAt};
 
 use grid::{Grid, Position};
-use refusal::{Outcome, Refusal};
+use refusal::Refusal;
 
 // Tasks 0 to 5: collect, the links down, up, right and left, finish.
 pub const TASKS: usize = 6;
@@ -36,26 +36,23 @@ fn has_task(grid: Grid, task: usize, at: Position) -> bool
     requires { InBlocks grid at }
     ensures { result ≡ has_task grid task at.row at.column }
 {
-    if task == 0 {
-        return true;
+    match task {
+        0 => true,
+        1..=PASSES => grid.goes_on(at, task - 1),
+        _ => task == 5,
     }
-    if task <= PASSES {
-        return grid.goes_on(at, task - 1);
-    }
-    task == 5
 }
 
 // There is such a block, and it has the task.
+#[tactic(auto, using(grid::proofs::Shapes::in_blocks), unfolding(crate::specs::Tasks::exists, grid::specs::Shapes::position_of))]
 pub fn exists(grid: Grid, task: usize, block: usize) -> bool
     requires { grid_kept grid ≡ true }
     ensures { result ≡ exists grid task block }
 {
-    if grid.blocks() <= block {
-        return false;
-    }
-    has_task(grid, task, grid.position(block))
+    block < grid.blocks() && has_task(grid, task, grid.position(block))
 }
 
+#[tactic(auto, unfolding(crate::specs::Marks::has_bit))]
 fn has_bit(mark: u32, task: usize) -> bool
     requires { task < 6 }
     ensures { result ≡ has_bit mark task }
@@ -64,6 +61,7 @@ fn has_bit(mark: u32, task: usize) -> bool
 }
 
 // Task `task` of a block is marked.
+#[tactic(auto, unfolding(crate::specs::Marks::is_marked))]
 pub fn is_marked(marks: &[u32], task: usize, block: usize) -> bool
     requires { (task < 6) × (block < length marks.now) }
     ensures { result ≡ is_marked marks.now task block }
@@ -72,17 +70,14 @@ pub fn is_marked(marks: &[u32], task: usize, block: usize) -> bool
 }
 
 // The mark of a block has the right kind and no spare bit.
+#[tactic(auto, using(grid::proofs::Shapes::in_blocks), unfolding(crate::specs::Marks::mark_valid, grid::specs::Shapes::position_of))]
 pub fn mark_valid(grid: Grid, block: usize, mark: u32) -> bool
     requires { InGrid grid block }
     ensures { result ≡ mark_valid grid block mark }
 {
-    if number::kind_of(mark) != MARK_KIND {
-        return false;
-    }
-    if number::payload_of(mark) >= TASK_BITS_LIMIT {
-        return false;
-    }
-    spares_clear(grid, grid.position(block), mark)
+    number::kind_of(mark) == MARK_KIND
+        && number::payload_of(mark) < TASK_BITS_LIMIT
+        && spares_clear(grid, grid.position(block), mark)
 }
 
 // Bits 0 to 5 of a mark are clear where the block has no such task.
@@ -90,31 +85,27 @@ fn spares_clear(grid: Grid, at: Position, mark: u32) -> bool
     requires { InBlocks grid at }
     ensures { result ≡ all_below (spare_clear grid at.row at.column mark) 6 }
 {
-    let mut task = 0;
-    while task < TASKS {
+    for task in 0..TASKS {
         if !spare_clear(grid, at, mark, task) {
             return false;
         }
-        task += 1;
     }
     true
 }
 
+#[tactic(auto, unfolding(crate::specs::Marks::spare_clear))]
 fn spare_clear(grid: Grid, at: Position, mark: u32, task: usize) -> bool
     requires { InBlocks grid at × (task < 6) }
     ensures { result ≡ spare_clear grid at.row at.column mark task }
 {
-    if has_task(grid, task, at) {
-        return true;
-    }
-    !has_bit(mark, task)
+    has_task(grid, task, at) || !has_bit(mark, task)
 }
 
 // The number of passes whose neighbours a task needs: one more for each link, all four to finish.
 fn passes_needed(task: usize) -> usize
     ensures { result ≡ min task 4 }
 {
-    number::lesser(task, PASSES)
+    task.min(PASSES)
 }
 
 // The link of a pass is marked at the neighbour, if there is one.
@@ -133,12 +124,10 @@ fn links_marked(grid: Grid, marks: &[u32], passes: usize, block: usize) -> bool
     requires { LentAt grid (length marks.now) block × (passes ≤ 4) }
     ensures { result ≡ all_below (link_done grid (is_marked marks.now) block) passes }
 {
-    let mut pass = 0;
-    while pass < passes {
+    for pass in 0..passes {
         if !link_marked(grid, marks, pass, block) {
             return false;
         }
-        pass += 1;
     }
     true
 }
@@ -148,27 +137,18 @@ pub fn needs_met(grid: Grid, marks: &[u32], task: usize, block: usize) -> bool
     requires { LentAt grid (length marks.now) block × (task < 6) }
     ensures { result ≡ all_done (is_marked marks.now) (needs_of grid task block) }
 {
-    if task == 0 {
-        return true;
-    }
-    if !is_marked(marks, 0, block) {
-        return false;
-    }
-    links_marked(grid, marks, passes_needed(task), block)
+    task == 0 || is_marked(marks, 0, block) && links_marked(grid, marks, passes_needed(task), block)
 }
 
 // A task exists at a block, is not marked, and its needs are.
+#[tactic(auto, using(crate::proofs::Existence::exists_block, crate::proofs::Existence::exists_task), unfolding(crate::specs::Tasks::ready))]
 pub fn is_ready(grid: Grid, marks: &[u32], task: usize, block: usize) -> bool
     requires { Lent grid (length marks.now) }
     ensures { result ≡ ready grid (is_marked marks.now) task block }
 {
-    if !exists(grid, task, block) {
-        return false;
-    }
-    if is_marked(marks, task, block) {
-        return false;
-    }
-    needs_met(grid, marks, task, block)
+    exists(grid, task, block)
+        && !is_marked(marks, task, block)
+        && needs_met(grid, marks, task, block)
 }
 
 // A block where its mark is broken, else the number of blocks.
@@ -176,11 +156,11 @@ fn broken_at(grid: Grid, marks: &[u32], block: usize) -> usize
     requires { LentAt grid (length marks.now) block }
     ensures { result ≡ broken_at grid marks.now block }
 {
-    let mark = marks[block];
-    if mark_valid(grid, block, mark) {
-        return grid.blocks();
+    if mark_valid(grid, block, marks[block]) {
+        grid.blocks()
+    } else {
+        block
     }
-    block
 }
 
 // The same for the neighbour that a pass comes from, if there is one.
@@ -199,42 +179,40 @@ fn least_broken(grid: Grid, marks: &[u32], task: usize, block: usize) -> usize
     requires { LentAt grid (length marks.now) block × (task < 6) }
     ensures { result ≡ least_broken grid marks.now task block }
 {
-    let passes = passes_needed(task);
     let mut least = broken_at(grid, marks, block);
-    let mut pass = 0;
-    while pass < passes {
-        least = number::lesser(least, broken_beside(grid, marks, pass, block));
-        pass += 1;
+    for pass in 0..passes_needed(task) {
+        least = least.min(broken_beside(grid, marks, pass, block));
     }
     least
 }
 
 // What the marks say to a call of a task at a block.
-pub fn verdict(grid: Grid, marks: &[u32], task: usize, block: usize) -> Outcome
+#[tactic(auto, using(crate::proofs::Existence::exists_block, crate::proofs::Existence::exists_task), unfolding(crate::specs::Verdict::verdict_rows))]
+pub fn verdict(grid: Grid, marks: &[u32], task: usize, block: usize) -> Result<(), Refusal>
     requires { Lent grid (length marks.now) }
     ensures { answer_of result ≡ first_due (verdict_rows grid marks.now task block) }
 {
     if !exists(grid, task, block) {
-        return Outcome::Refused(Refusal::NoSuchTask);
+        return Err(Refusal::NoSuchTask);
     }
     let broken = least_broken(grid, marks, task, block);
     if broken < grid.blocks() {
-        return Outcome::Refused(Refusal::MarkBroken(broken));
+        return Err(Refusal::MarkBroken(broken));
     }
     if is_marked(marks, task, block) {
-        return Outcome::Refused(Refusal::AlreadyMarked);
+        return Err(Refusal::AlreadyMarked);
     }
     if !needs_met(grid, marks, task, block) {
-        return Outcome::Refused(Refusal::NeedUnmarked);
+        return Err(Refusal::NeedUnmarked);
     }
-    Outcome::Accepted
+    Ok(())
 }
 
 // The marks after an accepted task.
+#[tactic(auto, using(crate::proofs::Marking::shifted_one), unfolding(crate::specs::Marks::with_bit))]
 pub fn set_bit(marks: &mut [u32], task: usize, block: usize)
     requires { (task < 6) × (block < length marks.old) × (word_at marks.old block + 2 ^ task < 2 ^ 32) }
     ensures { marks.new ≡ with_bit marks.old task block }
 {
-    let mark = marks[block];
-    marks[block] = mark + (1 << task);
+    marks[block] += 1 << task;
 }

@@ -6,22 +6,15 @@ use Rattle.tasks.proofs.Verdicts.{around_is, around_none, around_on}
 use Rattle.tasks.proofs.least_broken.Goals as goal
 
 pub loop-pass-init : goal.loop-pass-init
-loop-pass-init c =
-    (omega arith, omega (arith, c.passes_needed-passes.ensures), c.broken_at-least.ensures ∙ sym (around_none _ _ _))
+loop-pass-init c = c.broken_at-least.ensures ∙ sym (around_none _ _ _)
 
 pub broken_beside-requires : goal.broken_beside-requires
 broken_beside-requires c = (c.requires.0, omega arith)
 
 pub loop-pass-preserved : goal.loop-pass-preserved
-loop-pass-preserved c = (
-  omega arith,
-  omega arith,
-  c.lesser-least.ensures ∙ around_on _ _ _ _ _ _ c.loop-pass.invariant.2 c.broken_beside.ensures,
-)
+loop-pass-preserved c = c.min-least.ensures ∙ around_on _ _ _ _ _ _ c.loop-pass.invariant c.broken_beside.ensures
 
 pub returns : goal.returns
 returns c =
-    let end : c.loop-pass.pass ≡ min c.args.task 4 =
-    omega (arith, c.passes_needed-passes.ensures)
-    in
-    rw end at c.loop-pass.invariant.2 ∙ around_is _ _ _ c.requires.0.inside _ c.requires.1
+    let end : c.loop-pass.pass ≡ min c.args.task 4 = omega arith in
+    rw end at c.loop-pass.invariant ∙ around_is _ _ _ c.requires.0.inside _ c.requires.1

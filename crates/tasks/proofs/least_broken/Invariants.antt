@@ -1,12 +1,7 @@
 -- Invariant: the least broken mark among the block's own and those of its neighbours for the passes so far.
 use mathlib.Core.Path.{◌≡◌}
-use Prim.Native.Nat.{◌-◌, ◌≤◌}
 use Rattle.tasks.proofs.Verdicts.{least_around}
 use Rattle.tasks.proofs.least_broken.Given as goal
 
 abbrev pub invariant-loop-pass : goal.invariant-loop-pass
-invariant-loop-pass l =
-    (l.pass ≤ l.passes) × (l.passes ≤ 4) × (l.least ≡ least_around l.grid l.marks l.block l.pass)
-
-abbrev pub decreases-loop-pass : goal.decreases-loop-pass
-decreases-loop-pass l = l.passes - l.pass
+invariant-loop-pass l = l.least ≡ least_around l.grid l.marks l.block l.pass
