@@ -6,12 +6,11 @@ use mathlib.Core.List.{List, [], ◌++◌}
 use Prim.Native.Nat.{ℕ, ◌≤◌}
 use native.Mathlib.Omega.{arith}
 use lib.ListN.{length, drop, length-map}
+use Rattle.std.specs.Prelude.{Result, Ok, Err}
 use Rattle.refusal.specs.declared.Refusal.{Refusal}
 use Rattle.refusal.specs.Refusals.{Answer, refused_for, accepted}
 use Rattle.plan.specs.declared.Plan.{Plan}
 use Rattle.plan.specs.declared.Sizes.{Sizes}
-use Rattle.plan.specs.declared.PlanSizes.{PlanSizes}
-use Rattle.plan.specs.declared.PlanSizes.TheVariants.{Known, Refused}
 use Rattle.plan.specs.Rules.{keeps_rules}
 use Rattle.plan.specs.Sizes.{needed_pixels}
 use Rattle.plan.specs.FirstTests.{lent_rows, sizes_for, sizes_given, ShortBuffer, of7_short, strips_short, map_short, output_short}
@@ -70,19 +69,19 @@ output_of_accepted plan X map_length output e = rw e
 
 -- ---- the ways out
 
-module _ {P : Type 0} (plan : Plan) (word : P → ℕ) (map_pixels : List P) (output : List ℕ) (known : PlanSizes)
+module _ {P : Type 0} (plan : Plan) (word : P → ℕ) (map_pixels : List P) (output : List ℕ) (known : Result Sizes Refusal)
     (is : sizes_given known ≡ sizes_for plan (lent_to_passes (length map_pixels) (length output))) where
   abbrev answer : Answer
   answer = serial_answer plan (length map_pixels) (length output)
 
-  pub passes_refused : (refusal : Refusal) → known ≡ Refused refusal
+  pub passes_refused : (refusal : Refusal) → known ≡ Err refusal
       → (refused_for refusal ≡ answer) × (output ≡ serial_words_output plan (map_words word map_pixels) output)
   unfolding serial_answer passes_output
   passes_refused refusal e =
       let refuses = sizes_refused plan (lent_to_passes (length map_pixels) (length output)) known is refusal e in
       (refuses, rw (length-map, ← refuses))
 
-  module _ (sizes : Sizes) (e : known ≡ Known sizes) where
+  module _ (sizes : Sizes) (e : known ≡ Ok sizes) where
     accepts : answer ≡ accepted
     unfolding serial_answer
     accepts = (sizes_known plan (lent_to_passes (length map_pixels) (length output)) known is sizes e).0

@@ -14,8 +14,8 @@ ghost use Rattle.serial.specs.Stages.{map_words, words_read, MapFits, RowsFit, B
 
 use filter::Window;
 use grid::Grid;
-use plan::{BufferOf7, Length, Lengths, Plan, PlanSizes};
-use refusal::Outcome;
+use plan::{Lengths, Plan};
+use refusal::Refusal;
 
 // The rows of a band: as many as a filter can have taps, so that up over a band reads no further than the next; enough
 // that the chains of multiplies of their row passes overlap, and few enough that a band stays in the cache from one step
@@ -74,7 +74,7 @@ impl Pixel for u64 {
 // The passes down, up, right and left over a map of heights: the first rows × columns words of the output are their
 // result.
 #[tactic(auto, using(crate::proofs::Outputs::heights_as_words))]
-pub fn serial_passes(plan: Plan, map: &[i32], output: &mut [u64]) -> Outcome
+pub fn serial_passes(plan: Plan, map: &[i32], output: &mut [u64]) -> Result<(), Refusal>
     ensures answer { answer_of result ≡ serial_answer plan (length map.now) (length output.old) }
     ensures result { output.new ≡ serial_output plan map.now output.old }
 {
@@ -82,7 +82,7 @@ pub fn serial_passes(plan: Plan, map: &[i32], output: &mut [u64]) -> Outcome
 }
 
 // The same over a map of words, none of which is taken for a dropout: sums and differences of maps, or an output.
-pub fn serial_words(plan: Plan, map: &[u64], output: &mut [u64]) -> Outcome
+pub fn serial_words(plan: Plan, map: &[u64], output: &mut [u64]) -> Result<(), Refusal>
     ensures answer { answer_of result ≡ serial_answer plan (length map.now) (length output.old) }
     ensures result { output.new ≡ serial_words_output plan map.now output.old }
 {
@@ -90,23 +90,19 @@ pub fn serial_words(plan: Plan, map: &[u64], output: &mut [u64]) -> Outcome
 }
 
 // The call over a map of either kind.
-fn run_passes<P: Pixel>(plan: Plan, map: &[P], output: &mut [u64]) -> Outcome
+fn run_passes<P: Pixel>(plan: Plan, map: &[P], output: &mut [u64]) -> Result<(), Refusal>
     ensures answer { answer_of result ≡ serial_answer plan (length map.now) (length output.old) }
     ensures result { output.new ≡ serial_words_output plan (map_words P.word map.now) output.old }
 {
     let lent = Lengths {
-        of7: BufferOf7::NoneOf7,
-        strips: Length::NotLent,
-        map: Length::Of(map.len()),
-        output: Length::Of(output.len()),
+        of7: None,
+        strips: None,
+        map: Some(map.len()),
+        output: Some(output.len()),
     };
-    match plan.sizes_for(lent) {
-        PlanSizes::Refused(refusal) => Outcome::Refused(refusal),
-        PlanSizes::Known(_) => {
-            filter_map(plan, map, output);
-            Outcome::Accepted
-        }
-    }
+    plan.sizes_for(lent)?;
+    filter_map(plan, map, output);
+    Ok(())
 }
 
 // The passes over a map that fits.
