@@ -26,8 +26,8 @@ use Rattle.tasks.proofs.Needs.{All, all_done_law, ready_same, ready_exists, read
 use Rattle.tasks.proofs.Counting.{Only, task_count_law, count_all, all_of_count, count_most, count_same}
 use Rattle.tasks.proofs.Marking.{shows_marked, shows_valid}
 use Rattle.tasks.proofs.Verdicts.{all_valid}
-use Rattle.report.specs.declared.Next.{Next}
-use Rattle.report.specs.declared.Next.TheVariants.{Ready, Nothing}
+use Rattle.std.specs.Prelude.{Option, None, Some}
+use Rattle.report.specs.declared.Ready.{Ready}
 use Rattle.report.specs.declared.Progress.{Progress}
 use Rattle.report.specs.Tally.{tally}
 use Rattle.report.specs.Values.{values_of}
@@ -36,39 +36,41 @@ use Rattle.report.proofs.Search.{First, task_found, task_none, task_same}
 use Rattle.report.proofs.Tallies.{tally_whole, tally_same}
 
 module _ (grid : Grid) (done : ℕ → ℕ → Bool) where
-  found : (t k : ℕ) → first_ready grid done ≡ Ready t k → First (ready grid done) (block_total grid) 0 6 t k
+  found : (next : Ready) → first_ready grid done ≡ Some next
+      → First (ready grid done) (block_total grid) 0 6 next.task next.block
   unfolding first_ready
-  found t k e = task_found (ready grid done) (block_total grid) 0 6 t k e
+  found next e = task_found (ready grid done) (block_total grid) 0 6 next e
 
   -- What the report names is ready.
-  pub found_ready : (t k : ℕ) → first_ready grid done ≡ Ready t k → ready grid done t k ≡ true
-  found_ready t k e = (found t k e).holds
+  pub found_ready : (next : Ready) → first_ready grid done ≡ Some next → ready grid done next.task next.block ≡ true
+  found_ready next e = (found next e).holds
 
   -- It names none only where all are done.
-  pub none_all : first_ready grid done ≡ Nothing → All grid done
+  pub none_all : first_ready grid done ≡ None → All grid done
   unfolding first_ready
   none_all e =
       all_done_law grid done (λ t k l i. task_none (ready grid done) (block_total grid) 0 6 e t k (omega arith) (omega arith) i)
 
   -- Where all are done it names none.
-  all_none : All grid done → first_ready grid done ≡ Nothing
+  all_none : All grid done → first_ready grid done ≡ None
   all_none all = by (first_ready grid done) refl
     where
-      by : (x : Next) → first_ready grid done ≡ x → x ≡ Nothing
-      by (Ready t k) e =
-          let r = found_ready t k e in
+      by : (x : Option Ready) → first_ready grid done ≡ x → x ≡ None
+      by (Some next) e =
+          let (t, k) : ℕ × ℕ = (next.task, next.block) in
+          let r = found_ready next e in
           absurd (true≢false (sym (all t k (ready_exists grid done t k r)) ∙ ready_undone grid done t k r))
-      by Nothing e = refl
+      by None e = refl
 
   -- While fewer are done than there are, it names one.
   names_one : 1 ≤ block_rows_of grid → 1 ≤ block_columns_of grid → Only grid done
       → done_count grid done < 6 * block_total grid - 2 * block_rows_of grid - 2 * block_columns_of grid
-      → (t : ℕ) × (k : ℕ) × (first_ready grid done ≡ Ready t k)
+      → (next : Ready) × (first_ready grid done ≡ Some next)
   names_one m n only l = by (first_ready grid done) refl
     where
-      by : (x : Next) → first_ready grid done ≡ x → (t : ℕ) × (k : ℕ) × (first_ready grid done ≡ Ready t k)
-      by (Ready t k) e = (t, k, e)
-      by Nothing e = absurd (omega (arith, count_all grid done only (none_all e), task_count_law grid m n))
+      by : (x : Option Ready) → first_ready grid done ≡ x → (next : Ready) × (first_ready grid done ≡ Some next)
+      by (Some next) e = (next, e)
+      by None e = absurd (omega (arith, count_all grid done only (none_all e), task_count_law grid m n))
 
 -- The report on a plan where `done` tells what is done.
 pub record Told (plan : Plan) (done : ℕ → ℕ → Bool) (progress : Progress) : Type 0 where
@@ -77,11 +79,12 @@ pub record Told (plan : Plan) (done : ℕ → ℕ → Bool) (progress : Progress
   pub most : progress.marked ≤ task_count plan
   -- until all are done it names the first task that is ready
   pub names : progress.marked < task_count plan
-      → (t : ℕ) × (k : ℕ) × (progress.next ≡ Ready t k) × First (ready plan.grid done) (needed_marks plan) 0 6 t k
+      → (next : Ready) × (progress.next ≡ Some next)
+      × First (ready plan.grid done) (needed_marks plan) 0 6 next.task next.block
   -- with all done it names none, and the tally is two for each pixel
-  pub none : progress.marked ≡ task_count plan → (progress.next ≡ Nothing) × (progress.tally ≡ 2 * needed_pixels plan)
+  pub none : progress.marked ≡ task_count plan → (progress.next ≡ None) × (progress.tally ≡ 2 * needed_pixels plan)
   -- it names none only then
-  pub only : progress.next ≡ Nothing → All plan.grid done
+  pub only : progress.next ≡ None → All plan.grid done
 
 first_same : (grid : Grid) (p q : ℕ → ℕ → Bool) → ((t k : ℕ) → t < 6 → k < block_total grid → p t k ≡ q t k)
     → first_ready grid p ≡ first_ready grid q
@@ -100,8 +103,8 @@ module _ (plan : Plan) (kept : keeps_rules plan ≡ true) (done : ℕ → ℕ �
         tally = refl;
         most = omega (arith, count_most plan.grid done only);
         names = λ l.
-            let (t, k, e) = names_one plan.grid done known.block_rows_low known.block_columns_low only l in
-            (t, k, e, found plan.grid done t k e);
+            let (next, e) = names_one plan.grid done known.block_rows_low known.block_columns_low only l in
+            (next, e, found plan.grid done next e);
         none = λ e.
             let all = all_of_count plan.grid done only (e ∙ sym all_count) in (
               all_none plan.grid done all,

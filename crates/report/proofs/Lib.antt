@@ -1,4 +1,4 @@
 pub mod Search
 pub mod Tallies
-pub mod ReportAnswers
+pub mod LentMarks
 pub mod Claims

@@ -6,22 +6,23 @@ use Prim.Native.Nat.{ℕ, zero, suc, ◌+◌, ◌-◌, ◌<◌, ◌≤◌}
 use native.Mathlib.Nat.{eq-or-lt_of_le}
 use native.Mathlib.Numerals.{add-one}
 use native.Mathlib.Omega.{arith}
-use Rattle.report.specs.declared.Next.{Next}
-use Rattle.report.specs.declared.Next.TheVariants.{Ready, Nothing}
+use Rattle.std.specs.Prelude.{Option, None, Some}
+use Rattle.report.specs.declared.Ready.{Ready}
 use Rattle.report.specs.Report.{or_else, first_block, first_task}
 
 -- A step of the search for a ready task.
 module _ (p : ℕ → ℕ → Bool) where
-  pub row_hit : (t k m : ℕ) → k < m → p t k ≡ true → (g : Next) → or_else (first_block p t k (m - k)) g ≡ Ready t k
+  pub row_hit : (t k m : ℕ) → k < m → p t k ≡ true → (g : Option Ready)
+      → or_else (first_block p t k (m - k)) g ≡ Some (record { task = t; block = k })
   unfolding first_block
   row_hit t k m h e g = let q : m - k ≡ suc (m - (k + 1)) = omega arith in rw (q, e)
 
-  pub row_miss : (t k m : ℕ) → k < m → p t k ≡ false → (g : Next)
+  pub row_miss : (t k m : ℕ) → k < m → p t k ≡ false → (g : Option Ready)
       → or_else (first_block p t k (m - k)) g ≡ or_else (first_block p t (k + 1) (m - (k + 1))) g
   unfolding first_block
   row_miss t k m h e g = let q : m - k ≡ suc (m - (k + 1)) = omega arith in rw (q, e, add-one)
 
-  pub row_end_law : (t k m : ℕ) → m ≤ k → (g : Next) → or_else (first_block p t k (m - k)) g ≡ g
+  pub row_end_law : (t k m : ℕ) → m ≤ k → (g : Option Ready) → or_else (first_block p t k (m - k)) g ≡ g
   unfolding first_block
   row_end_law t k m h g = let q : m - k ≡ 0 = omega arith in rw q
 
@@ -30,7 +31,7 @@ module _ (p : ℕ → ℕ → Bool) where
   unfolding first_task
   task_row m t n h = let q : n - t ≡ suc (n - (t + 1)) = omega arith in let z : m - 0 ≡ m = omega arith in rw (q, z, add-one)
 
-  pub task_end : (m t n : ℕ) → n ≤ t → first_task p m t (n - t) ≡ Nothing
+  pub task_end : (m t n : ℕ) → n ≤ t → first_task p m t (n - t) ≡ None
   unfolding first_task
   task_end m t n h = let q : n - t ≡ 0 = omega arith in rw q
 
@@ -43,36 +44,37 @@ pub record First (p : ℕ → ℕ → Bool) (m t n u j : ℕ) : Type 0 where
   pub tasks_before : (s i : ℕ) → t ≤ s → s < u → i < m → p s i ≡ false
   pub blocks_before : (i : ℕ) → i < j → p u i ≡ false
 
--- j is the first block, from k to k + n - 1, at which p holds for task t = u.
-record FirstInRow (p : ℕ → ℕ → Bool) (t k n u j : ℕ) : Type 0 where
-  same : u ≡ t
-  from : k ≤ j
-  upto : j < k + n
-  holds : p t j ≡ true
-  before : (i : ℕ) → k ≤ i → i < j → p t i ≡ false
+-- The first block, from k to k + n - 1, at which p holds for task t, and that task.
+record FirstInRow (p : ℕ → ℕ → Bool) (t k n : ℕ) (found : Ready) : Type 0 where
+  same : found.task ≡ t
+  from : k ≤ found.block
+  upto : found.block < k + n
+  holds : p t found.block ≡ true
+  before : (i : ℕ) → k ≤ i → i < found.block → p t i ≡ false
 
 module _ (p : ℕ → ℕ → Bool) where
-  row_none : (t k n : ℕ) → first_block p t k n ≡ Nothing → (i : ℕ) → k ≤ i → i < k + n → p t i ≡ false
+  row_none : (t k n : ℕ) → first_block p t k n ≡ None → (i : ℕ) → k ≤ i → i < k + n → p t i ≡ false
   unfolding first_block
   row_none t k zero e i l h = absurd (omega arith)
   row_none t k (suc n) e i l h = by (p t k) refl e (row_none t (suc k) n)
     where
-      by : (b : Bool) → p t k ≡ b → cond b (Ready t k) (first_block p t (suc k) n) ≡ Nothing
-          → (first_block p t (suc k) n ≡ Nothing → (i : ℕ) → suc k ≤ i → i < suc k + n → p t i ≡ false) → p t i ≡ false
+      by : (b : Bool) → p t k ≡ b → cond b (Some (record { task = t; block = k })) (first_block p t (suc k) n) ≡ None
+          → (first_block p t (suc k) n ≡ None → (i : ℕ) → suc k ≤ i → i < suc k + n → p t i ≡ false) → p t i ≡ false
       by true q e r = let z : ◌≡◌ {A = ℕ} 0 1 = cc in absurd (omega arith)
       by false q e r =
           ⊎_elim (λ (x : k ≡ i). sym (ap (p t) x) ∙ q) (λ (x : k < i). r e i x (omega arith)) (eq-or-lt_of_le l)
 
-  row_found : (t k n u j : ℕ) → first_block p t k n ≡ Ready u j → FirstInRow p t k n u j
+  row_found : (t k n : ℕ) (found : Ready) → first_block p t k n ≡ Some found → FirstInRow p t k n found
   unfolding first_block
-  row_found t k zero u j e = let z : ◌≡◌ {A = ℕ} 0 1 = cc in absurd (omega arith)
-  row_found t k (suc n) u j e = by (p t k) refl e (row_found t (suc k) n u j)
+  row_found t k zero found e = let z : ◌≡◌ {A = ℕ} 0 1 = cc in absurd (omega arith)
+  row_found t k (suc n) found e = by (p t k) refl e (row_found t (suc k) n found)
     where
-      by : (b : Bool) → p t k ≡ b → cond b (Ready t k) (first_block p t (suc k) n) ≡ Ready u j
-          → (first_block p t (suc k) n ≡ Ready u j → FirstInRow p t (suc k) n u j) → FirstInRow p t k (suc n) u j
+      by : (b : Bool) → p t k ≡ b → cond b (Some (record { task = t; block = k })) (first_block p t (suc k) n) ≡ Some found
+          → (first_block p t (suc k) n ≡ Some found → FirstInRow p t (suc k) n found) → FirstInRow p t k (suc n) found
       by true q e r =
-          let x : t ≡ u = cc in
-          let y : k ≡ j = cc in
+          let here : ◌≡◌ {A = Ready} (record { task = t; block = k }) found = cc in
+          let x : t ≡ found.task = ap (λ (r : Ready). r.task) here in
+          let y : k ≡ found.block = ap (λ (r : Ready). r.block) here in
           record {
             same = sym x;
             from = omega arith;
@@ -91,37 +93,38 @@ module _ (p : ℕ → ℕ → Bool) where
                 ⊎_elim (λ (x : k ≡ i). sym (ap (p t) x) ∙ q) (λ (x : k < i). f.before i x h) (eq-or-lt_of_le l);
           }
 
-  pub task_none : (m t n : ℕ) → first_task p m t n ≡ Nothing → (s i : ℕ) → t ≤ s → s < t + n → i < m → p s i ≡ false
+  pub task_none : (m t n : ℕ) → first_task p m t n ≡ None → (s i : ℕ) → t ≤ s → s < t + n → i < m → p s i ≡ false
   unfolding first_task
   task_none m t zero e s i l h b = absurd (omega arith)
   task_none m t (suc n) e s i l h b = by (first_block p t 0 m) refl e (task_none m (suc t) n)
     where
-      by : (x : Next) → first_block p t 0 m ≡ x → or_else x (first_task p m (suc t) n) ≡ Nothing
-          → (first_task p m (suc t) n ≡ Nothing → (s i : ℕ) → suc t ≤ s → s < suc t + n → i < m → p s i ≡ false) → p s i ≡ false
-      by (Ready u j) q e r = let z : ◌≡◌ {A = ℕ} 0 1 = cc in absurd (omega arith)
-      by Nothing q e r =
+      by : (x : Option Ready) → first_block p t 0 m ≡ x → or_else x (first_task p m (suc t) n) ≡ None
+          → (first_task p m (suc t) n ≡ None → (s i : ℕ) → suc t ≤ s → s < suc t + n → i < m → p s i ≡ false) → p s i ≡ false
+      by (Some found) q e r = let z : ◌≡◌ {A = ℕ} 0 1 = cc in absurd (omega arith)
+      by None q e r =
           ⊎_elim (λ (x : t ≡ s). sym (ap (λ v. p v i) x) ∙ row_none t 0 m q i (omega arith) (omega arith))
           (λ (x : t < s). r e s i x (omega arith) b) (eq-or-lt_of_le l)
 
-  pub task_found : (m t n u j : ℕ) → first_task p m t n ≡ Ready u j → First p m t n u j
+  pub task_found : (m t n : ℕ) (found : Ready) → first_task p m t n ≡ Some found → First p m t n found.task found.block
   unfolding first_task
-  task_found m t zero u j e = let z : ◌≡◌ {A = ℕ} 0 1 = cc in absurd (omega arith)
-  task_found m t (suc n) u j e = by (first_block p t 0 m) refl e (task_found m (suc t) n u j)
+  task_found m t zero found e = let z : ◌≡◌ {A = ℕ} 0 1 = cc in absurd (omega arith)
+  task_found m t (suc n) found e = by (first_block p t 0 m) refl e (task_found m (suc t) n found)
     where
-      by : (x : Next) → first_block p t 0 m ≡ x → or_else x (first_task p m (suc t) n) ≡ Ready u j
-          → (first_task p m (suc t) n ≡ Ready u j → First p m (suc t) n u j) → First p m t (suc n) u j
-      by (Ready a b) q e r =
-          let f : FirstInRow p t 0 m u j = row_found t 0 m u j (q ∙ e) in
+      by : (x : Option Ready) → first_block p t 0 m ≡ x → or_else x (first_task p m (suc t) n) ≡ Some found
+          → (first_task p m (suc t) n ≡ Some found → First p m (suc t) n found.task found.block)
+          → First p m t (suc n) found.task found.block
+      by (Some here) q e r =
+          let f : FirstInRow p t 0 m found = row_found t 0 m found (q ∙ e) in
           let s = f.same in
           record {
             from = omega arith;
             upto = omega arith;
             inside = omega (arith, f.upto);
-            holds = ap (λ v. p v j) s ∙ f.holds;
+            holds = ap (λ v. p v found.block) s ∙ f.holds;
             tasks_before = λ v i l h b. absurd (omega arith);
             blocks_before = λ i h. ap (λ v. p v i) s ∙ f.before i (omega arith) h;
           }
-      by Nothing q e r =
+      by None q e r =
           let f = r e in
           record {
             from = omega (arith, f.from);

@@ -1,6 +1,6 @@
 -- The report: how many tasks are marked, the tally, and the ready task with the least number, then the least block; or
 -- none. Document 01, 'Blocks, marks and strips' and 'Refused calls'; document 02, CR 4.
-use Rattle.std.specs.Prelude.{Bool, cond, List, [], ◌∷◌, ◌++◌, ℕ, zero, suc, length}
+use Rattle.std.specs.Prelude.{Bool, cond, List, [], ◌∷◌, ◌++◌, ℕ, zero, suc, length, Option, None, Some}
 use Rattle.refusal.specs.Table.{Row, first_due, Given, given}
 use Rattle.plan.specs.declared.BufferOf7.TheVariants.{Marks}
 use Rattle.plan.specs.declared.Lengths.{Lengths}
@@ -12,29 +12,28 @@ use Rattle.tasks.specs.Tasks.{ready}
 use Rattle.tasks.specs.Counts.{done_count}
 use Rattle.tasks.specs.Marks.{is_marked}
 use Rattle.tasks.specs.Verdict.{all_blocks, least_broken_of, broken_row}
-use Rattle.report.specs.declared.Next.{Next}
-use Rattle.report.specs.declared.Next.TheVariants.{Ready, Nothing}
+use Rattle.report.specs.declared.Ready.{Ready}
 use Rattle.report.specs.declared.Progress.{Progress}
 use Rattle.report.specs.Tally.{tally}
 use Rattle.report.specs.Values.{Values, values_of, zero_values}
 
 -- The first of two searches that finds one.
-abbrev pub or_else : Next → Next → Next
-or_else (Ready t k) later = Ready t k
-or_else Nothing later = later
+abbrev pub or_else : Option Ready → Option Ready → Option Ready
+or_else (Some found) later = Some found
+or_else None later = later
 
 -- Task t at the n blocks from k on, in rising order: the first at which the test holds.
-unfoldable pub first_block : (ℕ → ℕ → Bool) → ℕ → ℕ → ℕ → Next
-first_block test t k zero = Nothing
-first_block test t k (suc n) = cond (test t k) (Ready t k) (first_block test t (suc k) n)
+unfoldable pub first_block : (ℕ → ℕ → Bool) → ℕ → ℕ → ℕ → Option Ready
+first_block test t k zero = None
+first_block test t k (suc n) = cond (test t k) (Some (record { task = t; block = k })) (first_block test t (suc k) n)
 
 -- The n tasks from t on, in rising order, each at `blocks` blocks: the first at which the test holds.
-unfoldable pub first_task : (ℕ → ℕ → Bool) → ℕ → ℕ → ℕ → Next
-first_task test blocks t zero = Nothing
+unfoldable pub first_task : (ℕ → ℕ → Bool) → ℕ → ℕ → ℕ → Option Ready
+first_task test blocks t zero = None
 first_task test blocks t (suc n) = or_else (first_block test t 0 blocks) (first_task test blocks (suc t) n)
 
 -- The ready task with the least number, then the least block; or none.
-unfoldable pub first_ready : Grid → (ℕ → ℕ → Bool) → Next
+unfoldable pub first_ready : Grid → (ℕ → ℕ → Bool) → Option Ready
 first_ready grid done = first_task (ready grid done) (block_total grid) 0 6
 
 -- The least of all blocks whose mark has a wrong kind or a spare bit; M×N where there is none.

@@ -5,10 +5,9 @@ use mathlib.Core.Logic.{⊎_elim}
 use mathlib.Core.Bool.{Bool, true, false, not, ◌&&◌, cond, and-true, and_assoc}
 use mathlib.Core.List.{List, [], ◌∷◌, ◌++◌, append_assoc}
 use Rattle.std.specs.Prelude.{Option, None, Some}
-use Prim.Native.Nat.{ℕ, zero, suc, ◌+◌, ◌-◌, ◌<◌, ◌≤◌, min}
+use Prim.Native.Nat.{ℕ, zero, suc, ◌-◌, ◌<◌, ◌≤◌, min}
 use native.Mathlib.Omega.{arith}
 use native.Mathlib.Nat.{eq-or-lt_of_le, div-le_self, mod-le}
-use native.Mathlib.Numerals.{add-one}
 use borrow.Author.Tests.{not-true, ltb-true}
 use Rattle.number.specs.Numbers.{all_below}
 use Rattle.number.proofs.Tests.{and_both, and_left, and_right, all_at}
@@ -82,24 +81,14 @@ module _ (done : ℕ → ℕ → Bool) where
   unfolding all_done
   needs_none grid k = rw (needs_collect grid k)
 
-  -- The code's test of a link: nothing is asked without a neighbour, and with one its link.
-  module _ (grid : Grid) (k pass : ℕ) where
-    pub link_absent : neighbour grid k pass ≡ None → true ≡ link_done grid done k pass
-    unfolding link_done
-    link_absent e = rw e
-
-    pub link_there : (j : ℕ) (answer : Bool) → neighbour grid k pass ≡ Some j → answer ≡ done (pass + 1) j
-        → answer ≡ link_done grid done k pass
-    unfolding link_done
-    link_there j answer e a = rw e (rw (add-one pass) at a)
-
-    link_done_law : ((j : ℕ) → neighbour grid k pass ≡ Some j → done (suc pass) j ≡ true) → link_done grid done k pass ≡ true
-    unfolding link_done
-    link_done_law f = by (neighbour grid k pass) f
-      where
-        by : (beside : Option ℕ) → ((j : ℕ) → beside ≡ Some j → done (suc pass) j ≡ true) → link_done_at done pass beside ≡ true
-        by None f = refl
-        by (Some j) f = f j refl
+  link_done_law : (grid : Grid) (k pass : ℕ) → ((j : ℕ) → neighbour grid k pass ≡ Some j → done (suc pass) j ≡ true)
+      → link_done grid done k pass ≡ true
+  unfolding link_done
+  link_done_law grid k pass f = by (neighbour grid k pass) f
+    where
+      by : (beside : Option ℕ) → ((j : ℕ) → beside ≡ Some j → done (suc pass) j ≡ true) → link_done_at done pass beside ≡ true
+      by None f = refl
+      by (Some j) f = f j refl
 
   -- The code's test of the needs of a task after 0: own 0, then the links.
   pub needs_uncollected : (grid : Grid) (t k : ℕ) → 1 ≤ t → t < 6 → done 0 k ≡ false → false ≡ all_done done (needs_of grid t k)

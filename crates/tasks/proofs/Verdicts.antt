@@ -122,28 +122,16 @@ module _ (grid : Grid) (marks : List ℕ) where
           ∙ ⊎_elim (λ (e : k ≡ n). rw (← e, whole, broken) (omega arith))
           (λ (i : k < n). omega (arith, upto n i (omega arith), later n (omega arith))) (eq-or-lt_of_le (omega arith))
 
-  -- The look at the neighbour of a pass,
-  module _ (k pass : ℕ) where
-    -- as the code takes it,
-    pub beside_absent : neighbour grid k pass ≡ None → block_total grid ≡ broken_beside grid marks k pass
-    unfolding broken_beside
-    beside_absent e = rw e
-
-    pub beside_there : (j answer : ℕ) → neighbour grid k pass ≡ Some j → answer ≡ broken_at grid marks j
-        → answer ≡ broken_beside grid marks k pass
-    unfolding broken_beside
-    beside_there j answer e a = rw e a
-
-    -- and as the needs have it.
-    least_beside : k < block_total grid
-        → least_broken_of grid marks (blocks_of (need_at pass (neighbour grid k pass))) ≡ broken_beside grid marks k pass
-    unfolding least_broken_of blocks_of broken_beside
-    least_beside h = by (neighbour grid k pass) refl
-      where
-        by : (beside : Option ℕ) → neighbour grid k pass ≡ beside
-            → least_broken_of grid marks (blocks_of (need_at pass beside)) ≡ broken_in grid marks beside
-        by None e = refl
-        by (Some j) e = omega (arith, broken_most j (neighbour_below grid k pass j h e))
+  -- The needs look at the neighbour of a pass as the code does.
+  least_beside : (k pass : ℕ) → k < block_total grid
+      → least_broken_of grid marks (blocks_of (need_at pass (neighbour grid k pass))) ≡ broken_beside grid marks k pass
+  unfolding least_broken_of blocks_of broken_beside
+  least_beside k pass h = by (neighbour grid k pass) refl
+    where
+      by : (beside : Option ℕ) → neighbour grid k pass ≡ beside
+          → least_broken_of grid marks (blocks_of (need_at pass beside)) ≡ broken_in grid marks beside
+      by None e = refl
+      by (Some j) e = omega (arith, broken_most j (neighbour_below grid k pass j h e))
 
   -- The least broken mark among that of block k and those of its neighbours for the first n passes.
   pub least_around : ℕ → ℕ → ℕ

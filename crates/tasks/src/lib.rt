@@ -17,7 +17,8 @@ ghost use Rattle.tasks.specs.Lent.{Lent, LentAt};
 use grid::{Grid, Position};
 use refusal::Refusal;
 
-// Tasks 0 to 5: collect, the links down, up, right and left, finish.
+// Tasks 0 to 5: collect, the links down, up, right and left, finish. Numbers, not an enum: they are document 01's, the
+// places of the bits in a mark, and what definitions and calls name a task by; a link is its pass and 1.
 pub const TASKS: usize = 6;
 
 // The payload of a mark is below it: bits 0 to 5 are the tasks', those above are spare.
@@ -32,6 +33,7 @@ pub const UNMARKED: u32 = MARK_KIND * number::PAYLOAD_LIMIT;
 const PASSES: usize = 4;
 
 // A block of the map has a task: collect and finish always, a link where its pass goes on from the block.
+#[tactic(auto, using(crate::proofs::Existence::link_has, crate::proofs::Existence::past_links), unfolding(crate::specs::Tasks::has_task))]
 fn has_task(grid: Grid, task: usize, at: Position) -> bool
     requires { InBlocks grid at }
     ensures { result ≡ has_task grid task at.row at.column }
@@ -81,6 +83,7 @@ pub fn mark_valid(grid: Grid, block: usize, mark: u32) -> bool
 }
 
 // Bits 0 to 5 of a mark are clear where the block has no such task.
+#[tactic(auto, using(number::proofs::Tests::all_none, number::proofs::Tests::all_more))]
 fn spares_clear(grid: Grid, at: Position, mark: u32) -> bool
     requires { InBlocks grid at }
     ensures { result ≡ all_below (spare_clear grid at.row at.column mark) 6 }
@@ -108,7 +111,12 @@ fn passes_needed(task: usize) -> usize
     task.min(PASSES)
 }
 
+// Grid and marks are two parameters: of a struct of both, clauses would have to say `self.entry.grid` and
+// `self.entry.marks.now` for `grid` and `marks.now`, and callers, who have the two apart, would build it for one call.
+// `Lent` and `LentAt` name what is asked of them.
+
 // The link of a pass is marked at the neighbour, if there is one.
+#[tactic(auto, unfolding(crate::specs::Neighbours::link_done))]
 fn link_marked(grid: Grid, marks: &[u32], pass: usize, block: usize) -> bool
     requires { LentAt grid (length marks.now) block × (pass < 4) }
     ensures { result ≡ link_done grid (is_marked marks.now) block pass }
@@ -120,6 +128,7 @@ fn link_marked(grid: Grid, marks: &[u32], pass: usize, block: usize) -> bool
 }
 
 // The links of the first passes are marked at the neighbours.
+#[tactic(auto, using(number::proofs::Tests::all_none, number::proofs::Tests::all_more))]
 fn links_marked(grid: Grid, marks: &[u32], passes: usize, block: usize) -> bool
     requires { LentAt grid (length marks.now) block × (passes ≤ 4) }
     ensures { result ≡ all_below (link_done grid (is_marked marks.now) block) passes }
@@ -133,6 +142,7 @@ fn links_marked(grid: Grid, marks: &[u32], passes: usize, block: usize) -> bool
 }
 
 // All needs of a task are marked.
+#[tactic(auto, using(crate::proofs::Needs::needs_none, crate::proofs::Needs::needs_uncollected, crate::proofs::Needs::needs_rest, crate::proofs::Lent::block_lent))]
 pub fn needs_met(grid: Grid, marks: &[u32], task: usize, block: usize) -> bool
     requires { LentAt grid (length marks.now) block × (task < 6) }
     ensures { result ≡ all_done (is_marked marks.now) (needs_of grid task block) }
@@ -151,7 +161,8 @@ pub fn is_ready(grid: Grid, marks: &[u32], task: usize, block: usize) -> bool
         && needs_met(grid, marks, task, block)
 }
 
-// A block where its mark is broken, else the number of blocks.
+// A block where its mark is broken, else the number of blocks: above every block, so that the least of several is their
+// `min`, which it could not be of `Option`s, whose `None` is below.
 fn broken_at(grid: Grid, marks: &[u32], block: usize) -> usize
     requires { LentAt grid (length marks.now) block }
     ensures { result ≡ broken_at grid marks.now block }
@@ -164,6 +175,7 @@ fn broken_at(grid: Grid, marks: &[u32], block: usize) -> usize
 }
 
 // The same for the neighbour that a pass comes from, if there is one.
+#[tactic(auto, unfolding(crate::specs::Neighbours::broken_beside))]
 fn broken_beside(grid: Grid, marks: &[u32], pass: usize, block: usize) -> usize
     requires { LentAt grid (length marks.now) block × (pass < 4) }
     ensures { result ≡ broken_beside grid marks.now block pass }
@@ -175,6 +187,7 @@ fn broken_beside(grid: Grid, marks: &[u32], pass: usize, block: usize) -> usize
 }
 
 // The least block whose mark a call looks at and finds broken, else the number of blocks.
+#[tactic(auto, using(crate::proofs::Verdicts::around_none, crate::proofs::Verdicts::around_on))]
 fn least_broken(grid: Grid, marks: &[u32], task: usize, block: usize) -> usize
     requires { LentAt grid (length marks.now) block × (task < 6) }
     ensures { result ≡ least_broken grid marks.now task block }

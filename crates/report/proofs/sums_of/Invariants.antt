@@ -1,6 +1,5 @@
--- Invariant: both sums over the blocks so far; a block adds at most 6 and 2,048, so nothing wraps.
+-- Invariant: both sums over the blocks so far.
 use mathlib.Core.Path.{◌≡◌}
-use Prim.Native.Nat.{◌-◌, ◌≤◌}
 use Rattle.number.specs.Numbers.{total}
 use Rattle.tasks.specs.Counts.{done_at}
 use Rattle.tasks.specs.Marks.{is_marked}
@@ -9,9 +8,5 @@ use Rattle.report.proofs.sums_of.Given as goal
 
 abbrev pub invariant-loop-block : goal.invariant-loop-block
 invariant-loop-block l =
-    (l.block ≤ l.blocks)
-    × (l.marked ≡ total (done_at (is_marked l.marks)) l.block)
+    (l.marked ≡ total (done_at (is_marked l.marks)) l.block)
     × (l.tally ≡ total (tally_at l.grid (is_marked l.marks)) l.block)
-
-abbrev pub decreases-loop-block : goal.decreases-loop-block
-decreases-loop-block l = l.blocks - l.block
