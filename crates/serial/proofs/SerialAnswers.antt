@@ -10,8 +10,7 @@ use Rattle.refusal.specs.declared.Refusal.{Refusal}
 use Rattle.refusal.specs.Refusals.{refused_for, accepted}
 use Rattle.plan.specs.declared.Plan.{Plan}
 use Rattle.plan.specs.declared.Sizes.{Sizes}
-use Rattle.plan.specs.declared.PlanSizes.{PlanSizes}
-use Rattle.plan.specs.declared.PlanSizes.TheVariants.{Known, Refused}
+use Rattle.std.specs.Prelude.{Result, Ok, Err}
 use Rattle.plan.specs.Rules.{keeps_rules}
 use Rattle.plan.specs.Sizes.{needed_pixels}
 use Rattle.plan.specs.FirstTests.{lent_rows, sizes_for, sizes_given, ShortBuffer, of7_short, strips_short, map_short, output_short}
@@ -70,9 +69,9 @@ output_of_accepted plan X map_length output e = rw e
 
 -- ---- the ways out
 
-module _ (plan : Plan) (words output : List ℕ) (known : PlanSizes) (map_length : ℕ) (is_long : map_length ≡ length words)
+module _ (plan : Plan) (words output : List ℕ) (known : Result Sizes Refusal) (map_length : ℕ) (is_long : map_length ≡ length words)
     (is : sizes_given known ≡ sizes_for plan (lent_to_passes map_length (length output))) where
-  pub passes_refused : (refusal : Refusal) → known ≡ Refused refusal
+  pub passes_refused : (refusal : Refusal) → known ≡ Err refusal
       → (refused_for refusal ≡ serial_answer plan (length words) (length output))
       × (output ≡ serial_words_output plan words output)
   unfolding serial_answer passes_output
@@ -80,7 +79,7 @@ module _ (plan : Plan) (words output : List ℕ) (known : PlanSizes) (map_length
       let refuses = rw is_long at (sizes_refused plan (lent_to_passes map_length (length output)) known is refusal e) in
       (refuses, rw (← refuses))
 
-  module _ (sizes : Sizes) (e : known ≡ Known sizes) where
+  module _ (sizes : Sizes) (e : known ≡ Ok sizes) where
     accepts : serial_answer plan (length words) (length output) ≡ accepted
     unfolding serial_answer
     accepts = rw is_long at (sizes_known plan (lent_to_passes map_length (length output)) known is sizes e).0

@@ -1,10 +1,8 @@
 -- The serial passes over a whole map as a call, over heights and over words: document 01, 'The four passes' and 'Refused
 -- calls'; document 02, CR 4, CR 7 through `map_of`, and CR 10.
-use Rattle.std.specs.Prelude.{◌≡◌, true, List, ◌++◌, ℕ, ◌≤◌, ◌<◌, ℤ, length, drop}
+use Rattle.std.specs.Prelude.{◌≡◌, true, List, ◌++◌, ℕ, ◌≤◌, ◌<◌, ℤ, length, drop, None, Some}
 use Rattle.refusal.specs.Refusals.{Answer, refused}
 use Rattle.refusal.specs.Table.{first_due, if_accepted}
-use Rattle.plan.specs.declared.BufferOf7.TheVariants.{NoneOf7}
-use Rattle.plan.specs.declared.Length.TheVariants.{NotLent, Of}
 use Rattle.plan.specs.declared.Lengths.{Lengths}
 use Rattle.plan.specs.declared.Plan.{Plan}
 use Rattle.plan.specs.Rules.{keeps_rules}
@@ -16,7 +14,7 @@ use Rattle.filter.specs.PlanFilters.{map_of, word_map_of, serial_result}
 -- The passes are lent a map and an output.
 abbrev pub lent_to_passes : (map_length output_length : ℕ) → Lengths
 lent_to_passes map_length output_length =
-    record { of7 = NoneOf7; strips = NotLent; map = Of map_length; output = Of output_length }
+    record { of7 = None; strips = None; map = Some map_length; output = Some output_length }
 
 -- The answer: 6 where the record breaks a rule, then 15 where the map, 16 where the output has fewer than h×w places.
 unfoldable pub serial_answer : Plan → (map_length output_length : ℕ) → Answer

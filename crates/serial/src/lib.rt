@@ -13,8 +13,8 @@ ghost use Rattle.serial.specs.Stages.{map_words, words_read, MapFits, RowsFit, B
 
 use filter::Window;
 use grid::Grid;
-use plan::{BufferOf7, Length, Lengths, Plan, PlanSizes};
-use refusal::Outcome;
+use plan::{Lengths, Plan};
+use refusal::Refusal;
 
 // The rows of a band: as many as a filter can have taps, so that up over a band reads no further than the next; enough
 // that the chains of multiplies of their row passes overlap, and few enough that a band stays in the cache from one step
@@ -38,7 +38,7 @@ enum Source {
 
 // The passes down, up, right and left over a map of heights: the first rows × columns words of the output are their
 // result.
-pub fn serial_passes(plan: Plan, map: &[i32], output: &mut [u64]) -> Outcome
+pub fn serial_passes(plan: Plan, map: &[i32], output: &mut [u64]) -> Result<(), Refusal>
     ensures answer { answer_of result ≡ serial_answer plan (length map.now) (length output.old) }
     ensures result { output.new ≡ serial_output plan map.now output.old }
 {
@@ -47,7 +47,7 @@ pub fn serial_passes(plan: Plan, map: &[i32], output: &mut [u64]) -> Outcome
 }
 
 // The same over a map of words, none of which is taken for a dropout: sums and differences of maps, or an output.
-pub fn serial_words(plan: Plan, map: &[u64], output: &mut [u64]) -> Outcome
+pub fn serial_words(plan: Plan, map: &[u64], output: &mut [u64]) -> Result<(), Refusal>
     ensures answer { answer_of result ≡ serial_answer plan (length map.now) (length output.old) }
     ensures result { output.new ≡ serial_words_output plan map.now output.old }
 {
@@ -62,24 +62,19 @@ fn run_passes(
     heights: &[i32],
     words: &[u64],
     output: &mut [u64],
-) -> Outcome
+) -> Result<(), Refusal>
     ensures answer { answer_of result ≡ serial_answer plan (length (map_words source heights.now words.now)) (length output.old) }
     ensures result { output.new ≡ serial_words_output plan (map_words source heights.now words.now) output.old }
 {
     let lent = Lengths {
-        of7: BufferOf7::NoneOf7,
-        strips: Length::NotLent,
-        map: Length::Of(map_length(source, heights, words)),
-        output: Length::Of(output.len()),
+        of7: None,
+        strips: None,
+        map: Some(map_length(source, heights, words)),
+        output: Some(output.len()),
     };
-    let known = plan.sizes_for(lent);
-    match known {
-        PlanSizes::Refused(refusal) => Outcome::Refused(refusal),
-        PlanSizes::Known(_) => {
-            filter_map(plan, source, heights, words, output);
-            Outcome::Accepted
-        }
-    }
+    plan.sizes_for(lent)?;
+    filter_map(plan, source, heights, words, output);
+    Ok(())
 }
 
 // How many places the map of a source has.
