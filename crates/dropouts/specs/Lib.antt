@@ -1,3 +1,2 @@
 pub mod Dropouts
-pub mod Rows
 pub mod CountedDropouts

@@ -1,82 +1,52 @@
 // The number of dropouts of the laser in a rectangle of a map.
 #![tactic(auto)]
 
-ghost use Rattle.std.specs.Prelude.{◌≡◌, ◌+◌, ◌≤◌, length};
+ghost use Rattle.std.specs.Prelude.{◌≡◌, ◌≤◌, length};
+ghost use Rattle.std.specs.List.{count_by};
+ghost use Rattle.buffer.specs.Pixel.{is_dropout};
 ghost use Rattle.plan.specs.Sizes.{needed_pixels};
 ghost use Rattle.rectangle.specs.Rectangle.{Inside};
 ghost use Rattle.dropouts.specs.Dropouts.{dropouts_inside, dropouts_call, count_given};
-ghost use Rattle.dropouts.specs.Rows.{dropouts_from};
 
-use plan::{BufferOf7, Length, Lengths, Plan};
-use refusal::{Outcome, Refusal};
+use plan::{Lengths, Plan};
+use rectangle::Rectangle;
+use refusal::Refusal;
 
-// The count, or why there is none.
-#[derive(Clone, Copy)]
-pub enum DropoutCount {
-    Count(usize),
-    Refused(Refusal),
-}
-
-// The dropouts in the rows from `top` to before `bottom` and the columns from `left` to before `right`; 0 where `top`
-// equals `bottom` or `left` equals `right`.
-pub fn count_dropouts(
-    plan: Plan,
-    top: usize,
-    left: usize,
-    bottom: usize,
-    right: usize,
-    map: &[i32],
-) -> DropoutCount
-    ensures { count_given result ≡ dropouts_call plan map.now top left bottom right }
+// The dropouts in a rectangle; 0 where it is empty.
+#[tactic(auto, unfolding(crate::specs::Dropouts::dropouts_call))]
+pub fn count_dropouts(plan: Plan, rectangle: Rectangle, map: &[i32]) -> Result<usize, Refusal>
+    ensures { count_given result ≡ dropouts_call plan map.now rectangle.top rectangle.left rectangle.bottom rectangle.right }
 {
     let lent = Lengths {
-        of7: BufferOf7::NoneOf7,
-        strips: Length::NotLent,
-        map: Length::Of(map.len()),
-        output: Length::NotLent,
+        of7: None,
+        strips: None,
+        map: Some(map.len()),
+        output: None,
     };
-    let outcome = rectangle::rectangle_answer(plan, lent, top, left, bottom, right);
-    match outcome {
-        Outcome::Refused(refusal) => DropoutCount::Refused(refusal),
-        Outcome::Accepted => {
-            DropoutCount::Count(count_inside(plan, top, left, bottom, right, map))
-        }
-    }
+    rectangle.test(plan, lent)?;
+    Ok(count_inside(plan, rectangle, map))
 }
 
 // The dropouts in a rectangle of the map, row by row.
-fn count_inside(
-    plan: Plan,
-    top: usize,
-    left: usize,
-    bottom: usize,
-    right: usize,
-    map: &[i32],
-) -> usize
-    requires { (needed_pixels plan ≤ length map.now) × Inside plan top left bottom right }
-    ensures { result ≡ dropouts_inside plan map.now top left bottom right }
+fn count_inside(plan: Plan, rectangle: Rectangle, map: &[i32]) -> usize
+    requires { (needed_pixels plan ≤ length map.now) × Inside plan rectangle.top rectangle.left rectangle.bottom rectangle.right }
+    ensures { result ≡ dropouts_inside plan map.now rectangle.top rectangle.left rectangle.bottom rectangle.right }
 {
-    let height = bottom - top;
-    let width = right - left;
+    let width = rectangle.width();
     let mut found = 0;
-    let mut row = 0;
-    while row < height {
-        found += count_row(map, (top + row) * plan.grid.columns + left, width);
-        row += 1;
+    for row in rectangle.top..rectangle.bottom {
+        let start = row * plan.grid.columns + rectangle.left;
+        found += count_row(&map[start..start + width]);
     }
     found
 }
 
-// The dropouts among heights that stand one after another.
-fn count_row(map: &[i32], start: usize, count: usize) -> usize
-    requires { start + count ≤ length map.now }
-    ensures { result ≡ dropouts_from map.now start count }
+// The dropouts among the heights of a row.
+fn count_row(heights: &[i32]) -> usize
+    ensures { result ≡ count_by is_dropout heights.now }
 {
-    let mut found = 0;
-    let mut i = 0;
-    while i < count {
-        found += number::one_if(buffer::is_dropout(map[start + i]));
-        i += 1;
-    }
-    found
+    heights
+        .iter()
+        .filter(|height| buffer::is_dropout(**height))
+        .count()
 }

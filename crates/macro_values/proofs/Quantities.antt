@@ -8,17 +8,13 @@ use native.Mathlib.Nat.{mul-le-mul}
 use native.Mathlib.Omega.{arith}
 use lib.IntN.{ℤ}
 use lib.Dec.{eqb}
-use mir.Syntax.{w64}
-use mir.Val.{SFits, to_z, of_z}
-use mir.ValLaws.{to_z-of_z}
 use borrow.Author.Tests.{eq-eqb, ne_eqb}
 use Rattle.refusal.specs.declared.Refusal.{Refusal}
-use Rattle.refusal.specs.Refusals.{accepted, refused, refused_for}
+use Rattle.refusal.specs.Refusals.{accepted, refused}
 use Rattle.refusal.specs.Table.{Given}
 use Rattle.plan.specs.declared.Plan.{Plan}
 use Rattle.plan.proofs.Needed.{bounds}
-use Rattle.rectangle.specs.declared.RectangleSum.{RectangleSum}
-use Rattle.rectangle.specs.declared.RectangleSum.TheVariants as sums
+use Rattle.std.specs.Prelude.{Result, Ok, Err}
 use Rattle.rectangle.specs.Rectangle.{rectangle_call, sum_given}
 use Rattle.rectangle.proofs.SumAnswers.{accepted_rules, accepted_fits}
 use Rattle.macro_values.specs.declared.Quantity.{Quantity}
@@ -57,44 +53,11 @@ module _ (quantity : Quantity) (sum : ℤ) (top left bottom right : ℕ) where
   unfolding quantity_value
   value_not_empty rows columns = rw (ne_eqb top bottom rows, ne_eqb left right columns)
 
-  -- A sum, as the machine reads it back from its bits, has the same quantities.
-  pub value_read_back : {value : Variable} → SFits w64 sum
-      → value ≡ quantity_value quantity (to_z w64 (of_z w64 sum)) top left bottom right
-      → value ≡ quantity_value quantity sum top left bottom right
-  value_read_back fits e = rw (to_z-of_z w64 sum fits) at e
-
 pub value_outside : (sum : ℤ) (top left bottom right : ℕ) → outside_floats sum ≡ true
     → quantity_value wanted.Total sum top left bottom right ≡ vacant
 unfolding quantity_value
 value_outside sum top left bottom right e =
     rw (total_outside_test sum e) (both_vacant (eqb top bottom || eqb left right))
-
--- ---- by the sum
-
-module _ (answer : RectangleSum) (top left bottom right : ℕ) where
-  pub value_of_sum : (quantity : Quantity) {sum : ℤ} {value : Variable} → answer ≡ sums.Sum sum
-      → value ≡ quantity_value quantity sum top left bottom right
-      → ◌≡◌ {A = Given Variable} (record { answer = accepted; value = value })
-      (value_by_sum quantity (sum_given answer) top left bottom right)
-  value_of_sum quantity is e = rw (is, e)
-
-  pub value_of_refusal : (quantity : Quantity) {refusal : Refusal} → answer ≡ sums.Refused refusal
-      → ◌≡◌ {A = Given Variable} (record { answer = refused_for refusal; value = vacant })
-      (value_by_sum quantity (sum_given answer) top left bottom right)
-  value_of_refusal quantity is = rw is
-
-  pub pair_of_sum : {sum : ℤ} {total pixels : Variable} → answer ≡ sums.Sum sum
-      → total ≡ quantity_value wanted.Total sum top left bottom right
-      → pixels ≡ quantity_value wanted.Pixels sum top left bottom right
-      → ◌≡◌ {A = Given VariablePair} (record { answer = accepted; value = record { total = total; pixels = pixels } })
-      (pair_by_sum (sum_given answer) top left bottom right)
-  pair_of_sum is e f = rw (is, e, f)
-
-  pub pair_of_refusal : {refusal : Refusal} → answer ≡ sums.Refused refusal
-      → ◌≡◌ {A = Given VariablePair}
-      (record { answer = refused_for refusal; value = record { total = vacant; pixels = vacant } })
-      (pair_by_sum (sum_given answer) top left bottom right)
-  pair_of_refusal is = rw is
 
 -- ---- the calls
 
@@ -114,19 +77,19 @@ module _ (plan : Plan) (table : List ℕ) (top left bottom right : ℕ) where
       }
 
   -- So has one whose sum was given.
-  pub sum_fits : (answer : RectangleSum) → sum_given answer ≡ rectangle_call plan table top left bottom right
+  pub sum_fits : (answer : Result ℤ Refusal) → sum_given answer ≡ rectangle_call plan table top left bottom right
       → SumFits answer top left bottom right
-  sum_fits (sums.Sum sum) is = fits_accepted (sym (ap (λ (g : Given ℤ). g.answer) is))
-  sum_fits (sums.Refused refusal) is = tt
+  sum_fits (Ok sum) is = fits_accepted (sym (ap (λ (g : Given ℤ). g.answer) is))
+  sum_fits (Err refusal) is = tt
 
-  pub value_called : (quantity : Quantity) (answer : RectangleSum) (read : Given Variable)
+  pub value_called : (quantity : Quantity) (answer : Result ℤ Refusal) (read : Given Variable)
       → sum_given answer ≡ rectangle_call plan table top left bottom right
       → read ≡ value_by_sum quantity (sum_given answer) top left bottom right
       → read ≡ macro_call quantity plan table top left bottom right
   unfolding macro_call
   value_called quantity answer read is e = rw is at e
 
-  pub pair_called : (answer : RectangleSum) (read : Given VariablePair)
+  pub pair_called : (answer : Result ℤ Refusal) (read : Given VariablePair)
       → sum_given answer ≡ rectangle_call plan table top left bottom right
       → read ≡ pair_by_sum (sum_given answer) top left bottom right → read ≡ pair_call plan table top left bottom right
   unfolding pair_call

@@ -1,18 +1,18 @@
 -- Quantities of a rectangle as macro variables: document 02, CR 6.
-use Rattle.std.specs.Prelude.{Bool, ◌||◌, cond, List, ℕ, ◌-◌, ◌*◌, ◌^◌, ℤ, pos, neg_ℤ, eqb, Float}
+use Rattle.std.specs.Prelude.{Bool, ◌||◌, cond, List, ℕ, ◌-◌, ◌*◌, ◌^◌, ℤ, pos, neg_ℤ, eqb, Float, Result, Ok, Err}
 use Rattle.std.specs.Int.Signed.{lt_z}
 use Rattle.std.specs.Float.{binary64}
 use Rattle.std.specs.Float.Ieee.{of_int}
-use Rattle.refusal.specs.Table.{answer_of, Given, given}
+use Rattle.refusal.specs.declared.Refusal.{Refusal}
+use Rattle.refusal.specs.Refusals.{accepted, refused_for}
+use Rattle.refusal.specs.Table.{Given, given}
 use Rattle.plan.specs.declared.Plan.{Plan}
 use Rattle.rectangle.specs.Rectangle.{rectangle_call}
 use Rattle.macro_values.specs.declared.Macro.{Macro}
 use Rattle.macro_values.specs.declared.Macro.TheVariants.{Vacant, Total, Pixels}
 use Rattle.macro_values.specs.declared.Quantity.{Quantity}
 use Rattle.macro_values.specs.declared.Quantity.TheVariants as wanted
-use Rattle.macro_values.specs.declared.MacroRead.{MacroRead}
 use Rattle.macro_values.specs.declared.MacroPair.{MacroPair}
-use Rattle.macro_values.specs.declared.PairRead.{PairRead}
 
 -- A macro variable of a control: vacant, the state for no value, or a quantity as a 64-bit float.
 pub data Variable : Type 0 where
@@ -91,10 +91,12 @@ variable_of (Pixels float) = holding wanted.Pixels float
 abbrev pub pair_of : MacroPair → VariablePair
 pair_of pair = record { total = variable_of pair.total; pixels = variable_of pair.pixels }
 
--- the number and place, and the variable, that `macro_value` answers,
-abbrev pub value_given : MacroRead → Given Variable
-value_given read = record { answer = answer_of read.outcome; value = variable_of read.value }
+-- the number and place, and the variable, that `macro_value` answers; vacant beside a refusal,
+abbrev pub value_given : Result Macro Refusal → Given Variable
+value_given (Ok value) = record { answer = accepted; value = variable_of value }
+value_given (Err refusal) = record { answer = refused_for refusal; value = vacant }
 
--- and the pair that `macro_pair` answers.
-abbrev pub pair_given : PairRead → Given VariablePair
-pair_given read = record { answer = answer_of read.outcome; value = pair_of read.pair }
+-- and the pair that `macro_pair` answers; both vacant beside a refusal.
+abbrev pub pair_given : Result MacroPair Refusal → Given VariablePair
+pair_given (Ok pair) = record { answer = accepted; value = pair_of pair }
+pair_given (Err refusal) = record { answer = refused_for refusal; value = record { total = vacant; pixels = vacant } }

@@ -1,4 +1,3 @@
-pub mod CornerPlaces
 pub mod RectangleAnswers
 pub mod SumAnswers
 pub mod Bound

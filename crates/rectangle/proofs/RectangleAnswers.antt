@@ -5,19 +5,14 @@ use mathlib.Core.List.{[], ◌∷◌}
 use Prim.Native.Nat.{ℕ}
 use lib.Dec.{ltb, eqb}
 use borrow.Author.Tests.{le-ltb, ltb-false, eqb-false}
-use Rattle.refusal.specs.declared.Refusal.{Refusal}
-use Rattle.refusal.specs.Refusals.{refused_for, Answer, accepted, refused}
+use Rattle.refusal.specs.Refusals.{Answer, accepted, refused}
 use Rattle.refusal.specs.Table.{Row, ◌at◌when◌, first_of, first_due}
-use Rattle.refusal.proofs.Table.{first_append, refused_before, accepted_before, rows_accepted, none_of, not_answered}
+use Rattle.refusal.proofs.Table.{first_append, accepted_before, rows_accepted, none_of, not_answered}
 use Rattle.number.proofs.Tests.{or_left, or_right}
 use Rattle.plan.specs.declared.Lengths.{Lengths}
 use Rattle.plan.specs.declared.Plan.{Plan}
-use Rattle.plan.specs.declared.Sizes.{Sizes}
-use Rattle.plan.specs.declared.PlanSizes.{PlanSizes}
-use Rattle.plan.specs.declared.PlanSizes.TheVariants.{Known, Refused}
-use Rattle.plan.specs.FirstTests.{lent_rows, sizes_for, sizes_given}
+use Rattle.plan.specs.FirstTests.{lent_rows}
 use Rattle.plan.proofs.FirstTests.{Suffices, suffices, lent_accepted}
-use Rattle.plan.proofs.Known.{sizes_known, sizes_refused}
 use Rattle.rectangle.specs.Rectangle.{Inside, outside, rectangle_rows}
 
 module _ (plan : Plan) (top left bottom right : ℕ) where
@@ -57,17 +52,6 @@ module _ (plan : Plan) (lent : Lengths) (top left bottom right : ℕ) where
   -- The row of the rectangle.
   abbrev is_outside : Row
   is_outside = 12 at 0 when outside plan top left bottom right
-
-  module _ (known : PlanSizes) (is : sizes_given known ≡ sizes_for plan lent) where
-    pub answer_of_lent : (refusal : Refusal) → known ≡ Refused refusal
-        → refused_for refusal ≡ first_due (rectangle_rows plan lent top left bottom right)
-    answer_of_lent refusal e =
-        refused_before (lent_rows plan lent) (is_outside ∷ []) (sizes_refused plan lent known is refusal e)
-
-    pub answer_of_rectangle : (sizes : Sizes) → known ≡ Known sizes → {answer : Answer} → answer ≡ first_due (is_outside ∷ [])
-        → answer ≡ first_due (rectangle_rows plan lent top left bottom right)
-    answer_of_rectangle sizes e p =
-        p ∙ sym (accepted_before (lent_rows plan lent) (is_outside ∷ []) (sym (sizes_known plan lent known is sizes e).0))
 
   -- A rectangle of the map passes the last test,
   inside_passes : Inside plan top left bottom right

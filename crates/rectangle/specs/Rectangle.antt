@@ -1,8 +1,8 @@
 -- The rectangle sum as a call, and what every call about a rectangle tests: document 01, the paragraph on the rectangle
 -- sum and refusals 6, 7 and 12; document 02, CR 2, CR 4, CR 5 and CR 7.
-use Rattle.std.specs.Prelude.{Bool, ◌||◌, List, [], ◌∷◌, ◌++◌, ℕ, ◌≤◌, ℤ, pos, ltb, length}
-use Rattle.refusal.specs.Refusals.{refused_for, accepted}
-use Rattle.refusal.specs.Table.{Row, ◌at◌when◌, first_due, Given, given}
+use Rattle.std.specs.Prelude.{Bool, ◌||◌, List, [], ◌∷◌, ◌++◌, ℕ, ◌≤◌, ℤ, pos, ltb, length, Result}
+use Rattle.refusal.specs.declared.Refusal.{Refusal}
+use Rattle.refusal.specs.Table.{Row, ◌at◌when◌, first_due, Given, given, given_by}
 use Rattle.number.specs.Numbers.{row_major}
 use Rattle.word.specs.Word.{signed}
 use Rattle.plan.specs.declared.BufferOf7.TheVariants.{Table}
@@ -11,8 +11,6 @@ use Rattle.plan.specs.declared.Plan.{Plan}
 use Rattle.plan.specs.FirstTests.{lent_rows, only_of7}
 use Rattle.buffer.specs.Lists.{word_at}
 use Rattle.passes.specs.Table.{rectangle_sum}
-use Rattle.rectangle.specs.declared.RectangleSum.{RectangleSum}
-use Rattle.rectangle.specs.declared.RectangleSum.TheVariants.{Sum, Refused}
 
 -- A table of h×w words, row after row, as a function of row and column.
 abbrev pub table_of : Plan → List ℕ → ℕ → ℕ → ℕ
@@ -45,7 +43,6 @@ rectangle_call plan table top left bottom right =
     given (first_due (rectangle_rows plan (lent_to_sum table) top left bottom right))
     (signed (rectangle_sum (table_of plan table) top left bottom right)) (pos 0)
 
--- Document 01's number and place, and the sum, of each case that `rectangle_sum` answers.
-abbrev pub sum_given : RectangleSum → Given ℤ
-sum_given (Sum sum) = record { answer = accepted; value = sum }
-sum_given (Refused refusal) = record { answer = refused_for refusal; value = pos 0 }
+-- Document 01's number and place, and the sum, of what `rectangle_sum` answers; 0 beside a refusal.
+abbrev pub sum_given : Result ℤ Refusal → Given ℤ
+sum_given = given_by (pos 0)
