@@ -16,7 +16,7 @@ use Rattle.plan.proofs.FirstTests.{Suffices, least_short_decides}
 use Rattle.rectangle.specs.Rectangle.{Inside, rectangle_rows}
 use Rattle.rectangle.specs.FourNumbers.{Empty}
 use Rattle.rectangle.proofs.FourNumbers.{no_pixels}
-use Rattle.rectangle.proofs.RectangleAnswers.{inside_accepted, others_refused}
+use Rattle.rectangle.proofs.RectangleAnswers.{inside_accepted, others_refused, accepted_inside}
 use Rattle.dropouts.specs.Dropouts.{dropouts_inside, lent_to_count, dropouts_call}
 use Rattle.dropouts.specs.CountedDropouts.{DropoutsAnswered}
 use Rattle.dropouts.proofs.CountedDropouts.{dropouts_told}
@@ -25,6 +25,11 @@ module _ (plan : Plan) (heights : List ℤ) (top left bottom right : ℕ) where
   -- What the tests answer.
   abbrev tested : Answer
   tested = first_due (rectangle_rows plan (lent_to_count heights) top left bottom right)
+
+  pub accepted_fits : tested ≡ accepted → (needed_pixels plan ≤ length heights) × Inside plan top left bottom right
+  accepted_fits e =
+      let (enough, inside) = accepted_inside plan (lent_to_count heights) top left bottom right e in
+      (enough.map_long, inside)
 
   -- Beside the answer: the count of an accepted call, 0 of a refused one.
   pub given_accepted : tested ≡ accepted → {count : ℕ} → count ≡ dropouts_inside plan heights top left bottom right

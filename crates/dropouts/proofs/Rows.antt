@@ -76,11 +76,17 @@ module _ (plan : Plan) (heights : List ℤ) (top left bottom right : ℕ) where
         ∙ total_same _ _ (right - left) (λ k h. ap (λ place. one (is_dropout (number_at heights place))) (omega arith))
         ∙ sym (ap in_row at)))
 
-    -- which are no more than the map has heights.
-    pub rows_in_map : in_rows (row + 1 - top) ≤ length heights
+    rows_in_map : in_rows (row + 1 - top) ≤ length heights
     rows_in_map =
         let each : (j : ℕ) → j < row + 1 - top → in_row (top + j) ≤ right - left =
         λ j h. omega (arith, total_most _ 1 (right - left) (λ k i. one_most (is_dropout (height_at plan.grid.columns heights (top + j) (left + k))))) in
         let most = total_most (λ j. in_row (top + j)) (right - left) (row + 1 - top) each in
         le_trans most
         (le_trans (mul-le-mul {n₂ = plan.grid.rows} (omega (arith, inside.bottom_low)) (omega (arith, inside.right_low))) long)
+
+    -- and the count is no more than the map has heights.
+    pub count_fits : {found counted : ℕ} → found ≡ in_rows (row - top)
+        → (let start = row * plan.grid.columns + left in
+        counted ≡ count_by is_dropout (take (start + (right - left) - start) (drop start heights)))
+        → found + counted ≤ length heights
+    count_fits so_far here = rw (row_on so_far here) rows_in_map

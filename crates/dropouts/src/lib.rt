@@ -13,7 +13,7 @@ use rectangle::Rectangle;
 use refusal::Refusal;
 
 // The dropouts in a rectangle; 0 where it is empty.
-#[tactic(auto, unfolding(crate::specs::Dropouts::dropouts_call))]
+#[tactic(auto, using(crate::proofs::CountAnswers::accepted_fits), unfolding(crate::specs::Dropouts::dropouts_call))]
 pub fn count_dropouts(plan: Plan, rectangle: Rectangle, map: &[i32]) -> Result<usize, Refusal>
     ensures { count_given result ≡ dropouts_call plan map.now rectangle.top rectangle.left rectangle.bottom rectangle.right }
 {
@@ -28,6 +28,7 @@ pub fn count_dropouts(plan: Plan, rectangle: Rectangle, map: &[i32]) -> Result<u
 }
 
 // The dropouts in a rectangle of the map, row by row.
+#[tactic(auto, using(crate::proofs::Rows::row_on, crate::proofs::Rows::rows_are), unfolding(number::specs::Numbers::total))]
 fn count_inside(plan: Plan, rectangle: Rectangle, map: &[i32]) -> usize
     requires { (needed_pixels plan ≤ length map.now) × Inside plan rectangle.top rectangle.left rectangle.bottom rectangle.right }
     ensures { result ≡ dropouts_inside plan map.now rectangle.top rectangle.left rectangle.bottom rectangle.right }

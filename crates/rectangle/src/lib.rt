@@ -1,4 +1,4 @@
-// The sum over a rectangle of a summed-area table.
+// A rectangle of a map: the tests of every call about one, and its sum by a summed-area table.
 #![tactic(auto)]
 
 ghost use Rattle.std.specs.Prelude.{◌≡◌, ◌||◌, [], ◌∷◌, ◌-◌, ◌≤◌, eqb, length};
@@ -22,7 +22,7 @@ pub struct Rectangle {
 }
 
 // The sum over a rectangle, read as signed; 0 where it is empty.
-#[tactic(auto, unfolding(crate::specs::Rectangle::rectangle_call))]
+#[tactic(auto, using(crate::proofs::SumAnswers::accepted_fits), unfolding(crate::specs::Rectangle::rectangle_call))]
 pub fn rectangle_sum(plan: Plan, rectangle: Rectangle, table: &[u64]) -> Result<i64, Refusal>
     ensures { sum_given result ≡ rectangle_call plan table.now rectangle.top rectangle.left rectangle.bottom rectangle.right }
 {
@@ -33,7 +33,7 @@ pub fn rectangle_sum(plan: Plan, rectangle: Rectangle, table: &[u64]) -> Result<
 impl Rectangle {
     // The tests of every call about a rectangle: of the record, of the lengths of what the call is lent and of the
     // rectangle, in this order.
-    #[tactic(auto, unfolding(plan::specs::FirstTests::sizes_for, plan::specs::FirstTests::lent_rows))]
+    #[tactic(auto, using(refusal::proofs::Table::first_append), unfolding(plan::specs::FirstTests::sizes_for))]
     pub fn test(self, plan: Plan, lent: Lengths) -> Result<(), Refusal>
         ensures { answer_of result ≡ first_due (rectangle_rows plan lent self.top self.left self.bottom self.right) }
     {
