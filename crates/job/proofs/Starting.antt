@@ -4,15 +4,12 @@ use mathlib.Core.Path.{◌≡◌, ap, sym, ◌∙◌}
 use mathlib.Core.List.{List}
 use Prim.Native.Nat.{ℕ, ◌+◌, ◌≤◌}
 use lib.ListN.{length, set}
+use Rattle.std.specs.Prelude.{Result, Ok, Err}
 use Rattle.refusal.specs.declared.Refusal.{Refusal}
-use Rattle.refusal.specs.declared.Outcome.{Outcome}
-use Rattle.refusal.specs.declared.Outcome.TheVariants.{Accepted, Refused}
-use Rattle.refusal.specs.Refusals.{accepted}
+use Rattle.refusal.specs.Refusals.{Answer, accepted, refused_for}
 use Rattle.refusal.specs.Table.{answer_of}
 use Rattle.plan.specs.declared.Plan.{Plan}
 use Rattle.plan.specs.declared.Sizes.{Sizes}
-use Rattle.plan.specs.declared.PlanSizes.{PlanSizes}
-use Rattle.plan.specs.declared.PlanSizes.TheVariants.{Known, Refused as NoSizes}
 use Rattle.plan.specs.Sizes.{sizes_of}
 use Rattle.plan.specs.FirstTests.{sizes_for, sizes_given}
 use Rattle.plan.proofs.Known.{sizes_known, sizes_refused}
@@ -35,19 +32,19 @@ module _ (words : List ℕ) where
 
 module _ (plan : Plan) (marks strips : List ℕ) where
   -- What start promises of an answer and of the lists that it leaves.
-  abbrev Promised : Outcome → List ℕ → List ℕ → Type 0
-  Promised outcome m s =
-      (answer_of outcome ≡ start_answer plan marks strips)
+  abbrev Promised : Answer → List ℕ → List ℕ → Type 0
+  Promised answer m s =
+      (answer ≡ start_answer plan marks strips)
       × ((m ≡ marks_after_start plan marks strips) × (s ≡ strips_after_start plan marks strips))
 
-  module _ (known : PlanSizes) (is : sizes_given known ≡ sizes_for plan (lent_to_start marks strips)) where
-    pub start_refused : (refusal : Refusal) → known ≡ NoSizes refusal → Promised (Refused refusal) marks strips
+  module _ (known : Result Sizes Refusal) (is : sizes_given known ≡ sizes_for plan (lent_to_start marks strips)) where
+    pub start_refused : (refusal : Refusal) → known ≡ Err refusal → Promised (refused_for refusal) marks strips
     unfolding start_answer marks_after_start strips_after_start
     start_refused refusal e =
         let refuses = sizes_refused plan (lent_to_start marks strips) known is refusal e in
         (refuses, (rw (← refuses), rw (← refuses)))
 
-    module _ (sizes : Sizes) (e : known ≡ Known sizes) where
+    module _ (sizes : Sizes) (e : known ≡ Ok sizes) where
       accepts : start_answer plan marks strips ≡ accepted
       unfolding start_answer
       accepts = (sizes_known plan (lent_to_start marks strips) known is sizes e).0
@@ -60,6 +57,6 @@ module _ (plan : Plan) (marks strips : List ℕ) where
       long_enough = let enough = start_tells plan marks strips accepts in rw are (enough.of7_long, enough.strips_long)
 
       pub start_accepted : (m s : List ℕ) → m ≡ unmarked sizes.marks marks → s ≡ cleared 0 1 sizes.strips strips
-          → Promised Accepted m s
+          → Promised accepted m s
       unfolding sizes_of marks_after_start strips_after_start
       start_accepted m s p q = (sym accepts, (rw accepts (rw are at p), rw accepts (rw are at q)))

@@ -7,17 +7,14 @@ use native.Mathlib.Omega.{arith}
 use lib.IntN.{ℤ}
 use lib.ListN.{length, get_or}
 use borrow.Author.Tests.{lt-ltb, ne_eqb}
+use Rattle.std.specs.Prelude.{Result, Ok, Err}
 use Rattle.refusal.specs.declared.Refusal.{Refusal}
-use Rattle.refusal.specs.declared.Outcome.{Outcome}
-use Rattle.refusal.specs.declared.Outcome.TheVariants.{Accepted, Refused}
-use Rattle.refusal.specs.Refusals.{accepted}
+use Rattle.refusal.specs.Refusals.{accepted, refused_for}
 use Rattle.refusal.specs.Table.{Row, first_due, answer_of}
 use Rattle.refusal.proofs.Table.{refused_before, accepted_before, rows_accepted}
 use Rattle.plan.specs.declared.Lengths.{Lengths}
 use Rattle.plan.specs.declared.Plan.{Plan}
 use Rattle.plan.specs.declared.Sizes.{Sizes}
-use Rattle.plan.specs.declared.PlanSizes.{PlanSizes}
-use Rattle.plan.specs.declared.PlanSizes.TheVariants.{Known, Refused as NoSizes}
 use Rattle.plan.specs.FirstTests.{lent_rows, sizes_for, sizes_given}
 use Rattle.plan.proofs.FirstTests.{suffices}
 use Rattle.plan.proofs.Known.{sizes_known, sizes_refused}
@@ -41,17 +38,17 @@ module _ (plan : Plan) (heights : List ℤ) (marks strips output : List ℕ) (t 
   abbrev verdict : List Row
   verdict = verdict_rows plan.grid marks t k
 
-  module _ (known : PlanSizes) (is : sizes_given known ≡ sizes_for plan lent) where
-    pub answer_lent : (refusal : Refusal) → known ≡ NoSizes refusal
-        → answer_of (Refused refusal) ≡ task_answer plan heights (lists marks strips output) t k
+  module _ (known : Result Sizes Refusal) (is : sizes_given known ≡ sizes_for plan lent) where
+    pub answer_lent : (refusal : Refusal) → known ≡ Err refusal
+        → refused_for refusal ≡ task_answer plan heights (lists marks strips output) t k
     unfolding task_answer
     answer_lent refusal e = refused_before (lent_rows plan lent) verdict (sizes_refused plan lent known is refusal e)
 
-    module _ (sizes : Sizes) (e : known ≡ Known sizes) where
+    module _ (sizes : Sizes) (e : known ≡ Ok sizes) where
       accepts : first_due (lent_rows plan lent) ≡ accepted
       accepts = (sizes_known plan lent known is sizes e).0
 
-      pub answer_marks : (outcome : Outcome) → answer_of outcome ≡ first_due verdict
+      pub answer_marks : (outcome : Result Unit Refusal) → answer_of outcome ≡ first_due verdict
           → answer_of outcome ≡ task_answer plan heights (lists marks strips output) t k
       unfolding task_answer
       answer_marks outcome v = v ∙ sym (accepted_before (lent_rows plan lent) verdict (sym accepts))
@@ -125,14 +122,14 @@ pub performed_lists : (plan : Plan) (heights : List ℤ) (t k : ℕ) (marks stri
 unfolding performed
 performed_lists plan heights t k marks strips output m s o a b c = rw (a, b, c)
 
-module _ (plan : Plan) (heights : List ℤ) (before : Buffers) (t k : ℕ) (outcome : Outcome)
+module _ (plan : Plan) (heights : List ℤ) (before : Buffers) (t k : ℕ) (outcome : Result Unit Refusal)
     (is : answer_of outcome ≡ task_answer plan heights before t k) where
-  pub task_accepted : outcome ≡ Accepted → (after : Buffers) → after ≡ performed plan heights t k before
+  pub task_accepted : outcome ≡ Ok tt → (after : Buffers) → after ≡ performed plan heights t k before
       → (accepted ≡ task_answer plan heights before t k) × (after ≡ after_task plan heights t k before)
   unfolding after_task
   task_accepted e after p = let accepts = rw e at is in (accepts, rw (← accepts) p)
 
-  pub task_refused : (refusal : Refusal) → outcome ≡ Refused refusal
-      → (answer_of (Refused refusal) ≡ task_answer plan heights before t k) × (before ≡ after_task plan heights t k before)
+  pub task_refused : (refusal : Refusal) → outcome ≡ Err refusal
+      → (refused_for refusal ≡ task_answer plan heights before t k) × (before ≡ after_task plan heights t k before)
   unfolding after_task
   task_refused refusal e = let refuses = rw e at is in (refuses, rw (← refuses))

@@ -1,3 +1,5 @@
 pub mod Fits
+pub mod Lent
 pub mod RunCalls
+pub mod RunList
 pub mod RunSteps

@@ -1,26 +1,20 @@
 -- What `run_steps` promises: the answers and the lists after task calls and recalls, and demand 3 of them. Document 02, CR 8.
-use Rattle.std.specs.Prelude.{◌≡◌, cond, List, [], ◌∷◌, ◌++◌, ℕ, zero, suc, ◌≤◌, min, ℤ, eqb, length}
+use Rattle.std.specs.Prelude.{◌≡◌, cond, List, ◌++◌, ℕ, ◌≤◌, ℤ, eqb, length}
 use Rattle.refusal.specs.Refusals.{accepted}
-use Rattle.buffer.specs.Lists.{word_at}
 use Rattle.plan.specs.declared.Plan.{Plan}
 use Rattle.plan.specs.Sizes.{needed_pixels}
 use Rattle.job_spec.specs.Calls.{Buffers, start_answer, started, accepted_count}
 use Rattle.job_spec.specs.Steps.{Step, perform, recall, after_steps, step_answers}
 use Rattle.job_spec.specs.Rescan.{RescanClaim}
+use Rattle.job.specs.RunList.{steps_by}
 
 -- The step that a number stands for at a block: 6 for a recall, any other for a call of that task with the map.
 unfoldable pub step_at : List ℤ → ℕ → ℕ → Step
 step_at heights number block = cond (eqb number 6) (recall block) (perform heights number block)
 
--- The n steps from number i on, where step i is that of the number i of one list at the block number i of another.
-unfoldable pub steps_from : List ℤ → List ℕ → List ℕ → ℕ → ℕ → List Step
-steps_from heights tasks blocks i zero = []
-steps_from heights tasks blocks i (suc n) =
-    step_at heights (word_at tasks i) (word_at blocks i) ∷ steps_from heights tasks blocks (suc i) n
-
 -- The steps of two lists, as many as the shorter has.
 abbrev pub steps_of : List ℤ → List ℕ → List ℕ → List Step
-steps_of heights tasks blocks = steps_from heights tasks blocks 0 (min (length tasks) (length blocks))
+steps_of = steps_by step_at
 
 -- Steps on lists `before`: how many were accepted, and the lists `after` them.
 pub record RanSteps (plan : Plan) (steps : List Step) (before after : Buffers) (count : ℕ) : Type 0 where

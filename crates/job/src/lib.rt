@@ -1,17 +1,27 @@
 // The calls of a job: the start, one task, and a list of tasks, or of tasks and recalls, one after another.
 #![tactic(auto)]
 
-ghost use Rattle.std.specs.Prelude.{◌≡◌, ◌≤◌, length};
+ghost use Rattle.std.specs.Prelude.{◌≡◌, ℕ, ℤ, List, length};
 ghost use Rattle.refusal.specs.Refusals.{accepted};
-ghost use Rattle.refusal.specs.Table.{answer_of, if_accepted};
-ghost use Rattle.job_spec.specs.Calls.{lists, start_answer, unmarked, marks_after_start, strips_after_start, task_answer, strips_after, output_after, performed, after_task, calls_of};
-ghost use Rattle.job_spec.specs.Steps.{after_step, step_answer};
+ghost use Rattle.refusal.specs.Table.{answer_of};
+ghost use Rattle.job_spec.specs.Calls.{start_answer, marks_after_start, strips_after_start, task_answer, strips_after, output_after, performed, after_task, calls_of};
+ghost use Rattle.job_spec.specs.Steps.{Step, after_step, step_answer};
 ghost use Rattle.job.specs.Fits.{Fits};
+ghost use Rattle.job.specs.Lent.{lists_in};
 ghost use Rattle.job.specs.RunCalls.{Ran};
 ghost use Rattle.job.specs.RunSteps.{RanSteps, step_at, steps_of};
+ghost use Rattle.job.specs.RunList.{task_at, steps_by, StepsRun};
 
 use plan::{BufferOf7, Lengths, Plan};
 use refusal::Refusal;
+
+// The lists that a job's calls write.
+#[derive(Drop)]
+pub struct Lists<'a> {
+    pub marks: &'a mut [u32],
+    pub strips: &'a mut [u64],
+    pub output: &'a mut [u64],
+}
 
 // The number that stands for a recall in a list of steps: tasks are 0 to 5.
 pub const RECALL: usize = 6;
@@ -22,24 +32,15 @@ pub fn start(plan: Plan, marks: &mut [u32], strips: &mut [u64]) -> Result<(), Re
     ensures marked { marks.new ≡ marks_after_start plan marks.old strips.old }
     ensures stripped { strips.new ≡ strips_after_start plan marks.old strips.old }
 {
-    let lent = Lengths {
+    let sizes = plan.sizes_for(Lengths {
         of7: Some(BufferOf7::Marks(marks.len())),
         strips: Some(strips.len()),
         map: None,
         output: None,
-    };
-    let sizes = plan.sizes_for(lent)?;
-    unmark(marks, sizes.marks);
-    buffer::clear_words(strips, 0, 1, sizes.strips);
+    })?;
+    marks[..sizes.marks].fill(tasks::UNMARKED);
+    strips[..sizes.strips].fill(0);
     Ok(())
-}
-
-// The first `count` marks have their kind and no bit.
-fn unmark(marks: &mut [u32], count: usize)
-    requires { count ≤ length marks.old }
-    ensures { marks.new ≡ unmarked count marks.old }
-{
-    marks[..count].fill(tasks::UNMARKED);
 }
 
 // Calls one task at one block: refused, or its bit is set and its strips or its output are written.
@@ -48,15 +49,13 @@ pub fn task(
     task: usize,
     block: usize,
     map: &[i32],
-    marks: &mut [u32],
-    strips: &mut [u64],
-    output: &mut [u64],
+    lent: &mut Lists,
 ) -> Result<(), Refusal>
-    ensures answer { answer_of result ≡ task_answer plan map.now (lists marks.old strips.old output.old) task block }
-    ensures written { lists marks.new strips.new output.new ≡ after_task plan map.now task block (lists marks.old strips.old output.old) }
+    ensures answer { answer_of result ≡ task_answer plan map.now (lists_in lent.old) task block }
+    ensures written { lists_in lent.new ≡ after_task plan map.now task block (lists_in lent.old) }
 {
-    test_task(plan, task, block, map, marks, strips, output)?;
-    perform(plan, task, block, map, marks, strips, output);
+    test_task(plan, task, block, map, lent)?;
+    perform(plan, task, block, map, lent);
     Ok(())
 }
 
@@ -66,37 +65,26 @@ fn test_task(
     task: usize,
     block: usize,
     map: &[i32],
-    marks: &[u32],
-    strips: &[u64],
-    output: &[u64],
+    lent: &Lists,
 ) -> Result<(), Refusal>
-    ensures { answer_of result ≡ task_answer plan map.now (lists marks.now strips.now output.now) task block }
+    ensures { answer_of result ≡ task_answer plan map.now (lists_in lent.now) task block }
 {
-    let lent = Lengths {
-        of7: Some(BufferOf7::Marks(marks.len())),
-        strips: Some(strips.len()),
+    plan.sizes_for(Lengths {
+        of7: Some(BufferOf7::Marks(lent.marks.len())),
+        strips: Some(lent.strips.len()),
         map: Some(map.len()),
-        output: Some(output.len()),
-    };
-    plan.sizes_for(lent)?;
-    tasks::verdict(plan.grid, marks, task, block)
+        output: Some(lent.output.len()),
+    })?;
+    tasks::verdict(plan.grid, lent.marks, task, block)
 }
 
 // Performs an accepted task.
-fn perform(
-    plan: Plan,
-    task: usize,
-    block: usize,
-    map: &[i32],
-    marks: &mut [u32],
-    strips: &mut [u64],
-    output: &mut [u64],
-)
-    requires { task_answer plan map.now (lists marks.old strips.old output.old) task block ≡ accepted }
-    ensures { lists marks.new strips.new output.new ≡ performed plan map.now task block (lists marks.old strips.old output.old) }
+fn perform(plan: Plan, task: usize, block: usize, map: &[i32], lent: &mut Lists)
+    requires { task_answer plan map.now (lists_in lent.old) task block ≡ accepted }
+    ensures { lists_in lent.new ≡ performed plan map.now task block (lists_in lent.old) }
 {
-    tasks::set_bit(marks, task, block);
-    write_block(plan, task, block, map, strips, output);
+    tasks::set_bit(lent.marks, task, block);
+    write_block(plan, task, block, map, lent.strips, lent.output);
 }
 
 // Writes what a task writes: collect the lone half of the block's slot, a link its strip in the linked half, finish the
@@ -127,18 +115,11 @@ pub fn run_calls(
     tasks: &[usize],
     blocks: &[usize],
     map: &[i32],
-    marks: &mut [u32],
-    strips: &mut [u64],
-    output: &mut [u64],
+    lent: &mut Lists,
 ) -> usize
-    ensures { Ran plan map.now (calls_of tasks.now blocks.now) (lists marks.old strips.old output.old) (lists marks.new strips.new output.new) result }
+    ensures { Ran plan map.now (calls_of tasks.now blocks.now) (lists_in lent.old) (lists_in lent.new) result }
 {
-    let mut accepted = 0;
-    for (number, block) in tasks.iter().zip(blocks) {
-        let outcome = task(plan, *number, *block, map, marks, strips, output);
-        accepted += usize::from(outcome.is_ok());
-    }
-    accepted
+    run_list::<TaskCalls>(plan, tasks, blocks, map, lent)
 }
 
 // Steps, one after another: step number i is a recall of block blocks[i] where tasks[i] is `RECALL`, else a call of task tasks[i]
@@ -149,35 +130,80 @@ pub fn run_steps(
     tasks: &[usize],
     blocks: &[usize],
     map: &[i32],
-    marks: &mut [u32],
-    strips: &mut [u64],
-    output: &mut [u64],
+    lent: &mut Lists,
 ) -> usize
-    ensures { RanSteps plan (steps_of map.now tasks.now blocks.now) (lists marks.old strips.old output.old) (lists marks.new strips.new output.new) result }
+    ensures { RanSteps plan (steps_of map.now tasks.now blocks.now) (lists_in lent.old) (lists_in lent.new) result }
 {
-    let mut accepted = 0;
-    for (number, block) in tasks.iter().zip(blocks) {
-        let outcome = step(plan, *number, *block, map, marks, strips, output);
-        accepted += usize::from(outcome.is_ok());
-    }
-    accepted
+    run_list::<AnySteps>(plan, tasks, blocks, map, lent)
 }
 
-// One step: a recall, which is lent the marks alone, or a call of a task.
-fn step(
-    plan: Plan,
-    number: usize,
-    block: usize,
-    map: &[i32],
-    marks: &mut [u32],
-    strips: &mut [u64],
-    output: &mut [u64],
-) -> Result<(), Refusal>
-    ensures answer { answer_of result ≡ step_answer plan (step_at map.now number block) (lists marks.old strips.old output.old) }
-    ensures written { lists marks.new strips.new output.new ≡ after_step plan (step_at map.now number block) (lists marks.old strips.old output.old) }
-{
-    if number == RECALL {
-        return recall::recall(plan, block, marks);
+// What the numbers of a list stand for: tasks alone, or steps, of which some are recalls.
+trait Numbered {
+    ghost step: { List ℤ → ℕ → ℕ → Step };
+
+    // Performs the step of a number at a block.
+    fn perform(
+        plan: Plan,
+        number: usize,
+        block: usize,
+        map: &[i32],
+        lent: &mut Lists,
+    ) -> Result<(), Refusal>
+        ensures answer { answer_of result ≡ step_answer plan (step map.now number block) (lists_in lent.old) }
+        ensures written { lists_in lent.new ≡ after_step plan (step map.now number block) (lists_in lent.old) };
+}
+
+struct TaskCalls;
+
+struct AnySteps;
+
+impl Numbered for TaskCalls {
+    ghost step = { task_at };
+
+    fn perform(
+        plan: Plan,
+        number: usize,
+        block: usize,
+        map: &[i32],
+        lent: &mut Lists,
+    ) -> Result<(), Refusal> {
+        task(plan, number, block, map, lent)
     }
-    task(plan, number, block, map, marks, strips, output)
+}
+
+impl Numbered for AnySteps {
+    ghost step = { step_at };
+
+    // A recall is lent the marks alone.
+    fn perform(
+        plan: Plan,
+        number: usize,
+        block: usize,
+        map: &[i32],
+        lent: &mut Lists,
+    ) -> Result<(), Refusal> {
+        if number == RECALL {
+            recall::recall(plan, block, lent.marks)
+        } else {
+            task(plan, number, block, map, lent)
+        }
+    }
+}
+
+// The steps of two lists, as many as the shorter has; the answer is how many were accepted.
+fn run_list<N: Numbered>(
+    plan: Plan,
+    numbers: &[usize],
+    blocks: &[usize],
+    map: &[i32],
+    lent: &mut Lists,
+) -> usize
+    ensures { StepsRun plan (steps_by N.step map.now numbers.now blocks.now) (lists_in lent.old) (lists_in lent.new) result }
+{
+    let mut accepted = 0;
+    for i in 0..numbers.len().min(blocks.len()) {
+        let answer = N::perform(plan, numbers[i], blocks[i], map, lent);
+        accepted += usize::from(answer.is_ok());
+    }
+    accepted
 }
