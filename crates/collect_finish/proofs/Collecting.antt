@@ -1,8 +1,7 @@
 -- What collect has done after so many passes: the start, one turn, and the end. Assumes nothing.
-use mathlib.Core.Path.{◌≡◌, refl, sym, ap, ◌∙◌}
+use mathlib.Core.Path.{◌≡◌, sym, ap, ◌∙◌}
 use mathlib.Core.List.{List}
 use Prim.Native.Nat.{ℕ, ◌+◌, ◌≤◌, ◌<◌}
-use native.Mathlib.Omega.{arith}
 use lib.IntN.{ℤ}
 use lib.ListN.{length}
 use Rattle.plan.specs.declared.Plan.{Plan}
@@ -28,8 +27,6 @@ use Rattle.collect_finish.proofs.AloneEdges.{alone_edge}
 
 -- After t passes over X: the lone strips of these passes are written, and the work array holds the block filtered alone.
 pub record Collecting (plan : Plan) (k : ℕ) (X : ℕ → ℕ → ℕ) (first strips : List ℕ) (t : ℕ) (work : List ℕ) : Type 0 where
-  pub counted : t ≤ 4
-  pub length_kept : length strips ≡ length first
   pub alone : Alone plan k (part_of plan.grid k X) t work
   pub written : strips ≡ half_written plan Lone k (alone_word plan X k) t first
 
@@ -39,8 +36,6 @@ module _ {plan : Plan} {k : ℕ} {shape : BlockShape} (placed : ShapedBlock plan
       → Collecting plan k (map_of plan heights) strips strips 0 work
   collect_start heights loads =
       record {
-        counted = omega arith;
-        length_kept = refl;
         alone =
             record {
               block = holds_start placed heights loads (collect_filters plan) (λ u l i. 0);
@@ -68,26 +63,23 @@ module _ {plan : Plan} {k : ℕ} {shape : BlockShape} (placed : ShapedBlock plan
           record {
             placed = placed;
             pass_below = below;
-            strips_long = rw inv.length_kept long;
+            strips_long = rw (ap length inv.written ∙ half_length plan Lone k (alone_word plan X k) t first) long;
             sized = filtered_alone.block.sized;
           }
 
       pub collect_turn : {gain : ℕ} {left : List ℕ} → gain ≡ gains_from (filters_of plan) 0 (t + 1)
           → left ≡ strip_written plan Lone k t (work_edge plan k t gain after) strips → Collecting plan k X first left (t + 1) after
       collect_turn {gain} {left} gains stripped =
-          let all : left ≡ half_written plan Lone k (alone_word plan X k) (t + 1) first =
-          stripped
-          ∙ strip_same_words plan Lone k t _ _ strips (alone_edge placed.block t below X after filtered_alone gain gains)
-          ∙ ap (strip_written plan Lone k t (alone_word plan X k t)) inv.written
-          ∙ half_next plan Lone k (alone_word plan X k) t first in
           record {
-            counted = omega arith;
-            length_kept = ap length all ∙ half_length plan Lone k (alone_word plan X k) (t + 1) first;
             alone = filtered_alone;
-            written = all;
+            written =
+                stripped
+                ∙ strip_same_words plan Lone k t _ _ strips (alone_edge placed.block t below X after filtered_alone gain gains)
+                ∙ ap (strip_written plan Lone k t (alone_word plan X k t)) inv.written
+                ∙ half_next plan Lone k (alone_word plan X k) t first;
           }
 
 pub collect_end : {plan : Plan} {k : ℕ} {X : ℕ → ℕ → ℕ} {first strips : List ℕ} {t : ℕ} {work : List ℕ}
-    → Collecting plan k X first strips t work → 4 ≤ t → strips ≡ collected plan X k first
+    → Collecting plan k X first strips t work → t ≡ 4 → strips ≡ collected plan X k first
 unfolding collected
-collect_end {t = t} inv all = let e : t ≡ 4 = omega (arith, inv.counted) in rw e at inv.written
+collect_end inv all = rw all at inv.written

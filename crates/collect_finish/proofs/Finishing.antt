@@ -47,20 +47,18 @@ unfolding filter_of
 finish_order plan zero = refl
 finish_order plan (suc t) = refl
 
--- After t of `count` passes over an array `first`: the work array holds the block, and what lies outside it and the
+-- After t passes over an array `first`: the work array holds the block, and what lies outside it and the
 -- margins of these passes is as it was.
-pub record Finishing (plan : Plan) (k : ℕ) (strips first : List ℕ) (count t : ℕ) (work : List ℕ) : Type 0 where
-  pub counted : t ≤ count
+pub record Finishing (plan : Plan) (k : ℕ) (strips first : List ℕ) (t : ℕ) (work : List ℕ) : Type 0 where
   pub holds : Holds plan k (gains_first_filters plan) (scaled_edges plan strips k 3) (block_words first) t work
   pub others : (z : ℕ) → OutsideBlock (shape_of plan.grid k) z
       → ((u : ℕ) → u < t → OutsideMargin plan (shape_of plan.grid k) u z) → word_at work z ≡ word_at first z
 
 pub passes_start : {plan : Plan} {k : ℕ} {shape : BlockShape} {count n : ℕ} {strips work : List ℕ}
-    → ReadyToFinish plan k shape count n work → Finishing plan k strips work count 0 work
+    → ReadyToFinish plan k shape count n work → Finishing plan k strips work 0 work
 unfolding passes_over
 passes_start fits =
     record {
-      counted = omega arith;
       holds = record { sized = fits.sized; inside = λ y x p q. refl };
       others = λ z outside apart. refl;
     }
@@ -75,7 +73,7 @@ module _ {plan : Plan} {k : ℕ} {shape : BlockShape} {count n : ℕ} {first : L
 
   -- ---- a turn
 
-  module _ {strips : List ℕ} {t : ℕ} {work : List ℕ} (inv : Finishing plan k strips first count t work) (turn : t < count) where
+  module _ {strips : List ℕ} {t : ℕ} {work : List ℕ} (inv : Finishing plan k strips first t work) (turn : t < count) where
     below : t < 4
     below = omega (arith, ready.counted)
 
@@ -160,12 +158,11 @@ module _ {plan : Plan} {k : ℕ} {shape : BlockShape} {count n : ℕ} {first : L
           ∙ inv.others z outside (λ u h. apart u (omega arith))
 
       pub finish_turn : {after : List ℕ} → after ≡ block_pass shape t (filter_with words) loaded
-          → Finishing plan k strips first count (t + 1) after
+          → Finishing plan k strips first (t + 1) after
       finish_turn pass =
           let f = ap filter_with filtered ∙ gains_first_words_filter plan t in
           rw (pass ∙ ap₂ (λ z f. block_pass z t f loaded) placed.shaped f)
           record {
-            counted = omega arith;
             holds =
                 holds_more placed.block (gains_first_filters plan) edges Z t below (finish_order plan t) loaded loaded_holds near;
             others = still_others;
@@ -173,11 +170,10 @@ module _ {plan : Plan} {k : ℕ} {shape : BlockShape} {count n : ℕ} {first : L
 
   -- ---- the end
 
-  pub passes_end : {strips : List ℕ} {t : ℕ} {work : List ℕ} → Finishing plan k strips first count t work → count ≤ t
+  pub passes_end : {strips : List ℕ} {t : ℕ} {work : List ℕ} → Finishing plan k strips first t work → t ≡ count
       → PassesRun plan k shape strips count first work
   unfolding shape_of
-  passes_end {t = t} inv all =
-      let e : t ≡ count = omega (arith, inv.counted) in
+  passes_end inv e =
       rw placed.shaped
       record {
         inside = rw (← e) inv.holds.inside;

@@ -49,14 +49,12 @@ pub fn collect(plan: Plan, k: usize, map: &[i32], strips: &mut [u64])
     let shape = grid.block_shape(k);
     let mut work = [0; STRIDE * STRIDE];
     load_block(map, shape.start, grid.columns, shape, &mut work);
-    let mut pass = 0;
-    while pass < 4 {
+    for pass in 0..4 {
         let described = plan.passes[pass];
         let words = filter::filter_with_gain(described, 1);
         run_block_pass(shape, pass, words, &mut work);
         let gain = filter::gains_from(plan, 0, pass + 1);
         write_strip(plan, k, pass, gain, shape, &work, strips);
-        pass += 1;
     }
 }
 
@@ -95,13 +93,11 @@ fn run_passes(
     requires { ReadyToFinish plan k shape count (length strips.now) work.old }
     ensures { PassesRun plan k shape strips.now count work.old work.new }
 {
-    let mut pass = 0;
-    while pass < count {
+    for pass in 0..count {
         let gain = filter::gains_after(plan, pass, 3);
         load_margin(plan, k, pass, gain, shape, strips, work);
         let words = filter::gains_first(plan, pass);
         run_block_pass(shape, pass, words, work);
-        pass += 1;
     }
 }
 
@@ -126,6 +122,7 @@ fn copy_row(
 
 // A rectangle of at least one row, times a gain, column by column. Its places in `to` differ, so that their order does
 // not count.
+#[tactic(auto, using(crate::proofs::CopiedColumns::columns_none))]
 fn copy_columns(
     from: &[u64],
     source: Rows,
@@ -138,8 +135,7 @@ fn copy_columns(
     requires { StrideFits (length from.now) source.start source.stride height width × StrideFits (length to.old) target.start target.stride height width × (width ≤ target.stride) × (0 < height) }
     ensures { to.new ≡ stride_written target.start target.stride width (stride_scaled gain from.now source.start source.stride) height to.old }
 {
-    let mut column = 0;
-    while column < width {
+    for column in 0..width {
         buffer::scale_words(
             from,
             source.start + column,
@@ -150,11 +146,11 @@ fn copy_columns(
             height,
             gain,
         );
-        column += 1;
     }
 }
 
 // A rectangle, times a gain, row by row.
+#[tactic(auto, using(crate::proofs::CopiedRows::rows_none))]
 fn copy_rows(
     from: &[u64],
     source: Rows,
@@ -167,8 +163,7 @@ fn copy_rows(
     requires { StrideFits (length from.now) source.start source.stride height width × StrideFits (length to.old) target.start target.stride height width }
     ensures { to.new ≡ stride_written target.start target.stride width (stride_scaled gain from.now source.start source.stride) height to.old }
 {
-    let mut row = 0;
-    while row < height {
+    for row in 0..height {
         copy_row(
             from,
             source.start + row * source.stride,
@@ -177,7 +172,6 @@ fn copy_rows(
             width,
             gain,
         );
-        row += 1;
     }
 }
 
@@ -218,10 +212,8 @@ fn load_line(map: &[i32], map_start: usize, work: &mut [u64], work_start: usize)
     requires { (map_start + 16 ≤ length map.now) × (work_start + 16 ≤ length work.old) }
     ensures { work.new ≡ row_written work_start (heights_from map.now map_start) 16 work.old }
 {
-    let mut pair = 0;
-    while pair < LINE_PAIRS {
+    for pair in 0..LINE_PAIRS {
         load_pair(map, map_start + 2 * pair, work, work_start + 2 * pair);
-        pair += 1;
     }
 }
 
@@ -238,6 +230,7 @@ fn load_row(map: &[i32], map_start: usize, work: &mut [u64], work_start: usize, 
 }
 
 // The words of some columns of heights, row by row, to a place of the work array.
+#[tactic(auto, using(crate::proofs::CopiedRows::rows_none))]
 fn load_columns(
     map: &[i32],
     map_start: usize,
@@ -250,8 +243,7 @@ fn load_columns(
     requires { StrideFits (length map.now) map_start map_stride height width × StrideFits (length work.old) work_start work_stride height width }
     ensures { work.new ≡ stride_written work_start work_stride width (stride_heights map.now map_start map_stride) height work.old }
 {
-    let mut row = 0;
-    while row < height {
+    for row in 0..height {
         load_row(
             map,
             map_start + row * map_stride,
@@ -259,7 +251,6 @@ fn load_columns(
             work_start + row * STRIDE,
             width,
         );
-        row += 1;
     }
 }
 
@@ -270,9 +261,8 @@ fn load_block(map: &[i32], start: usize, stride: usize, shape: BlockShape, work:
     requires { StrideFits (length map.now) start stride shape.rows shape.columns × StrideFits (length work.old) work_corner work_stride shape.rows shape.columns × ShapeFits shape }
     ensures { work.new ≡ block_loaded shape (stride_heights map.now start stride) work.old }
 {
-    let mut column = 0;
-    while column < shape.columns {
-        let width = number::lesser(LINE_HEIGHTS, shape.columns - column);
+    for column in (0..shape.columns).step_by(LINE_HEIGHTS) {
+        let width = LINE_HEIGHTS.min(shape.columns - column);
         load_columns(
             map,
             start + column,
@@ -282,7 +272,6 @@ fn load_block(map: &[i32], start: usize, stride: usize, shape: BlockShape, work:
             shape.rows,
             width,
         );
-        column += width;
     }
 }
 

@@ -1,4 +1,5 @@
 -- `collect` has written the strips of the passes so far; the work array holds the block filtered alone, with gain 1.
+use native.Mathlib.Omega.{arith}
 use Rattle.plan.proofs.Record.{in_grid}
 use Rattle.collect_finish.specs.WorkFits.{ShapedBlock}
 use Rattle.collect_finish.proofs.WorkPlaces.{shape_in_work, block_in_work, block_in_map}
@@ -39,4 +40,4 @@ loop-pass-preserved c =
     c.run_block_pass.ensures c.gains_from-gain.ensures c.write_strip.ensures
 
 pub returns : goal.returns
-returns c = collect_end c.loop-pass.invariant c.loop-pass-test.false
+returns c = collect_end c.loop-pass.invariant (omega arith)

@@ -1,13 +1,9 @@
 -- `load_columns` has read the rows passed so far.
-use Prim.Native.Nat.{◌-◌}
 use Rattle.buffer.specs.Copies.{stride_heights}
 use Rattle.collect_finish.specs.Work.{work_stride}
-use Rattle.collect_finish.proofs.CopiedRows.{RowsWritten}
+use Rattle.collect_finish.proofs.CopiedRows.{RectangleWritten}
 use Rattle.collect_finish.proofs.load_columns.Given as goal
 
 abbrev pub invariant-loop-row : goal.invariant-loop-row
 invariant-loop-row l =
-    RowsWritten l.work_start work_stride l.width (stride_heights l.map l.map_start l.map_stride) l.height l.row l.initial.work l.work
-
-abbrev pub decreases-loop-row : goal.decreases-loop-row
-decreases-loop-row l = l.height - l.row
+    RectangleWritten l.work_start work_stride l.width (stride_heights l.map l.map_start l.map_stride) l.row l.initial.work l.work

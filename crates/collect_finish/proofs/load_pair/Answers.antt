@@ -2,6 +2,7 @@
 use mathlib.Core.Path.{◌≡◌, ap, ◌∙◌}
 use Prim.Native.Nat.{◌+◌}
 use native.Mathlib.Omega.{arith}
+use borrow.Author.Rules.{rules}
 use lib.ListN.{length-set}
 use mir.Syntax.{w32}
 use mir.ValLaws.{to_z-of_z}
@@ -24,6 +25,6 @@ returns c =
     let begins : a.map_start ≡ a.map_start + 0 = omega arith in
     row_two a.work_start (heights_from a.map.now a.map_start) a.work.now _ _
     (c.read_pixel-first.ensures
-    ∙ ap pixel (to_z-of_z w32 first (record { sfits = c.read_pixel-arg-1.given }))
+    ∙ ap pixel (to_z-of_z w32 first (search rules))
     ∙ ap (λ place. pixel (number_at a.map.now place)) begins)
-    (c.read_pixel-second.ensures ∙ ap pixel (to_z-of_z w32 second (record { sfits = c.read_pixel-arg-2-1.given })))
+    (c.read_pixel-second.ensures ∙ ap pixel (to_z-of_z w32 second (search rules)))

@@ -1,5 +1,6 @@
 -- `run_passes` has run the passes so far in the work array with all gains in the first, the neighbours' strips past the
 -- block's edges times the gains of the passes after each.
+use native.Mathlib.Omega.{arith}
 use Rattle.collect_finish.proofs.Finishing.{passes_start, finish_margin, finish_pass, finish_turn, passes_end}
 use Rattle.collect_finish.proofs.run_passes.Goals as goal
 
@@ -27,4 +28,4 @@ loop-pass-preserved c =
 pub returns : goal.returns
 returns c =
     let ready = c.requires in
-    passes_end ready c.loop-pass.invariant c.loop-pass-test.false
+    passes_end ready c.loop-pass.invariant (omega arith)
