@@ -291,6 +291,7 @@ fn run_block_pass(shape: BlockShape, pass: usize, words: FilterWords, work: &mut
 }
 
 // The place in the work array of an index of the block's first line.
+#[tactic(auto, using(crate::proofs::WorkPlaces::place_along))]
 fn work_place(pass: usize, index: usize) -> usize
     requires { index ≤ work_stride }
     ensures { result ≡ work_place (axis_of pass) 0 index }
@@ -298,6 +299,7 @@ fn work_place(pass: usize, index: usize) -> usize
     axis::along(pass, index * STRIDE + MARGIN, MARGIN * STRIDE + index)
 }
 
+#[tactic(auto, using(axis::proofs::Passes::runs_forward, axis::proofs::Passes::runs_backward))]
 fn margin_start(pass: usize, order: usize, extent: usize) -> usize
     requires { EdgeFits order extent }
     ensures { result ≡ margin_start (direction_of pass) order extent }

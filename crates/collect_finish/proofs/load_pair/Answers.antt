@@ -3,7 +3,6 @@ use mathlib.Core.Path.{◌≡◌, ap, ◌∙◌}
 use Prim.Native.Nat.{◌+◌}
 use native.Mathlib.Omega.{arith}
 use borrow.Author.Rules.{rules}
-use lib.ListN.{length-set}
 use mir.Syntax.{w32}
 use mir.ValLaws.{to_z-of_z}
 use Rattle.buffer.specs.Lists.{number_at}
@@ -11,11 +10,6 @@ use Rattle.buffer.specs.Pixel.{pixel}
 use Rattle.buffer.specs.Copies.{heights_from}
 use Rattle.buffer.proofs.Copies.{row_two}
 use Rattle.collect_finish.proofs.load_pair.Goals as goal
-
-pub bounds-work-work_start-2 : goal.bounds-work-work_start-2
-bounds-work-work_start-2 c =
-    let a = c.args in
-    rw (length-set a.work.now a.work_start c.read_pixel-first.result) (omega arith)
 
 pub returns : goal.returns
 returns c =
