@@ -20,7 +20,6 @@ use Rattle.task_words.specs.Writes.{alone_word, collected}
 use Rattle.task_words.proofs.Strips.{strip_same_words, half_none, half_next, half_length}
 use Rattle.collect_finish.specs.Work.{block_pass, work_edge}
 use Rattle.collect_finish.specs.WorkFits.{ShapedBlock, PassFits, StripMoves}
-use Rattle.collect_finish.proofs.WorkPlaces.{shape_in_work}
 use Rattle.collect_finish.proofs.BlockPasses.{PixelsLoaded, holds_start, clear_start}
 use Rattle.collect_finish.proofs.AloneBlock.{collect_filters, Alone, alone_turn}
 use Rattle.collect_finish.proofs.AloneEdges.{alone_edge}
@@ -51,17 +50,16 @@ module _ {plan : Plan} {k : ℕ} {shape : BlockShape} (placed : ShapedBlock plan
     unfolding filter_words
     order_limited = rw filtered (order_limited_at plan placed.block.kept t below)
 
-    pub collect_pass : PassFits words.order shape (length work)
-    collect_pass = record { limited = order_limited; held = shape_in_work placed; sized = inv.alone.block.sized }
+    pub collect_pass : PassFits words.order (length work)
+    collect_pass = record { limited = order_limited; sized = inv.alone.block.sized }
 
     module _ {after : List ℕ} (pass : after ≡ block_pass shape t (filter_with words) work) where
       filtered_alone : Alone plan k (part_of plan.grid k X) (t + 1) after
       filtered_alone = alone_turn placed inv.alone below filtered pass
 
-      pub collect_strip : needed_strips plan ≤ length first → StripMoves plan k t shape (length strips) (length after)
+      pub collect_strip : needed_strips plan ≤ length first → StripMoves plan t (length strips) (length after)
       collect_strip long =
           record {
-            placed = placed;
             pass_below = below;
             strips_long = rw (ap length inv.written ∙ half_length plan Lone k (alone_word plan X k) t first) long;
             sized = filtered_alone.block.sized;
