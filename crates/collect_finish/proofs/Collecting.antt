@@ -1,8 +1,7 @@
 -- What collect has done after so many passes: the start, one turn, and the end. Assumes nothing.
-use mathlib.Core.Path.{◌≡◌, refl, sym, ap, ◌∙◌}
+use mathlib.Core.Path.{◌≡◌, sym, ap, ◌∙◌}
 use mathlib.Core.List.{List}
 use Prim.Native.Nat.{ℕ, ◌+◌, ◌≤◌, ◌<◌}
-use native.Mathlib.Omega.{arith}
 use lib.IntN.{ℤ}
 use lib.ListN.{length}
 use Rattle.plan.specs.declared.Plan.{Plan}
@@ -21,15 +20,12 @@ use Rattle.task_words.specs.Writes.{alone_word, collected}
 use Rattle.task_words.proofs.Strips.{strip_same_words, half_none, half_next, half_length}
 use Rattle.collect_finish.specs.Work.{block_pass, work_edge}
 use Rattle.collect_finish.specs.WorkFits.{ShapedBlock, PassFits, StripMoves}
-use Rattle.collect_finish.proofs.WorkPlaces.{shape_in_work}
 use Rattle.collect_finish.proofs.BlockPasses.{PixelsLoaded, holds_start, clear_start}
 use Rattle.collect_finish.proofs.AloneBlock.{collect_filters, Alone, alone_turn}
 use Rattle.collect_finish.proofs.AloneEdges.{alone_edge}
 
 -- After t passes over X: the lone strips of these passes are written, and the work array holds the block filtered alone.
 pub record Collecting (plan : Plan) (k : ℕ) (X : ℕ → ℕ → ℕ) (first strips : List ℕ) (t : ℕ) (work : List ℕ) : Type 0 where
-  pub counted : t ≤ 4
-  pub length_kept : length strips ≡ length first
   pub alone : Alone plan k (part_of plan.grid k X) t work
   pub written : strips ≡ half_written plan Lone k (alone_word plan X k) t first
 
@@ -39,8 +35,6 @@ module _ {plan : Plan} {k : ℕ} {shape : BlockShape} (placed : ShapedBlock plan
       → Collecting plan k (map_of plan heights) strips strips 0 work
   collect_start heights loads =
       record {
-        counted = omega arith;
-        length_kept = refl;
         alone =
             record {
               block = holds_start placed heights loads (collect_filters plan) (λ u l i. 0);
@@ -56,38 +50,34 @@ module _ {plan : Plan} {k : ℕ} {shape : BlockShape} (placed : ShapedBlock plan
     unfolding filter_words
     order_limited = rw filtered (order_limited_at plan placed.block.kept t below)
 
-    pub collect_pass : PassFits words.order shape (length work)
-    collect_pass = record { limited = order_limited; held = shape_in_work placed; sized = inv.alone.block.sized }
+    pub collect_pass : PassFits words.order (length work)
+    collect_pass = record { limited = order_limited; sized = inv.alone.block.sized }
 
     module _ {after : List ℕ} (pass : after ≡ block_pass shape t (filter_with words) work) where
       filtered_alone : Alone plan k (part_of plan.grid k X) (t + 1) after
       filtered_alone = alone_turn placed inv.alone below filtered pass
 
-      pub collect_strip : needed_strips plan ≤ length first → StripMoves plan k t shape (length strips) (length after)
+      pub collect_strip : needed_strips plan ≤ length first → StripMoves plan t (length strips) (length after)
       collect_strip long =
           record {
-            placed = placed;
             pass_below = below;
-            strips_long = rw inv.length_kept long;
+            strips_long = rw (ap length inv.written ∙ half_length plan Lone k (alone_word plan X k) t first) long;
             sized = filtered_alone.block.sized;
           }
 
       pub collect_turn : {gain : ℕ} {left : List ℕ} → gain ≡ gains_from (filters_of plan) 0 (t + 1)
           → left ≡ strip_written plan Lone k t (work_edge plan k t gain after) strips → Collecting plan k X first left (t + 1) after
       collect_turn {gain} {left} gains stripped =
-          let all : left ≡ half_written plan Lone k (alone_word plan X k) (t + 1) first =
-          stripped
-          ∙ strip_same_words plan Lone k t _ _ strips (alone_edge placed.block t below X after filtered_alone gain gains)
-          ∙ ap (strip_written plan Lone k t (alone_word plan X k t)) inv.written
-          ∙ half_next plan Lone k (alone_word plan X k) t first in
           record {
-            counted = omega arith;
-            length_kept = ap length all ∙ half_length plan Lone k (alone_word plan X k) (t + 1) first;
             alone = filtered_alone;
-            written = all;
+            written =
+                stripped
+                ∙ strip_same_words plan Lone k t _ _ strips (alone_edge placed.block t below X after filtered_alone gain gains)
+                ∙ ap (strip_written plan Lone k t (alone_word plan X k t)) inv.written
+                ∙ half_next plan Lone k (alone_word plan X k) t first;
           }
 
 pub collect_end : {plan : Plan} {k : ℕ} {X : ℕ → ℕ → ℕ} {first strips : List ℕ} {t : ℕ} {work : List ℕ}
-    → Collecting plan k X first strips t work → 4 ≤ t → strips ≡ collected plan X k first
+    → Collecting plan k X first strips t work → t ≡ 4 → strips ≡ collected plan X k first
 unfolding collected
-collect_end {t = t} inv all = let e : t ≡ 4 = omega (arith, inv.counted) in rw e at inv.written
+collect_end inv all = rw all at inv.written

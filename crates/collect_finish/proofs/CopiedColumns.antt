@@ -7,13 +7,14 @@ use Prim.Native.Nat.{ℕ, zero, suc, ◌+◌, ◌*◌, ◌≤◌, ◌<◌}
 use native.Mathlib.Nat.{mul-le-mul_right}
 use native.Mathlib.Numerals.{add-one}
 use native.Mathlib.Omega.{arith}
-use lib.ListN.{length, set}
+use lib.ListN.{set}
 use Rattle.word.specs.Word.{◌⊗◌}
 use Rattle.buffer.specs.Lists.{word_at}
-use Rattle.buffer.specs.Copies.{scaled_from, stride_place, stride_scaled, stride_written, StrideFits, WordsFit}
+use Rattle.buffer.specs.Copies.{scaled_from, stride_place, stride_scaled, stride_written}
 use Rattle.buffer.specs.Written.{written, rectangle_written}
 use Rattle.buffer.proofs.Written.{written_none, written_next, written_same, written_swap}
-use Rattle.buffer.proofs.Copies.{rectangle_none, rectangle_more, rectangle_length, rectangle_unchanged}
+use Rattle.collect_finish.proofs.CopiedRows.{RectangleWritten}
+use Rattle.buffer.proofs.Copies.{rectangle_none, rectangle_more, rectangle_unchanged}
 
 -- ---- column c of a rectangle, into a list that has the columns before it: no row reaches into the next
 
@@ -86,66 +87,39 @@ module _ (start stride : ℕ) (words : ℕ → ℕ → ℕ) (c h : ℕ) (before 
 
 -- ---- the code's loops
 
--- A column of a rectangle that fits.
-pub column_fits : {n start stride h w column : ℕ} → StrideFits n start stride h w → column < w
-    → WordsFit n (start + column) stride h
-column_fits fits below = record { inside = λ y c. omega (arith, fits.row y c) }
-
--- A group of it.
-pub group_fits : (column : ℕ) {n start stride h w width : ℕ} → StrideFits n start stride h w → column + width ≤ w
-    → StrideFits n (start + column) stride h width
-group_fits column fits below = record { row = λ y c. omega (arith, fits.row y c) }
-
--- The first `column` of w columns are written.
-pub record ColumnsWritten (start stride w : ℕ) (words : ℕ → ℕ → ℕ) (h column : ℕ) (before after : List ℕ) : Type 0 where
-  pub counted : column ≤ w
-  pub length_kept : length after ≡ length before
-  pub written : after ≡ stride_written start stride column words h before
-
-module _ {to to_stride w : ℕ} {words : ℕ → ℕ → ℕ} {h : ℕ} {before : List ℕ} where
-  pub columns_none : ColumnsWritten to to_stride w words h 0 before before
+module _ {to to_stride : ℕ} {words : ℕ → ℕ → ℕ} {h : ℕ} {before : List ℕ} where
+  pub columns_none : RectangleWritten to to_stride 0 words h before before
   columns_none =
       record {
-        counted = omega arith;
-        length_kept = refl;
         written = sym (rectangle_unchanged (stride_place to to_stride) words 0 h before (λ y x b d. absurd (omega arith)));
       }
 
   -- A group of so many columns more.
   pub next_group : (width : ℕ) {column : ℕ} {after next : List ℕ} {read : ℕ → ℕ → ℕ}
-      → ColumnsWritten to to_stride w words h column before after → column + width ≤ w → w ≤ to_stride
+      → RectangleWritten to to_stride column words h before after → column + width ≤ to_stride
       → ((y x : ℕ) → read y x ≡ words y (column + x)) → next ≡ stride_written (to + column) to_stride width read h after
-      → ColumnsWritten to to_stride w words h (column + width) before next
+      → RectangleWritten to to_stride (column + width) words h before next
   unfolding rectangle_written
-  next_group width {column} {after} inv below narrow same e =
-      let all =
-      e
-      ∙ written_same _ _ _ _ (h * width) after (λ q b. refl) (λ q b. same _ _)
-      ∙ ap (with_group to to_stride words column h before width) inv.written
-      ∙ group_joins to to_stride words column h before width (omega arith) in
+  next_group width {column} {after} inv narrow same e =
       record {
-        counted = below;
-        length_kept = ap length all ∙ rectangle_length (stride_place to to_stride) words (column + width) h before;
-        written = all;
+        written =
+            e
+            ∙ written_same _ _ _ _ (h * width) after (λ q b. refl) (λ q b. same _ _)
+            ∙ ap (with_group to to_stride words column h before width) inv.written
+            ∙ group_joins to to_stride words column h before width narrow;
       }
 
-  pub columns_all : {column : ℕ} {after : List ℕ} → ColumnsWritten to to_stride w words h column before after → w ≤ column
-      → after ≡ stride_written to to_stride w words h before
-  columns_all {column} inv all = let e : column ≡ w = omega (arith, inv.counted) in rw e at inv.written
-
-pub columns_more : (gain : ℕ) (from : List ℕ) (start stride : ℕ) {to to_stride w h column : ℕ} {before after next : List ℕ}
-    → ColumnsWritten to to_stride w (stride_scaled gain from start stride) h column before after → column < w → w ≤ to_stride
+-- A column more, times a gain.
+pub columns_more : (gain : ℕ) (from : List ℕ) (start stride : ℕ) {to to_stride h column : ℕ} {before after next : List ℕ}
+    → RectangleWritten to to_stride column (stride_scaled gain from start stride) h before after → column < to_stride
     → next ≡ written (λ y. to + column + y * to_stride) (scaled_from gain from (start + column) stride) h after
-    → ColumnsWritten to to_stride w (stride_scaled gain from start stride) h (column + 1) before next
-columns_more gain from start stride {to} {to_stride} {w} {h} {column} {before} {after} inv below narrow e =
+    → RectangleWritten to to_stride (column + 1) (stride_scaled gain from start stride) h before next
+columns_more gain from start stride {to} {to_stride} {h} {column} {before} {after} inv narrow e =
     let words = stride_scaled gain from start stride in
-    let all =
-    e
-    ∙ written_same _ _ _ _ h after (λ y c. omega arith) (λ y c. ap (λ z. gain ⊗ word_at from z) (omega arith))
-    ∙ ap (with_column to to_stride words column (omega arith) before h) inv.written
-    ∙ one_column_more to to_stride words column (omega arith) before h in
     record {
-      counted = omega arith;
-      length_kept = ap length all ∙ rectangle_length (stride_place to to_stride) words (column + 1) h before;
-      written = all;
+      written =
+          e
+          ∙ written_same _ _ _ _ h after (λ y c. omega arith) (λ y c. ap (λ z. gain ⊗ word_at from z) (omega arith))
+          ∙ ap (with_column to to_stride words column narrow before h) inv.written
+          ∙ one_column_more to to_stride words column narrow before h;
     }

@@ -37,7 +37,7 @@ use Rattle.strips.specs.StripRecord.{strip_before}
 use Rattle.strips.proofs.StripRecords.{past_edges_read}
 use Rattle.collect_finish.specs.Work.{work_stride, work_words, work_corner, work_window, pixel_in, OutsideBlock, block_words, ShapeFits, OutsideMargin, MarginClear, MarginLoaded, block_pass, PassesRun}
 use Rattle.collect_finish.specs.WorkFits.{ShapedBlock, PassFits, ReadyToFinish, MarginFits}
-use Rattle.collect_finish.proofs.WorkPlaces.{shape_fits, shape_in_work}
+use Rattle.collect_finish.proofs.WorkPlaces.{shape_fits}
 use Rattle.collect_finish.proofs.WorkCells.{cell_is}
 use Rattle.collect_finish.proofs.Margins.{margin_not_block, margin_clear, margin_beside, margins_apart}
 use Rattle.collect_finish.proofs.BlockPasses.{PixelsLoaded, Holds, pixels_loaded, clear_start, holds_more, pass_in_place}
@@ -47,35 +47,30 @@ unfolding filter_of
 finish_order plan zero = refl
 finish_order plan (suc t) = refl
 
--- After t of `count` passes over an array `first`: the work array holds the block, and what lies outside it and the
+-- After t passes over an array `first`: the work array holds the block, and what lies outside it and the
 -- margins of these passes is as it was.
-pub record Finishing (plan : Plan) (k : ℕ) (strips first : List ℕ) (count t : ℕ) (work : List ℕ) : Type 0 where
-  pub counted : t ≤ count
+pub record Finishing (plan : Plan) (k : ℕ) (strips first : List ℕ) (t : ℕ) (work : List ℕ) : Type 0 where
   pub holds : Holds plan k (gains_first_filters plan) (scaled_edges plan strips k 3) (block_words first) t work
   pub others : (z : ℕ) → OutsideBlock (shape_of plan.grid k) z
       → ((u : ℕ) → u < t → OutsideMargin plan (shape_of plan.grid k) u z) → word_at work z ≡ word_at first z
 
 pub passes_start : {plan : Plan} {k : ℕ} {shape : BlockShape} {count n : ℕ} {strips work : List ℕ}
-    → ReadyToFinish plan k shape count n work → Finishing plan k strips work count 0 work
+    → ReadyToFinish plan shape count n work → Finishing plan k strips work 0 work
 unfolding passes_over
 passes_start fits =
     record {
-      counted = omega arith;
       holds = record { sized = fits.sized; inside = λ y x p q. refl };
       others = λ z outside apart. refl;
     }
 
 module _ {plan : Plan} {k : ℕ} {shape : BlockShape} {count n : ℕ} {first : List ℕ}
-    (ready : ReadyToFinish plan k shape count n first) where
-  placed : ShapedBlock plan k shape
-  placed = ready.placed
-
+    (placed : ShapedBlock plan k shape) (ready : ReadyToFinish plan shape count n first) where
   limited : (u : ℕ) → u < 4 → order_of plan u ≤ order_limit
   limited u below = order_limited_at plan placed.block.kept u below
 
   -- ---- a turn
 
-  module _ {strips : List ℕ} {t : ℕ} {work : List ℕ} (inv : Finishing plan k strips first count t work) (turn : t < count) where
+  module _ {strips : List ℕ} {t : ℕ} {work : List ℕ} (inv : Finishing plan k strips first t work) (turn : t < count) where
     below : t < 4
     below = omega (arith, ready.counted)
 
@@ -104,10 +99,10 @@ module _ {plan : Plan} {k : ℕ} {shape : BlockShape} {count n : ℕ} {first : L
         }
 
     -- What loading it asks.
-    pub finish_margin : needed_strips plan ≤ length strips → MarginFits plan k t shape (length strips) work
+    pub finish_margin : needed_strips plan ≤ length strips → MarginFits plan shape t (length strips) work
     finish_margin long =
         record {
-          moves = record { placed = placed; pass_below = below; strips_long = long; sized = inv.holds.sized };
+          moves = record { pass_below = below; strips_long = long; sized = inv.holds.sized };
           clear = rw placed.shaped margin_blank;
         }
 
@@ -142,11 +137,10 @@ module _ {plan : Plan} {k : ℕ} {shape : BlockShape} {count n : ℕ} {first : L
           ∙ ap₂ ◌⊗◌ laters (past_edges_read plan strips k t l i c)
 
       -- What the pass asks.
-      pub finish_pass : PassFits words.order shape (length loaded)
+      pub finish_pass : PassFits words.order (length loaded)
       finish_pass =
           record {
             limited = rw (filtered, gains_first_words_order plan t) (limited t below);
-            held = shape_in_work placed;
             sized = loaded_holds.sized;
           }
 
@@ -160,12 +154,11 @@ module _ {plan : Plan} {k : ℕ} {shape : BlockShape} {count n : ℕ} {first : L
           ∙ inv.others z outside (λ u h. apart u (omega arith))
 
       pub finish_turn : {after : List ℕ} → after ≡ block_pass shape t (filter_with words) loaded
-          → Finishing plan k strips first count (t + 1) after
+          → Finishing plan k strips first (t + 1) after
       finish_turn pass =
           let f = ap filter_with filtered ∙ gains_first_words_filter plan t in
           rw (pass ∙ ap₂ (λ z f. block_pass z t f loaded) placed.shaped f)
           record {
-            counted = omega arith;
             holds =
                 holds_more placed.block (gains_first_filters plan) edges Z t below (finish_order plan t) loaded loaded_holds near;
             others = still_others;
@@ -173,11 +166,10 @@ module _ {plan : Plan} {k : ℕ} {shape : BlockShape} {count n : ℕ} {first : L
 
   -- ---- the end
 
-  pub passes_end : {strips : List ℕ} {t : ℕ} {work : List ℕ} → Finishing plan k strips first count t work → count ≤ t
+  pub passes_end : {strips : List ℕ} {t : ℕ} {work : List ℕ} → Finishing plan k strips first t work → t ≡ count
       → PassesRun plan k shape strips count first work
   unfolding shape_of
-  passes_end {t = t} inv all =
-      let e : t ≡ count = omega (arith, inv.counted) in
+  passes_end inv e =
       rw placed.shaped
       record {
         inside = rw (← e) inv.holds.inside;
@@ -196,10 +188,9 @@ module _ {plan : Plan} {k : ℕ} {shape : BlockShape} (placed : ShapedBlock plan
   w = columns_of plan.grid k
 
   -- What the passes ask.
-  pub passes_asked : {count n : ℕ} → count ≤ 4 → needed_strips plan ≤ n → ReadyToFinish plan k shape count n loaded
+  pub passes_asked : {count n : ℕ} → count ≤ 4 → needed_strips plan ≤ n → ReadyToFinish plan shape count n loaded
   passes_asked few long =
       record {
-        placed = placed;
         counted = few;
         strips_long = long;
         sized = (clear_start placed heights loads).sized;

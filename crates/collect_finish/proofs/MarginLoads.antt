@@ -12,13 +12,13 @@ use Rattle.strips.specs.declared.Strip.{Strip}
 use Rattle.strips.specs.StripRecord.{strip_before, address_in}
 use Rattle.buffer.specs.Copies.{stride_scaled, stride_written, StrideFits}
 use Rattle.collect_finish.specs.Work.{work_stride, work_place, ShapeFits, margin_first, MarginClear, MarginLoaded}
-use Rattle.collect_finish.specs.WorkFits.{StripMoves}
+use Rattle.collect_finish.specs.WorkFits.{ShapedBlock, StripMoves}
 use Rattle.collect_finish.proofs.WorkPlaces.{shape_in_work, move_limited, lines_small, extent_small, lines_fit, lines_narrow}
 use Rattle.collect_finish.proofs.StripRectangles.{StripLies, before_lies}
 use Rattle.collect_finish.proofs.Margins.{margin_room, margin_loaded}
 use Rattle.grid.specs.Shapes.{shape_extent, shape_lines}
 
-module _ {plan : Plan} {k pass : ℕ} {shape : BlockShape} {n m : ℕ} (moves : StripMoves plan k pass shape n m) {strip : Strip}
+module _ {plan : Plan} {k pass : ℕ} {shape : BlockShape} {n m : ℕ} (placed : ShapedBlock plan k shape) (moves : StripMoves plan pass n m) {strip : Strip}
     (stripped : strip ≡ strip_before plan k pass) where
   abbrev a : Axis
   a = axis_of pass
@@ -27,11 +27,11 @@ module _ {plan : Plan} {k pass : ℕ} {shape : BlockShape} {n m : ℕ} (moves : 
   places = strip.past - strip.first
 
   fits : ShapeFits shape
-  fits = shape_in_work moves.placed
+  fits = shape_in_work placed
 
   pub strip_lies : StripLies a n (order_of plan pass) (shape_lines shape pass) strip
   strip_lies =
-      rw (stripped, moves.placed.shaped) (before_lies moves.placed.block pass moves.pass_below moves.strips_long)
+      rw (stripped, placed.shaped) (before_lies placed.block pass moves.pass_below moves.strips_long)
 
   lines_few : strip.lines ≤ 32
   lines_few = omega (arith, lines_small fits pass, strip_lies.few_lines)
@@ -42,7 +42,7 @@ module _ {plan : Plan} {k pass : ℕ} {shape : BlockShape} {n m : ℕ} (moves : 
     last_in_work =
         omega (
           arith,
-          margin_room (direction_of pass) (order_of plan pass) (shape_extent shape pass) (move_limited moves) (extent_small fits pass),
+          margin_room (direction_of pass) (order_of plan pass) (shape_extent shape pass) (move_limited placed moves) (extent_small fits pass),
           strip_lies.few_places,
         )
 
@@ -75,5 +75,5 @@ module _ {plan : Plan} {k pass : ℕ} {shape : BlockShape} {n m : ℕ} (moves : 
           → MarginLoaded plan shape pass gain (strip_before plan k pass) strips before after
       strip_loaded gain strips {before} {after} long clear copied =
           rw (← stripped)
-          (margin_loaded plan shape fits pass (move_limited moves) gain n strip strips before after strip_lies
+          (margin_loaded plan shape fits pass (move_limited placed moves) gain n strip strips before after strip_lies
           (long ∙ moves.sized) (rw (begins, stepped, at, tall, wide, starts) at copied) clear)

@@ -23,7 +23,7 @@ use Rattle.buffer.specs.Copies.{stride_place, stride_scaled, stride_written, Str
 use Rattle.buffer.proofs.Written.{written_same}
 use Rattle.buffer.proofs.Copies.{rectangle_same}
 use Rattle.collect_finish.specs.Work.{work_stride, work_place, edge_first, work_edge}
-use Rattle.collect_finish.specs.WorkFits.{StripMoves}
+use Rattle.collect_finish.specs.WorkFits.{ShapedBlock, StripMoves}
 use Rattle.collect_finish.proofs.WorkPlaces.{shape_in_work, line_place_law, lines_fit, extent_small, move_limited}
 use Rattle.grid.specs.Shapes.{shape_extent}
 
@@ -40,7 +40,7 @@ edge_room backward order n h s = omega arith
 
 -- ---- the code's copies
 
-module _ {plan : Plan} {k pass : ℕ} {shape : BlockShape} {n m : ℕ} (moves : StripMoves plan k pass shape n m) where
+module _ {plan : Plan} {k pass : ℕ} {shape : BlockShape} {n m : ℕ} (placed : ShapedBlock plan k shape) (moves : StripMoves plan pass n m) where
   abbrev a : Axis
   a = axis_of pass
 
@@ -55,19 +55,19 @@ module _ {plan : Plan} {k pass : ℕ} {shape : BlockShape} {n m : ℕ} (moves : 
 
   pub edge_in_work : edge + r ≤ work_stride
   edge_in_work =
-      edge_room (direction_of pass) r (shape_extent shape pass) (move_limited moves)
-      (extent_small (shape_in_work moves.placed) pass)
+      edge_room (direction_of pass) r (shape_extent shape pass) (move_limited placed moves)
+      (extent_small (shape_in_work placed) pass)
 
   edge_cell : (gain : ℕ) (work : List ℕ) → goes_on plan.grid k pass ≡ true → (y x : ℕ)
       → stride_scaled gain work (work_place a 0 edge) work_stride y x ≡ work_edge plan k pass gain work (across a y x) (along a y x)
   unfolding work_edge
   edge_cell gain work needed y x =
-      rw (needed, ← moves.placed.shaped) (ap (λ z. gain ⊗ word_at work z) (line_place_law a edge y x))
+      rw (needed, ← placed.shaped) (ap (λ z. gain ⊗ word_at work z) (line_place_law a edge y x))
 
   module _ {start : ℕ} (starts : start ≡ strip_start plan Lone k pass) where
     pub words_in_strips : start + strip_words plan pass ≤ n
     words_in_strips =
-        omega (arith, strip_in_list plan Lone k pass moves.placed.block.counted moves.pass_below, moves.strips_long)
+        omega (arith, strip_in_list plan Lone k pass placed.block.counted moves.pass_below, moves.strips_long)
 
     -- A strip that no neighbour needs,
     pub cleared_strip : (gain : ℕ) (work strips : List ℕ) {after : List ℕ} → goes_on plan.grid k pass ≡ false
@@ -83,7 +83,7 @@ module _ {plan : Plan} {k pass : ℕ} {shape : BlockShape} {n m : ℕ} (moves : 
       pub edge_fits : StrideFits m place work_stride height width
       edge_fits =
           rw (at, indexed, tall, wide)
-          (lines_fit a edge r side m edge_in_work (rules plan moves.placed.block.kept).side_high moves.sized)
+          (lines_fit a edge r side m edge_in_work (rules plan placed.block.kept).side_high moves.sized)
 
       pub strip_in_strips : StrideFits n start width height width
       strip_in_strips =

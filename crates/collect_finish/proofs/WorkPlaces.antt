@@ -173,10 +173,10 @@ module _ {shape : BlockShape} (fits : ShapeFits shape) (pass : ℕ) where
 
 -- ---- strips that are moved
 
-module _ {plan : Plan} {k pass : ℕ} {shape : BlockShape} {n m : ℕ} (moves : StripMoves plan k pass shape n m) where
+module _ {plan : Plan} {k pass : ℕ} {shape : BlockShape} {n m : ℕ} (placed : ShapedBlock plan k shape) (moves : StripMoves plan pass n m) where
   pub move_limited : order_of plan pass ≤ order_limit
-  move_limited = order_limited_at plan moves.placed.block.kept pass moves.pass_below
+  move_limited = order_limited_at plan placed.block.kept pass moves.pass_below
 
   -- What the first index of an edge or of a margin asks.
   pub edge_asked : {extent : ℕ} → extent ≡ shape_extent shape pass → EdgeFits (order_of plan pass) extent
-  edge_asked e = record { limited = move_limited; extent_small = rw e (extent_small (shape_in_work moves.placed) pass) }
+  edge_asked e = record { limited = move_limited; extent_small = rw e (extent_small (shape_in_work placed) pass) }

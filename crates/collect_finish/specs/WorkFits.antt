@@ -6,7 +6,7 @@ use Rattle.plan.specs.Rules.{order_limit, keeps_rules}
 use Rattle.plan.specs.Sizes.{needed_marks, needed_strips, needed_pixels}
 use Rattle.grid.specs.declared.BlockShape.{BlockShape}
 use Rattle.grid.specs.Shapes.{shape_of}
-use Rattle.collect_finish.specs.Work.{work_words, ShapeFits, MarginClear}
+use Rattle.collect_finish.specs.Work.{work_words, MarginClear}
 
 -- ---- a block of a plan
 
@@ -33,30 +33,27 @@ pub record FinishFits (plan : Plan) (k map strips output : ℕ) : Type 0 where
   pub strips_long : needed_strips plan ≤ strips
   pub output_long : needed_pixels plan ≤ output
 
--- ---- their pieces
+-- ---- their pieces: of a block that stands in its plan
 
 -- A pass of an order over a block in a work array of n words.
-pub record PassFits (order : ℕ) (shape : BlockShape) (n : ℕ) : Type 0 where
+pub record PassFits (order n : ℕ) : Type 0 where
   pub limited : order ≤ order_limit
-  pub held : ShapeFits shape
   pub sized : n ≡ work_words
 
 -- The first passes of finish over a block in an array whose margins are 0.
-pub record ReadyToFinish (plan : Plan) (k : ℕ) (shape : BlockShape) (count strips : ℕ) (work : List ℕ) : Type 0 where
-  pub placed : ShapedBlock plan k shape
+pub record ReadyToFinish (plan : Plan) (shape : BlockShape) (count strips : ℕ) (work : List ℕ) : Type 0 where
   pub counted : count ≤ 4
   pub strips_long : needed_strips plan ≤ strips
   pub sized : length work ≡ work_words
   pub clear : (pass : ℕ) → pass < 4 → MarginClear plan shape pass work
 
 -- A strip of a pass that goes from the list of strips to the work array, or back.
-pub record StripMoves (plan : Plan) (k pass : ℕ) (shape : BlockShape) (strips work : ℕ) : Type 0 where
-  pub placed : ShapedBlock plan k shape
+pub record StripMoves (plan : Plan) (pass strips work : ℕ) : Type 0 where
   pub pass_below : pass < 4
   pub strips_long : needed_strips plan ≤ strips
   pub sized : work ≡ work_words
 
 -- A strip that goes into a margin, which is 0 so far.
-pub record MarginFits (plan : Plan) (k pass : ℕ) (shape : BlockShape) (strips : ℕ) (work : List ℕ) : Type 0 where
-  pub moves : StripMoves plan k pass shape strips (length work)
+pub record MarginFits (plan : Plan) (shape : BlockShape) (pass strips : ℕ) (work : List ℕ) : Type 0 where
+  pub moves : StripMoves plan pass strips (length work)
   pub clear : MarginClear plan shape pass work

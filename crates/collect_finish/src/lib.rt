@@ -12,8 +12,9 @@ ghost use Rattle.task_words.specs.Writes.{collected, finished};
 ghost use Rattle.strips.specs.StripRecord.{strip_before, EdgeFits};
 ghost use Rattle.buffer.specs.Copies.{scaled_from, heights_from, stride_scaled, stride_heights, stride_written, StrideFits};
 ghost use Rattle.buffer.specs.Written.{row_written};
-ghost use Rattle.collect_finish.specs.Work.{work_stride, work_corner, ShapeFits, block_loaded, work_place, margin_start, MarginLoaded, block_pass, PassesRun, work_edge};
-ghost use Rattle.collect_finish.specs.WorkFits.{CollectFits, FinishFits, PassFits, ReadyToFinish, StripMoves, MarginFits};
+ghost use Rattle.plan.specs.Sizes.{needed_strips, needed_pixels};
+ghost use Rattle.collect_finish.specs.Work.{work_stride, work_words, block_loaded, work_place, margin_start, MarginLoaded, block_pass, PassesRun, work_edge};
+ghost use Rattle.collect_finish.specs.WorkFits.{ShapedBlock, CollectFits, FinishFits, PassFits, ReadyToFinish, StripMoves, MarginFits};
 
 use filter::{FilterWords, Window};
 use grid::BlockShape;
@@ -39,24 +40,39 @@ struct Rows {
     stride: usize,
 }
 
+// A rectangle in a buffer: its rows, their number, and the words of each.
+#[derive(Clone, Copy)]
+struct Rectangle {
+    start: usize,
+    stride: usize,
+    height: usize,
+    width: usize,
+}
+
+// Block k of a plan, and its shape.
+#[derive(Drop)]
+struct Block {
+    plan: Plan,
+    k: usize,
+    shape: BlockShape,
+    ghost placed: { ShapedBlock plan k shape },
+}
+
 // Block k's four lone strips: the passes over its pixels, zeros around it. The passes run with gain 1; a strip takes the
 // gains of its pass and of those before it.
 pub fn collect(plan: Plan, k: usize, map: &[i32], strips: &mut [u64])
     requires { CollectFits plan k (length map.now) (length strips.old) }
     ensures { strips.new ≡ collected plan (map_of plan map.now) k strips.old }
 {
-    let grid = plan.grid;
-    let shape = grid.block_shape(k);
+    let shape = plan.grid.block_shape(k);
+    let block = Block { plan, k, shape };
     let mut work = [0; STRIDE * STRIDE];
-    load_block(map, shape.start, grid.columns, shape, &mut work);
-    let mut pass = 0;
-    while pass < 4 {
-        let described = plan.passes[pass];
-        let words = filter::filter_with_gain(described, 1);
-        run_block_pass(shape, pass, words, &mut work);
+    block.load(map, &mut work);
+    for pass in 0..4 {
+        let words = filter::filter_with_gain(plan.passes[pass], 1);
+        block.run_pass(pass, words, &mut work);
         let gain = filter::gains_from(plan, 0, pass + 1);
-        write_strip(plan, k, pass, gain, shape, &work, strips);
-        pass += 1;
+        block.write_strip(pass, gain, &work, strips);
     }
 }
 
@@ -65,43 +81,200 @@ pub fn finish(plan: Plan, k: usize, map: &[i32], strips: &[u64], output: &mut [u
     requires { FinishFits plan k (length map.now) (length strips.now) (length output.old) }
     ensures { output.new ≡ finished plan (map_of plan map.now) strips.now k output.old }
 {
-    let grid = plan.grid;
-    let shape = grid.block_shape(k);
+    let shape = plan.grid.block_shape(k);
+    let block = Block { plan, k, shape };
     let mut work = [0; STRIDE * STRIDE];
-    load_block(map, shape.start, grid.columns, shape, &mut work);
-    run_passes(plan, k, shape, strips, 4, &mut work);
-    let source = Rows {
+    block.load(map, &mut work);
+    block.run_passes(strips, 4, &mut work);
+    let source = Rectangle {
         start: CORNER,
         stride: STRIDE,
+        height: shape.rows,
+        width: shape.columns,
     };
     let target = Rows {
         start: shape.start,
-        stride: grid.columns,
+        stride: plan.grid.columns,
     };
-    copy_rectangle(&work, source, output, target, shape.rows, shape.columns, 1);
+    source.copy(&work, output, target, 1);
 }
 
-// The first `count` passes over the block in the work array (finish wants all four; what holds is said over their
-// number), the neighbours' strips past its edges: each goes into the margin before the pass that reads it. The first
-// pass runs with all four gains, the others with gain 1; a strip takes the gains of the passes after its own.
-fn run_passes(
-    plan: Plan,
-    k: usize,
-    shape: BlockShape,
-    strips: &[u64],
-    count: usize,
-    work: &mut [u64],
-)
-    requires { ReadyToFinish plan k shape count (length strips.now) work.old }
-    ensures { PassesRun plan k shape strips.now count work.old work.new }
-{
-    let mut pass = 0;
-    while pass < count {
-        let gain = filter::gains_after(plan, pass, 3);
-        load_margin(plan, k, pass, gain, shape, strips, work);
-        let words = filter::gains_first(plan, pass);
-        run_block_pass(shape, pass, words, work);
-        pass += 1;
+impl Block {
+    // The block's pixels into the work array, in groups of columns as wide as a cache line. Its rows lie far apart in
+    // the map, and a copy of whole rows waits for one row's lines after another's; of a group, the lines of many rows
+    // are on their way together.
+    #[tactic(auto, using(crate::proofs::WorkPlaces::shape_in_work))]
+    fn load(&self, map: &[i32], work: &mut [u64])
+        requires { (needed_pixels self.now.plan ≤ length map.now) × (length work.old ≡ work_words) }
+        ensures { work.new ≡ block_loaded self.now.shape (stride_heights map.now self.now.shape.start self.now.plan.grid.columns) work.old }
+    {
+        let shape = self.shape;
+        let stride = self.plan.grid.columns;
+        for column in (0..shape.columns).step_by(LINE_HEIGHTS) {
+            let group = Rectangle {
+                start: shape.start + column,
+                stride,
+                height: shape.rows,
+                width: LINE_HEIGHTS.min(shape.columns - column),
+            };
+            group.load(map, work, CORNER + column);
+        }
+    }
+
+    // The first `count` passes over the block in the work array (finish wants all four; what holds is said over their
+    // number), the neighbours' strips past its edges: each goes into the margin before the pass that reads it. The
+    // first pass runs with all four gains, the others with gain 1; a strip takes the gains of the passes after its own.
+    fn run_passes(&self, strips: &[u64], count: usize, work: &mut [u64])
+        requires { ReadyToFinish self.now.plan self.now.shape count (length strips.now) work.old }
+        ensures { PassesRun self.now.plan self.now.k self.now.shape strips.now count work.old work.new }
+    {
+        for pass in 0..count {
+            let gain = filter::gains_after(self.plan, pass, 3);
+            self.load_margin(pass, gain, strips, work);
+            let words = filter::gains_first(self.plan, pass);
+            self.run_pass(pass, words, work);
+        }
+    }
+
+    // One pass over the block in the work array, the margin standing for the outputs past its edge.
+    fn run_pass(&self, pass: usize, words: FilterWords, work: &mut [u64])
+        requires { PassFits words.order (length work.old) }
+        ensures { work.new ≡ block_pass self.now.shape pass (filter_with words) work.old }
+    {
+        let window = Window {
+            stride: STRIDE,
+            top: MARGIN,
+            left: MARGIN,
+            height: self.shape.rows,
+            width: self.shape.columns,
+        };
+        filter::run_pass(work, window, pass, words.order, words);
+    }
+
+    // The words past the block's edge, from the linked strip of the neighbour there, times a gain. Where no word of the
+    // neighbour stands, the margin is 0 from the start.
+    fn load_margin(&self, pass: usize, gain: u64, strips: &[u64], work: &mut [u64])
+        requires { MarginFits self.now.plan self.now.shape pass (length strips.now) work.old }
+        ensures { MarginLoaded self.now.plan self.now.shape pass gain (strip_before self.now.plan self.now.k pass) strips.now work.old work.new }
+    {
+        let order = self.plan.order(pass);
+        let strip = strips::strip_before(self.plan, self.k, pass);
+        let first = strip.first;
+        let places = strip.past - first;
+        let index = margin_start(pass, order, self.shape.extent(pass)) + first;
+        let height = axis::along(pass, places, strip.lines);
+        let width = axis::across(pass, places, strip.lines);
+        let source = Rectangle {
+            start: strip.first_at(first),
+            stride: axis::along(pass, strip.place_step, strip.line_step),
+            height,
+            width,
+        };
+        let target = Rows {
+            start: work_place(pass, index),
+            stride: STRIDE,
+        };
+        source.copy(strips, work, target, gain);
+    }
+
+    // The block's lone strip of a pass from the work array, times a gain, zeros around the block; 0 where no neighbour
+    // needs the strip.
+    fn write_strip(&self, pass: usize, gain: u64, work: &[u64], strips: &mut [u64])
+        requires { StripMoves self.now.plan pass (length strips.old) (length work.now) }
+        ensures { strips.new ≡ strip_written self.now.plan Lone self.now.k pass (work_edge self.now.plan self.now.k pass gain work.now) strips.old }
+    {
+        let grid = self.plan.grid;
+        let needed = grid.goes_on(grid.position(self.k), pass);
+        let side = grid.side;
+        let order = self.plan.order(pass);
+        let start = strips::strip_start(self.plan, Half::Lone, self.k, pass);
+        if !needed {
+            buffer::clear_words(strips, start, 1, side * order);
+            return;
+        }
+        let index = strips::edge_start(pass, order, self.shape.extent(pass));
+        let width = axis::across(pass, order, side);
+        let height = axis::along(pass, order, side);
+        let source = Rectangle {
+            start: work_place(pass, index),
+            stride: STRIDE,
+            height,
+            width,
+        };
+        let target = Rows {
+            start,
+            stride: width,
+        };
+        source.copy(work, strips, target, gain);
+    }
+}
+
+impl Rectangle {
+    // The rectangle, times a gain, into rows of another buffer: along its longer side, since a loop over a few words
+    // costs more than the words.
+    fn copy(self, from: &[u64], to: &mut [u64], target: Rows, gain: u64)
+        requires { StrideFits (length from.now) self.start self.stride self.height self.width × StrideFits (length to.old) target.start target.stride self.height self.width × (self.width ≤ target.stride) }
+        ensures { to.new ≡ stride_written target.start target.stride self.width (stride_scaled gain from.now self.start self.stride) self.height to.old }
+    {
+        if self.width < self.height {
+            return self.copy_columns(from, to, target, gain);
+        }
+        self.copy_rows(from, to, target, gain);
+    }
+
+    // Column by column, of at least one row. The places in `to` differ, so that their order does not count.
+    #[tactic(auto, using(crate::proofs::CopiedColumns::columns_none))]
+    fn copy_columns(self, from: &[u64], to: &mut [u64], target: Rows, gain: u64)
+        requires { StrideFits (length from.now) self.start self.stride self.height self.width × StrideFits (length to.old) target.start target.stride self.height self.width × (self.width ≤ target.stride) × (0 < self.height) }
+        ensures { to.new ≡ stride_written target.start target.stride self.width (stride_scaled gain from.now self.start self.stride) self.height to.old }
+    {
+        for column in 0..self.width {
+            buffer::scale_words(
+                from,
+                self.start + column,
+                self.stride,
+                to,
+                target.start + column,
+                target.stride,
+                self.height,
+                gain,
+            );
+        }
+    }
+
+    // Row by row.
+    #[tactic(auto, using(crate::proofs::CopiedRows::rows_none))]
+    fn copy_rows(self, from: &[u64], to: &mut [u64], target: Rows, gain: u64)
+        requires { StrideFits (length from.now) self.start self.stride self.height self.width × StrideFits (length to.old) target.start target.stride self.height self.width }
+        ensures { to.new ≡ stride_written target.start target.stride self.width (stride_scaled gain from.now self.start self.stride) self.height to.old }
+    {
+        for row in 0..self.height {
+            copy_row(
+                from,
+                self.start + row * self.stride,
+                to,
+                target.start + row * target.stride,
+                self.width,
+                gain,
+            );
+        }
+    }
+
+    // The words of its heights, row by row, to rows of the work array.
+    #[tactic(auto, using(crate::proofs::CopiedRows::rows_none))]
+    fn load(self, map: &[i32], work: &mut [u64], work_start: usize)
+        requires { StrideFits (length map.now) self.start self.stride self.height self.width × StrideFits (length work.old) work_start work_stride self.height self.width }
+        ensures { work.new ≡ stride_written work_start work_stride self.width (stride_heights map.now self.start self.stride) self.height work.old }
+    {
+        for row in 0..self.height {
+            load_row(
+                map,
+                self.start + row * self.stride,
+                work,
+                work_start + row * STRIDE,
+                self.width,
+            );
+        }
     }
 }
 
@@ -124,83 +297,6 @@ fn copy_row(
     }
 }
 
-// A rectangle of at least one row, times a gain, column by column. Its places in `to` differ, so that their order does
-// not count.
-fn copy_columns(
-    from: &[u64],
-    source: Rows,
-    to: &mut [u64],
-    target: Rows,
-    height: usize,
-    width: usize,
-    gain: u64,
-)
-    requires { StrideFits (length from.now) source.start source.stride height width × StrideFits (length to.old) target.start target.stride height width × (width ≤ target.stride) × (0 < height) }
-    ensures { to.new ≡ stride_written target.start target.stride width (stride_scaled gain from.now source.start source.stride) height to.old }
-{
-    let mut column = 0;
-    while column < width {
-        buffer::scale_words(
-            from,
-            source.start + column,
-            source.stride,
-            to,
-            target.start + column,
-            target.stride,
-            height,
-            gain,
-        );
-        column += 1;
-    }
-}
-
-// A rectangle, times a gain, row by row.
-fn copy_rows(
-    from: &[u64],
-    source: Rows,
-    to: &mut [u64],
-    target: Rows,
-    height: usize,
-    width: usize,
-    gain: u64,
-)
-    requires { StrideFits (length from.now) source.start source.stride height width × StrideFits (length to.old) target.start target.stride height width }
-    ensures { to.new ≡ stride_written target.start target.stride width (stride_scaled gain from.now source.start source.stride) height to.old }
-{
-    let mut row = 0;
-    while row < height {
-        copy_row(
-            from,
-            source.start + row * source.stride,
-            to,
-            target.start + row * target.stride,
-            width,
-            gain,
-        );
-        row += 1;
-    }
-}
-
-// A rectangle of one row-major buffer, times a gain, into a rectangle of another: along its longer side, since a loop
-// over a few words costs more than the words.
-fn copy_rectangle(
-    from: &[u64],
-    source: Rows,
-    to: &mut [u64],
-    target: Rows,
-    height: usize,
-    width: usize,
-    gain: u64,
-)
-    requires { StrideFits (length from.now) source.start source.stride height width × StrideFits (length to.old) target.start target.stride height width × (width ≤ target.stride) }
-    ensures { to.new ≡ stride_written target.start target.stride width (stride_scaled gain from.now source.start source.stride) height to.old }
-{
-    if width < height {
-        return copy_columns(from, source, to, target, height, width, gain);
-    }
-    copy_rows(from, source, to, target, height, width, gain);
-}
-
 // The words of two heights. Both are read before one is stored: the compiler, which does not know that map and work
 // array lie apart, then handles the two at once.
 fn load_pair(map: &[i32], map_start: usize, work: &mut [u64], work_start: usize)
@@ -218,10 +314,8 @@ fn load_line(map: &[i32], map_start: usize, work: &mut [u64], work_start: usize)
     requires { (map_start + 16 ≤ length map.now) × (work_start + 16 ≤ length work.old) }
     ensures { work.new ≡ row_written work_start (heights_from map.now map_start) 16 work.old }
 {
-    let mut pair = 0;
-    while pair < LINE_PAIRS {
+    for pair in 0..LINE_PAIRS {
         load_pair(map, map_start + 2 * pair, work, work_start + 2 * pair);
-        pair += 1;
     }
 }
 
@@ -237,71 +331,8 @@ fn load_row(map: &[i32], map_start: usize, work: &mut [u64], work_start: usize, 
     }
 }
 
-// The words of some columns of heights, row by row, to a place of the work array.
-fn load_columns(
-    map: &[i32],
-    map_start: usize,
-    map_stride: usize,
-    work: &mut [u64],
-    work_start: usize,
-    height: usize,
-    width: usize,
-)
-    requires { StrideFits (length map.now) map_start map_stride height width × StrideFits (length work.old) work_start work_stride height width }
-    ensures { work.new ≡ stride_written work_start work_stride width (stride_heights map.now map_start map_stride) height work.old }
-{
-    let mut row = 0;
-    while row < height {
-        load_row(
-            map,
-            map_start + row * map_stride,
-            work,
-            work_start + row * STRIDE,
-            width,
-        );
-        row += 1;
-    }
-}
-
-// The block's pixels into the work array, in groups of columns as wide as a cache line. Its rows lie far apart in the
-// map, and a copy of whole rows waits for one row's lines after another's; of a group, the lines of many rows are on
-// their way together.
-fn load_block(map: &[i32], start: usize, stride: usize, shape: BlockShape, work: &mut [u64])
-    requires { StrideFits (length map.now) start stride shape.rows shape.columns × StrideFits (length work.old) work_corner work_stride shape.rows shape.columns × ShapeFits shape }
-    ensures { work.new ≡ block_loaded shape (stride_heights map.now start stride) work.old }
-{
-    let mut column = 0;
-    while column < shape.columns {
-        let width = number::lesser(LINE_HEIGHTS, shape.columns - column);
-        load_columns(
-            map,
-            start + column,
-            stride,
-            work,
-            CORNER + column,
-            shape.rows,
-            width,
-        );
-        column += width;
-    }
-}
-
-// One pass over the block in the work array, the margin standing for the outputs past its edge.
-fn run_block_pass(shape: BlockShape, pass: usize, words: FilterWords, work: &mut [u64])
-    requires { PassFits words.order shape (length work.old) }
-    ensures { work.new ≡ block_pass shape pass (filter_with words) work.old }
-{
-    let window = Window {
-        stride: STRIDE,
-        top: MARGIN,
-        left: MARGIN,
-        height: shape.rows,
-        width: shape.columns,
-    };
-    filter::run_pass(work, window, pass, words.order, words);
-}
-
 // The place in the work array of an index of the block's first line.
+#[tactic(auto, using(crate::proofs::WorkPlaces::place_along))]
 fn work_place(pass: usize, index: usize) -> usize
     requires { index ≤ work_stride }
     ensures { result ≡ work_place (axis_of pass) 0 index }
@@ -309,6 +340,7 @@ fn work_place(pass: usize, index: usize) -> usize
     axis::along(pass, index * STRIDE + MARGIN, MARGIN * STRIDE + index)
 }
 
+#[tactic(auto, using(axis::proofs::Passes::runs_forward, axis::proofs::Passes::runs_backward))]
 fn margin_start(pass: usize, order: usize, extent: usize) -> usize
     requires { EdgeFits order extent }
     ensures { result ≡ margin_start (direction_of pass) order extent }
@@ -318,73 +350,4 @@ fn margin_start(pass: usize, order: usize, extent: usize) -> usize
     } else {
         MARGIN - order
     }
-}
-
-// The words past the block's edge, from the linked strip of the neighbour there, times a gain. Where no word of the neighbour
-// stands, the margin is 0 from the start.
-fn load_margin(
-    plan: Plan,
-    k: usize,
-    pass: usize,
-    gain: u64,
-    shape: BlockShape,
-    strips: &[u64],
-    work: &mut [u64],
-)
-    requires { MarginFits plan k pass shape (length strips.now) work.old }
-    ensures { MarginLoaded plan shape pass gain (strip_before plan k pass) strips.now work.old work.new }
-{
-    let order = plan.order(pass);
-    let strip = strips::strip_before(plan, k, pass);
-    let first = strip.first;
-    let places = strip.past - first;
-    let index = margin_start(pass, order, shape.extent(pass)) + first;
-    let source = Rows {
-        start: strip.first_at(first),
-        stride: axis::along(pass, strip.place_step, strip.line_step),
-    };
-    let target = Rows {
-        start: work_place(pass, index),
-        stride: STRIDE,
-    };
-    let height = axis::along(pass, places, strip.lines);
-    let width = axis::across(pass, places, strip.lines);
-    copy_rectangle(strips, source, work, target, height, width, gain);
-}
-
-// Block k's lone strip of a pass from the work array, times a gain, zeros around the block; 0 where no neighbour needs the
-// strip.
-fn write_strip(
-    plan: Plan,
-    k: usize,
-    pass: usize,
-    gain: u64,
-    shape: BlockShape,
-    work: &[u64],
-    strips: &mut [u64],
-)
-    requires { StripMoves plan k pass shape (length strips.old) (length work.now) }
-    ensures { strips.new ≡ strip_written plan Lone k pass (work_edge plan k pass gain work.now) strips.old }
-{
-    let grid = plan.grid;
-    let needed = grid.goes_on(grid.position(k), pass);
-    let side = grid.side;
-    let order = plan.order(pass);
-    let start = strips::strip_start(plan, Half::Lone, k, pass);
-    if !needed {
-        buffer::clear_words(strips, start, 1, side * order);
-        return;
-    }
-    let index = strips::edge_start(pass, order, shape.extent(pass));
-    let width = axis::across(pass, order, side);
-    let height = axis::along(pass, order, side);
-    let source = Rows {
-        start: work_place(pass, index),
-        stride: STRIDE,
-    };
-    let target = Rows {
-        start: start,
-        stride: width,
-    };
-    copy_rectangle(work, source, strips, target, height, width, gain);
 }

@@ -2,7 +2,7 @@
 use mathlib.Core.Path.{◌≡◌, ap, ◌∙◌}
 use Prim.Native.Nat.{◌+◌}
 use native.Mathlib.Omega.{arith}
-use lib.ListN.{length-set}
+use borrow.Author.Rules.{rules}
 use mir.Syntax.{w32}
 use mir.ValLaws.{to_z-of_z}
 use Rattle.buffer.specs.Lists.{number_at}
@@ -10,11 +10,6 @@ use Rattle.buffer.specs.Pixel.{pixel}
 use Rattle.buffer.specs.Copies.{heights_from}
 use Rattle.buffer.proofs.Copies.{row_two}
 use Rattle.collect_finish.proofs.load_pair.Goals as goal
-
-pub bounds-work-work_start-2 : goal.bounds-work-work_start-2
-bounds-work-work_start-2 c =
-    let a = c.args in
-    rw (length-set a.work.now a.work_start c.read_pixel-first.result) (omega arith)
 
 pub returns : goal.returns
 returns c =
@@ -24,6 +19,6 @@ returns c =
     let begins : a.map_start ≡ a.map_start + 0 = omega arith in
     row_two a.work_start (heights_from a.map.now a.map_start) a.work.now _ _
     (c.read_pixel-first.ensures
-    ∙ ap pixel (to_z-of_z w32 first (record { sfits = c.read_pixel-arg-1.given }))
+    ∙ ap pixel (to_z-of_z w32 first (search rules))
     ∙ ap (λ place. pixel (number_at a.map.now place)) begins)
-    (c.read_pixel-second.ensures ∙ ap pixel (to_z-of_z w32 second (record { sfits = c.read_pixel-arg-2-1.given })))
+    (c.read_pixel-second.ensures ∙ ap pixel (to_z-of_z w32 second (search rules)))

@@ -13,24 +13,24 @@ use Rattle.strips.specs.StripRecord.{edge_start}
 use Rattle.collect_finish.specs.Work.{edge_first}
 use Rattle.collect_finish.proofs.WorkPlaces.{move_limited, edge_asked}
 use Rattle.collect_finish.proofs.WorkEdges.{edge_in_work, edge_fits, words_in_strips, strip_in_strips, cleared_strip, copied_strip}
-use Rattle.collect_finish.proofs.write_strip.Goals as goal
-use Rattle.collect_finish.proofs.write_strip.Goals.{After-across-width, After-along-height, After-edge_start-index, After-goes_on-needed}
+use Rattle.collect_finish.proofs.Block.write_strip.Goals as goal
+use Rattle.collect_finish.proofs.Block.write_strip.Goals.{After-across-width, After-along-height, After-edge_start-index, After-goes_on-needed}
 
 -- The strip's width and height in the work array.
 width_is : (c : After-across-width)
     → let a = c.args in
-    c.across-width.result ≡ across (axis_of a.pass) (order_of a.plan a.pass) a.plan.grid.side
+    c.across-width.result ≡ across (axis_of a.pass) (order_of a.self.now.plan a.pass) a.self.now.plan.grid.side
 width_is c = rw c.order-order.ensures at c.across-width.ensures
 
 height_is : (c : After-along-height)
     → let a = c.args in
-    c.along-height.result ≡ along (axis_of a.pass) (order_of a.plan a.pass) a.plan.grid.side
+    c.along-height.result ≡ along (axis_of a.pass) (order_of a.self.now.plan a.pass) a.self.now.plan.grid.side
 height_is c = rw c.order-order.ensures at c.along-height.ensures
 
 -- Where the strip starts in the work array.
 edge_is : (c : After-edge_start-index)
     → let a = c.args in
-    c.edge_start-index.result ≡ edge_first a.plan a.shape a.pass
+    c.edge_start-index.result ≡ edge_first a.self.now.plan a.self.now.shape a.pass
 edge_is c =
     let a = c.args in
     c.edge_start-index.ensures
@@ -39,57 +39,57 @@ edge_is c =
 -- Whether a neighbour needs it.
 goes_on_is : (c : After-goes_on-needed)
     → let a = c.args in
-    c.goes_on-needed.result ≡ goes_on a.plan.grid a.k a.pass
+    c.goes_on-needed.result ≡ goes_on a.self.now.plan.grid a.self.now.k a.pass
 goes_on_is c =
     let a = c.args in
-    c.goes_on-needed.ensures ∙ goes_on_at a.plan.grid a.k a.pass c.position.ensures
+    c.goes_on-needed.ensures ∙ goes_on_at a.self.now.plan.grid a.self.now.k a.pass c.position.ensures
 
 -- ---- goals
 pub position-requires : goal.position-requires
-position-requires c = let block = c.requires.placed.block in (in_grid _ block.kept _ block.counted).kept
+position-requires c = let block = c.args.self.now.placed.block in (in_grid _ block.kept _ block.counted).kept
 
 pub goes_on-needed-requires : goal.goes_on-needed-requires
 goes_on-needed-requires c =
-    let block = c.requires.placed.block in
+    let block = c.args.self.now.placed.block in
     let inside = in_grid _ block.kept _ block.counted in
     in_blocks _ _ c.position.ensures inside.kept inside.inside
 
 pub overflow_mul-side : goal.overflow_mul-side
 overflow_mul-side c =
     rw c.order-order.ensures
-    (omega (arith, mul-le-mul (rules c.args.plan c.requires.placed.block.kept).side_high (move_limited c.requires)))
+    (omega (arith, mul-le-mul (rules c.args.self.now.plan c.args.self.now.placed.block.kept).side_high (move_limited c.args.self.now.placed c.requires)))
 
 pub clear_words-requires : goal.clear_words-requires
 clear_words-requires c =
-    rw c.order-order.ensures (words_fit _ _ _ (words_in_strips c.requires c.strip_start-start.ensures))
+    rw c.order-order.ensures (words_fit _ _ _ (words_in_strips c.args.self.now.placed c.requires c.strip_start-start.ensures))
 
 pub returns-then-not-needed : goal.returns-then-not-needed
 returns-then-not-needed c =
     let a = c.args in
-    cleared_strip c.requires c.strip_start-start.ensures a.gain a.work.now a.strips.now
+    cleared_strip c.args.self.now.placed c.requires c.strip_start-start.ensures a.gain a.work.now a.strips.now
     (failed (goes_on_is (goal.at.returns-then-not-needed c).After-goes_on-needed) c.if-not-needed.true) (rw c.order-order.ensures at c.clear_words.ensures)
 
 pub edge_start-index-requires : goal.edge_start-index-requires
 edge_start-index-requires c =
-    rw c.order-order.ensures (edge_asked c.requires c.extent.ensures)
+    rw c.order-order.ensures (edge_asked c.args.self.now.placed c.requires c.extent.ensures)
 
 pub work_place-requires : goal.work_place-requires
 work_place-requires c =
-    omega (arith, edge_is (goal.at.work_place-requires c).After-edge_start-index, edge_in_work c.requires)
+    omega (arith, edge_is (goal.at.work_place-requires c).After-edge_start-index, edge_in_work c.args.self.now.placed c.requires)
 
-pub copy_rectangle-requires : goal.copy_rectangle-requires
-copy_rectangle-requires c =
+pub copy-requires : goal.copy-requires
+copy-requires c =
     let starts = c.strip_start-start.ensures in
     let place = c.work_place.ensures in
-    let wide = width_is (goal.at.copy_rectangle-requires c).After-across-width in (
-      edge_fits c.requires starts (edge_is (goal.at.copy_rectangle-requires c).After-edge_start-index) place (height_is (goal.at.copy_rectangle-requires c).After-along-height) wide,
-      strip_in_strips c.requires starts (edge_is (goal.at.copy_rectangle-requires c).After-edge_start-index) place (height_is (goal.at.copy_rectangle-requires c).After-along-height) wide,
+    let wide = width_is (goal.at.copy-requires c).After-across-width in (
+      edge_fits c.args.self.now.placed c.requires starts (edge_is (goal.at.copy-requires c).After-edge_start-index) place (height_is (goal.at.copy-requires c).After-along-height) wide,
+      strip_in_strips c.args.self.now.placed c.requires starts (edge_is (goal.at.copy-requires c).After-edge_start-index) place (height_is (goal.at.copy-requires c).After-along-height) wide,
       omega arith,
     )
 
 pub returns : goal.returns
 returns c =
     let a = c.args in
-    copied_strip c.requires c.strip_start-start.ensures (edge_is (goal.at.returns c).After-edge_start-index) c.work_place.ensures (height_is (goal.at.returns c).After-along-height)
+    copied_strip c.args.self.now.placed c.requires c.strip_start-start.ensures (edge_is (goal.at.returns c).After-edge_start-index) c.work_place.ensures (height_is (goal.at.returns c).After-along-height)
     (width_is (goal.at.returns c).After-across-width) a.gain a.work.now a.strips.now (passed (goes_on_is (goal.at.returns c).After-goes_on-needed) c.if-not-needed.false)
-    c.copy_rectangle.ensures
+    c.copy.ensures

@@ -1,11 +1,7 @@
 -- `run_passes` has run the passes so far in the work array with all gains in the first, the neighbours' strips past the
 -- block's edges times the gains of the passes after each.
-use Prim.Native.Nat.{◌-◌}
 use Rattle.collect_finish.proofs.Finishing.{Finishing}
-use Rattle.collect_finish.proofs.run_passes.Given as goal
+use Rattle.collect_finish.proofs.Block.run_passes.Given as goal
 
 abbrev pub invariant-loop-pass : goal.invariant-loop-pass
-invariant-loop-pass l = Finishing l.plan l.k l.strips l.initial.work l.count l.pass l.work
-
-abbrev pub decreases-loop-pass : goal.decreases-loop-pass
-decreases-loop-pass l = l.count - l.pass
+invariant-loop-pass l = Finishing l.self.plan l.self.k l.strips l.initial.work l.pass l.work
