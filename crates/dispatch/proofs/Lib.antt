@@ -1,4 +1,2 @@
 pub mod Parts
 pub mod Searching
-pub mod Stages
-pub mod Walking
