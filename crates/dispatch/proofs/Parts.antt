@@ -3,12 +3,13 @@ use mathlib.Core.Path.{◌≡◌, refl, sym, ap, ◌∙◌}
 use mathlib.Core.Logic.{⊎_elim}
 use mathlib.Core.Bool.{Bool, true, false, not, ◌&&◌}
 use mathlib.Core.List.{List}
+use Rattle.std.specs.Prelude.{None, Some}
 use Prim.Native.Nat.{ℕ, ◌+◌, ◌-◌, ◌<◌, ◌≤◌}
 use native.Mathlib.Omega.{arith}
 use lib.Dec.{leb, ltb}
 use lib.ListN.{length, take, drop, length-drop}
 use lib.Seq.{take_all}
-use borrow.Author.Tests.{not-true, not-false}
+use borrow.Author.Tests.{lt-ltb, le-ltb, not-true, not-false}
 use Rattle.std.proofs.lemmas.Bool.Decides.{nat_tests}
 use Rattle.number.proofs.Tests.{lt_or_ge}
 use Rattle.grid.specs.declared.Grid.{Grid}
@@ -22,7 +23,7 @@ use Rattle.turns.specs.Jobs.{least_from, grid_of, marks_end, overlap, broken_for
 use Rattle.turns.specs.Turn.{marks_from}
 use Rattle.turns.proofs.Least.{clash, least_below_law, least_holds, least_none, least_most, least_is}
 use Rattle.turns.proofs.Parts.{broken_there, broken_mark, valid_unbroken}
-use Rattle.dispatch.specs.Part.{JobLent, broken_of}
+use Rattle.dispatch.specs.Part.{JobLent, first_broken_of}
 
 -- ---- whether the parts of two jobs overlap
 
@@ -91,18 +92,21 @@ module _ (marks : List ℕ) (job : Job) where
             let f = first in
             clash (ap not invalid) (least_below_law fails 0 (block_total (grid_of job)) k (omega arith) (omega arith))
 
-    pub broken_at_law : broken < block_total grid → job.marks_start + broken ≡ broken_of marks job
+    pub broken_at_law : broken < block_total grid → Some (job.marks_start + broken) ≡ first_broken_of marks job
     unfolding fails
     broken_at_law h =
         let l : broken < block_total (grid_of job) = rw is_grid at h in
-        sym
-        (least_is (broken_for marks job) (length marks) (job.marks_start + broken) (omega arith) sound_below
-        (λ h. broken_there marks job broken l ∙ rw first at (least_holds fails 0 (block_total (grid_of job)) (omega (arith, first)))))
+        let e : least_from (broken_for marks job) 0 (length marks) ≡ job.marks_start + broken =
+        least_is (broken_for marks job) (length marks) (job.marks_start + broken) (omega arith) sound_below
+        (λ h. broken_there marks job broken l ∙ rw first at (least_holds fails 0 (block_total (grid_of job)) (omega (arith, first)))) in
+        rw (e, lt-ltb (job.marks_start + broken) (length marks) (omega arith))
 
-    pub broken_nowhere : block_total grid ≤ broken → length marks ≡ broken_of marks job
+    pub broken_nowhere : block_total grid ≤ broken → None ≡ first_broken_of marks job
     unfolding first_broken
     broken_nowhere h =
         let l : block_total (grid_of job) ≤ broken = rw is_grid at h in
         let e = is in
         let valid = none_broken_valid (grid_of job) (marks_from job marks) (omega arith) in
-        sym (least_none (broken_for marks job) 0 (length marks) (λ place a b. valid_unbroken marks job valid place) ∙ omega arith)
+        let e : least_from (broken_for marks job) 0 (length marks) ≡ length marks =
+        least_none (broken_for marks job) 0 (length marks) (λ place a b. valid_unbroken marks job valid place) ∙ omega arith in
+        rw (e, le-ltb (length marks) (length marks) (omega arith))

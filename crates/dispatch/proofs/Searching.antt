@@ -1,24 +1,25 @@
 -- Going over the jobs: the least broken place, job by job, and the first turn that a job has. Assumes nothing.
-use mathlib.Core.Path.{◌≡◌, refl, sym, ◌∙◌}
-use mathlib.Core.Bool.{Bool, true, false, not, ◌&&◌, ◌||◌, and-false}
+use mathlib.Core.Path.{◌≡◌, refl, sym, ap, ◌∙◌}
+use mathlib.Core.Bool.{Bool, true, false, cond, not, ◌&&◌, ◌||◌, and-false}
 use mathlib.Core.Logic.{◌≢◌, ⊎_elim}
-use mathlib.Core.List.{List}
+use mathlib.Core.List.{List, [], ◌∷◌}
 use Prim.Native.Nat.{ℕ, zero, suc, ◌+◌, ◌<◌, ◌≤◌, min}
 use native.Mathlib.Omega.{arith}
 use native.Mathlib.Numerals.{add-one}
 use lib.Dec.{leb, ltb}
 use lib.ListN.{length, take}
-use borrow.Author.Tests.{ne_eqb, eq-eqb, le-leb, lt-leb, not-false}
+use borrow.Author.Tests.{ne_eqb, eq-eqb, le-leb, lt-leb, lt-ltb, le-ltb, ltb-false, not-false}
 use borrow.Author.Count.{below_more}
 use lib.Seq.{take_all}
-use Rattle.std.specs.List.{list_all}
+use Rattle.std.specs.List.{list_all, filter_map, fold, reduce}
 use Rattle.std.proofs.lemmas.Bool.{cases_eq}
+use Rattle.std.proofs.lemmas.List.Elements.{All-from_get_or}
 use Rattle.std.proofs.lemmas.List.Folds.{list_all_more}
 use Rattle.std.specs.Prelude.{Option, None, Some, Result, Ok, Err}
 use Rattle.refusal.specs.declared.Refusal.{Refusal}
 use Rattle.refusal.specs.declared.Refusal.TheVariants.{RecordBreaksRule, MarkBroken, JobMisplaced}
 use Rattle.number.specs.Numbers.{all_below}
-use Rattle.number.proofs.Tests.{and_both, all_fails}
+use Rattle.number.proofs.Tests.{and_both, all_fails, lt_or_ge}
 use Rattle.number.proofs.Sums.{all_below_law}
 use Rattle.tasks.proofs.Needs.{ready_exists, ready_undone}
 use Rattle.report.specs.declared.Next.{Next}
@@ -30,11 +31,11 @@ use Rattle.turns.specs.declared.Turn.{Turn}
 use Rattle.turns.specs.Jobs.{job_limit, least_from, job_at, grid_of, sizes_kept, jobs_kept, marks_end, overlap, apart_unless_same, well_placed, first_misplaced, broken_for, first_broken_place, broken_place}
 use Rattle.turns.specs.Turn.{marked_in, job_done, going_round, waits, passed_over, turn_with, turn_of, turn}
 use Rattle.turns.proofs.Turns.{done_all, all_done_law, turn_found, turn_none}
-use Rattle.turns.proofs.Least.{clash, least_none, least_is, least_bound, least_either}
+use Rattle.turns.proofs.Least.{clash, least_none, least_is, least_most, least_bound, least_either}
 use Rattle.turns.specs.Dispatch.{dispatch_given, dispatch_rows, dispatch}
 use Rattle.turns.specs.Answers.{Kept}
 use Rattle.turns.proofs.Parts.{tested_kept, searched_placed, marks_inside}
-use Rattle.dispatch.specs.Part.{JobsLent, broken_of, refused_if}
+use Rattle.dispatch.specs.Part.{JobLent, JobsLent, found_below, first_broken_of, refused_if}
 
 -- ---- the sizes
 
@@ -97,34 +98,86 @@ module _ (jobs : List Job) (size i : ℕ) (before : (j : ℕ) → j < i → well
   none_misplaced l =
       least_none (λ j. not (well_placed jobs size j)) 0 (length jobs) (λ j g h. rw (before j (omega arith))) ∙ omega arith
 
--- ---- the least broken place, job by job
+-- ---- the least broken place of all
 
-module _ (jobs : List Job) (marks : List ℕ) where
-  -- The least broken place of the first n jobs; the list's length where there is none.
-  abbrev pub broken_upto : ℕ → ℕ
-  broken_upto n = least_from (λ place. not (all_below (λ i. not (broken_for marks (job_at jobs i) place)) n)) 0 (length marks)
+-- The least of a number and a list may be taken in any order.
+fold_min : (a b : ℕ) (xs : List ℕ) → fold min (min a b) xs ≡ min a (fold min b xs)
+fold_min a b [] = refl
+fold_min a b (x ∷ xs) =
+    let e : min (min a b) x ≡ min a (min b x) = omega arith in
+    rw e (fold_min a (min b x) xs)
 
-  pub broken_none : length marks ≡ broken_upto 0
-  unfolding all_below
-  broken_none = sym (least_none (λ place. not true) 0 (length marks) (λ j h l. refl) ∙ omega arith)
+-- What was found is below the bound, and where nothing was found the number is not.
+some_below : (bound number found : ℕ) → Some found ≡ found_below bound number → found ≡ number
+some_below bound number found e = by (ltb number bound) e
+  where
+    by : (below : Bool) → Some found ≡ cond below (Some number) None → found ≡ number
+    by true e = cc
+    by false e = absurd cc
 
-  pub broken_more : (i least : ℕ) → least ≡ broken_upto i → min least (broken_of marks (job_at jobs i)) ≡ broken_upto (i + 1)
-  unfolding all_below
-  broken_more i least e =
-      rw (e, add-one i)
-      (least_either (λ place. not (all_below (λ j. not (broken_for marks (job_at jobs j) place)) i)) (broken_for marks (job_at jobs i))
-      (λ place. not (all_below (λ j. not (broken_for marks (job_at jobs j) place)) i && not (broken_for marks (job_at jobs i) place)))
-      (length marks)
-      (λ place. not_both (all_below (λ j. not (broken_for marks (job_at jobs j) place)) i) (broken_for marks (job_at jobs i) place)))
+none_below : (bound number : ℕ) → None ≡ found_below bound number → bound ≤ number
+none_below bound number e = by (ltb number bound) refl e
+  where
+    by : (below : Bool) → ltb number bound ≡ below → None ≡ cond below (Some number) None → bound ≤ number
+    by true p e = absurd cc
+    by false p e = ltb-false number bound p
+
+-- A number below the bound and the least of those found.
+found_more : (bound number least : ℕ) (found : List ℕ) → number < bound → least ≤ bound
+    → reduce min found ≡ found_below bound least → fold min number found ≡ min number least
+found_more bound number least [] h l e = let g = none_below bound least e in omega arith
+found_more bound number least (x ∷ xs) h l e =
+    fold_min number x xs ∙ ap (min number) (some_below bound least (fold min x xs) e)
+
+module _ (marks : List ℕ) where
+  -- A place is broken for the first job or for one of the others.
+  broken_either : (job : Job) (jobs : List Job) (place : ℕ)
+      → broken_place (job ∷ jobs) marks place ≡ (broken_for marks job place || broken_place jobs marks place)
+  unfolding broken_place
+  broken_either job jobs place =
+      let sound : Job → Bool = λ job. not (broken_for marks job place) in
+      rw (← all_listed sound (job ∷ jobs), ← all_listed sound jobs) (either (broken_for marks job place) (list_all sound jobs))
     where
-      not_both : (a b : Bool) → not (a && not b) ≡ (not a || b)
-      not_both true true = refl
-      not_both true false = refl
-      not_both false b = refl
+      either : (a b : Bool) → not (not a && b) ≡ (a || not b)
+      either true b = refl
+      either false b = refl
 
-  pub broken_all : broken_upto (length jobs) ≡ first_broken_place jobs marks
-  unfolding first_broken_place broken_place
-  broken_all = refl
+  -- The least of the first broken place of each job is the first of all.
+  pub first_found : (jobs : List Job)
+      → reduce min (filter_map (first_broken_of marks) jobs) ≡ found_below (length marks) (first_broken_place jobs marks)
+  unfolding first_broken_place broken_place all_below
+  first_found [] =
+      let e : least_from (broken_place [] marks) 0 (length marks) ≡ length marks =
+      least_none (broken_place [] marks) 0 (length marks) (λ j h l. refl) ∙ omega arith in
+      rw (e, le-ltb (length marks) (length marks) (omega arith)) refl
+  first_found (job ∷ jobs) =
+      let n = length marks in
+      let number = least_from (broken_for marks job) 0 n in
+      let least = least_from (broken_place jobs marks) 0 n in
+      let most : least ≤ n = omega (arith, least_most (broken_place jobs marks) 0 n) in
+      let both : min number least ≡ least_from (broken_place (job ∷ jobs) marks) 0 n =
+      least_either (broken_for marks job) (broken_place jobs marks) (broken_place (job ∷ jobs) marks) n (broken_either job jobs) in
+      rw (← both)
+      (⊎_elim
+      (λ (l : number < n).
+      let m : min number least < n = omega arith in
+      rw (lt-ltb number n l, lt-ltb (min number least) n m) (ap Some (found_more n number least _ l most (first_found jobs))))
+      (λ (g : n ≤ number).
+      let m : min number least ≡ least = omega arith in
+      rw (le-ltb number n g, m) (first_found jobs))
+      (lt_or_ge number n))
+
+-- A place that was found is refused, and where none was, nothing is.
+pub refused_at : (size first place : ℕ) → Some place ≡ found_below size first
+    → Err (MarkBroken place) ≡ refused_if (ltb first size) (MarkBroken first)
+refused_at size first place e = by (ltb first size) e
+  where
+    by : (below : Bool) → Some place ≡ cond below (Some first) None → Err (MarkBroken place) ≡ refused_if below (MarkBroken first)
+    by true e = cc
+    by false e = absurd cc
+
+pub refused_nowhere : (size first : ℕ) → None ≡ found_below size first → Ok tt ≡ refused_if (ltb first size) (MarkBroken first)
+refused_nowhere size first e = rw (le-ltb first size (none_below size first e)) refl
 
 -- ---- the turn of one job
 
@@ -230,7 +283,9 @@ module _ (jobs : List Job) (last : ℕ) (marks : List ℕ) where
           searched_placed jobs (length marks) (least_bound (λ i. not (well_placed jobs (length marks) i)) (length jobs) no_18) in
           record {
             few = kept.few;
-            each = λ i l. record { kept = kept.sizes i l; inside = marks_inside jobs (length marks) placed i l };
+            each =
+                All-from_get_or (λ job. JobLent job (length marks)) jobs (record { rows = 0; columns = 0; side = 0; marks_start = 0 })
+                (λ i l. record { kept = kept.sizes i l; inside = marks_inside jobs (length marks) placed i l });
           }
 
       pub refused_9 : (e : Refusal) → Err e ≡ marks_tested → Says (Err e)

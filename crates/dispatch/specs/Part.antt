@@ -1,8 +1,9 @@
 -- Inner: the parts that jobs have in the common marks list, and what a test of a call answers.
-use Rattle.std.specs.Prelude.{◌≡◌, Bool, true, cond, List, ℕ, ◌<◌, ◌≤◌, length, Result, Ok, Err}
+use Rattle.std.specs.Prelude.{◌≡◌, Bool, true, cond, List, ℕ, ◌≤◌, ltb, length, Option, None, Some, Result, Ok, Err}
+use Rattle.std.specs.List.{All}
 use Rattle.refusal.specs.declared.Refusal.{Refusal}
 use Rattle.turns.specs.declared.Job.{Job}
-use Rattle.turns.specs.Jobs.{job_limit, least_from, job_at, sizes_kept, marks_end, broken_for}
+use Rattle.turns.specs.Jobs.{job_limit, least_from, sizes_kept, marks_end, broken_for}
 
 -- A job has sizes in range, and its marks lie inside a list of `size` places.
 pub record JobLent (job : Job) (size : ℕ) : Type 0 where
@@ -12,11 +13,15 @@ pub record JobLent (job : Job) (size : ℕ) : Type 0 where
 -- There are at most eight jobs, and so it is for each of them.
 pub record JobsLent (jobs : List Job) (size : ℕ) : Type 0 where
   pub few : length jobs ≤ job_limit
-  pub each : (i : ℕ) → i < length jobs → JobLent (job_at jobs i) size
+  pub each : All (λ job. JobLent job size) jobs
 
--- The least place of a broken mark of one job; the list's length where there is none.
-abbrev pub broken_of : List ℕ → Job → ℕ
-broken_of marks job = least_from (broken_for marks job) 0 (length marks)
+-- A number where it is below a bound, as what a search found.
+abbrev pub found_below : (bound number : ℕ) → Option ℕ
+found_below bound number = cond (ltb number bound) (Some number) None
+
+-- The least place of a broken mark of one job; none where there is none.
+abbrev pub first_broken_of : List ℕ → Job → Option ℕ
+first_broken_of marks job = found_below (length marks) (least_from (broken_for marks job) 0 (length marks))
 
 -- A test refuses for a cause where it is due.
 abbrev pub refused_if : Bool → Refusal → Result Unit Refusal

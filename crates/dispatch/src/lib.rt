@@ -16,7 +16,7 @@ use refusal::Refusal;
 use turns::{Job, Turn};
 
 // The most jobs on one control: `job_limit` of turns/specs/Jobs.antt is the same number.
-pub const JOB_LIMIT: usize = 8;
+const JOB_LIMIT: usize = 8;
 
 // The turn after the job `last`: the next job after it that has unmarked tasks, going round, with its first ready task, or
 // none; or why the call is refused.
@@ -76,14 +76,12 @@ fn test_marks(jobs: &[Job], marks: &[u32]) -> Result<(), Refusal>
     requires { JobsLent jobs.now (length marks.now) }
     ensures { result ≡ refused_if (ltb (first_broken_place jobs.now marks.now) (length marks.now)) (MarkBroken (first_broken_place jobs.now marks.now)) }
 {
-    let mut least = marks.len();
-    for job in jobs {
-        least = least.min(part::first_broken_place(*job, marks));
-    }
-    if least < marks.len() {
-        Err(Refusal::MarkBroken(least))
-    } else {
-        Ok(())
+    let places = jobs
+        .iter()
+        .filter_map(|job| part::first_broken_place(*job, marks));
+    match places.min() {
+        Some(place) => Err(Refusal::MarkBroken(place)),
+        None => Ok(()),
     }
 }
 

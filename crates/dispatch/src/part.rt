@@ -2,7 +2,7 @@
 ghost use Rattle.std.specs.Prelude.{◌≡◌, true, leb, length};
 ghost use Rattle.turns.specs.Jobs.{sizes_kept, marks_end, overlap};
 ghost use Rattle.turns.specs.Turn.{turn_of};
-ghost use Rattle.dispatch.specs.Part.{JobLent, broken_of};
+ghost use Rattle.dispatch.specs.Part.{JobLent, first_broken_of};
 
 use grid::Grid;
 use report::Next;
@@ -25,18 +25,19 @@ pub fn overlap(a: Job, b: Job) -> bool
     !ends_by(b, a.marks_start) && !ends_by(a, b.marks_start)
 }
 
-// The least place in the common list of a broken mark of a job, or the list's length.
-pub fn first_broken_place(job: Job, marks: &[u32]) -> usize
+// The least place in the common list of a broken mark of a job.
+pub fn first_broken_place(job: Job, marks: &[u32]) -> Option<usize>
     requires { JobLent job (length marks.now) }
-    ensures { result ≡ broken_of marks.now job }
+    ensures { result ≡ first_broken_of marks.now job }
 {
     let start = job.marks_start;
     let grid = Grid::from(job);
     let broken = report::first_broken(grid, &marks[start..]);
     if broken < grid.blocks() {
-        return start + broken;
+        Some(start + broken)
+    } else {
+        None
     }
-    marks.len()
 }
 
 // The turn of a job as job i of the list, with its first ready task as the report finds it; none where it is done.

@@ -1,30 +1,27 @@
--- The least broken place, job by job, and what it says of all jobs. Assumes nothing.
-use Rattle.std.proofs.Common.{arith, length, ◌≡◌, ◌∙◌}
-use borrow.Author.Tests.{lt-ltb, le-ltb}
+-- The least of the jobs' first broken places is the first of all. Assumes nothing.
+use Rattle.std.proofs.Common.{rules, tests, length, ◌≡◌, sym, ◌∙◌}
+use Rattle.std.proofs.lemmas.Iterator.Adapters.{option_map_id}
+use Rattle.std.proofs.lemmas.Iterator.{YieldsList-from_slice}
+use Rattle.std.proofs.lemmas.Iterator.Consumers.{YieldsList-at, YieldsList-from_filter_map, min_from_yields_List}
 use Rattle.turns.specs.Jobs.{first_broken_place}
-use Rattle.dispatch.proofs.Searching.{broken_none, broken_more, broken_all}
+use Rattle.dispatch.specs.Part.{found_below, first_broken_of}
+use Rattle.dispatch.proofs.Searching.{first_found, refused_at, refused_nowhere}
 use Rattle.dispatch.proofs.test_marks.Goals as goal
-use Rattle.dispatch.proofs.test_marks.Goals.{After-loop-job}
+use Rattle.dispatch.proofs.test_marks.Goals.{After-min}
 
-least : (c : After-loop-job) → c.loop-job.least ≡ first_broken_place c.args.jobs.now c.args.marks.now
-least c =
-    let end : c.loop-job.job-index ≡ length c.args.jobs.now = omega arith in
-    rw end at c.loop-job.invariant ∙ broken_all _ _
+found : (c : After-min) → c.min.result ≡ found_below (length c.args.marks.now) (first_broken_place c.args.jobs.now c.args.marks.now)
+found c =
+    let jobs = c.args.jobs.now in
+    let marks = c.args.marks.now in
+    sym (option_map_id c.min.result)
+    ∙ min_from_yields_List _ c.min.result c.min.ensures.ran
+    (YieldsList-from_filter_map _ (first_broken_of marks)
+    (YieldsList-at c.filter_map-places.ensures.source (YieldsList-from_slice jobs cc)) c.filter_map-places.ensures.closure
+    (λ x r q k. search (rules, tests)))
+    ∙ first_found marks jobs
 
-pub loop-job-init : goal.loop-job-init
-loop-job-init c = broken_none c.args.jobs.now c.args.marks.now
+pub returns-in-Some : goal.returns-in-Some
+returns-in-Some c = refused_at _ _ _ (sym c.in-Some.is ∙ found (goal.at.returns-in-Some c).After-min)
 
-pub loop-job-preserved : goal.loop-job-preserved
-loop-job-preserved c =
-    rw (c.min-least.ensures, c.first_broken_place.ensures)
-    (broken_more c.args.jobs.now c.args.marks.now c.loop-job.job-index c.loop-job.least c.loop-job.invariant)
-
-pub returns-then-least-marks : goal.returns-then-least-marks
-returns-then-least-marks c =
-    let e = least (goal.at.returns-then-least-marks c).After-loop-job in
-    rw (← e, lt-ltb c.loop-job.least (length c.args.marks.now) (omega arith))
-
-pub returns-else-least-marks : goal.returns-else-least-marks
-returns-else-least-marks c =
-    let e = least (goal.at.returns-else-least-marks c).After-loop-job in
-    rw (← e, le-ltb c.loop-job.least (length c.args.marks.now) (omega arith))
+pub returns-in-None : goal.returns-in-None
+returns-in-None c = refused_nowhere _ _ (sym c.in-None.is ∙ found (goal.at.returns-in-None c).After-min)

@@ -7,5 +7,5 @@ pub returns-then-broken-blocks : goal.returns-then-broken-blocks
 returns-then-broken-blocks c =
     broken_at_law _ _ c.requires.inside _ c.from-grid.ensures _ c.first_broken-broken.ensures (omega arith)
 
-pub returns : goal.returns
-returns c = broken_nowhere _ _ c.requires.inside _ c.from-grid.ensures _ c.first_broken-broken.ensures (omega arith)
+pub returns-else-broken-blocks : goal.returns-else-broken-blocks
+returns-else-broken-blocks c = broken_nowhere _ _ c.requires.inside _ c.from-grid.ensures _ c.first_broken-broken.ensures (omega arith)
