@@ -1,4 +1,4 @@
--- Going over the jobs: the least broken place, job by job, and the first turn that a job has. Assumes nothing.
+-- Going over the jobs: their sizes, where their marks lie, the least broken place, and the first turn that a job has. Assumes nothing.
 use mathlib.Core.Path.{◌≡◌, refl, sym, ap, ◌∙◌}
 use mathlib.Core.Bool.{Bool, true, false, cond, not, ◌&&◌, ◌||◌, and-false}
 use mathlib.Core.Logic.{◌≢◌, ⊎_elim}
@@ -8,16 +8,14 @@ use native.Mathlib.Omega.{arith}
 use native.Mathlib.Numerals.{add-one}
 use lib.Dec.{leb, ltb}
 use lib.ListN.{length, take}
-use borrow.Author.Tests.{ne_eqb, eq-eqb, le-leb, lt-leb, lt-ltb, le-ltb, ltb-false, not-false}
+use borrow.Author.Tests.{ne_eqb, eq-eqb, le-leb, lt-leb, lt-ltb, le-ltb, ltb-false}
 use borrow.Author.Count.{below_more}
 use lib.Seq.{take_all}
 use Rattle.std.specs.List.{list_all, filter_map, fold, reduce}
 use Rattle.std.proofs.lemmas.Bool.{cases_eq}
-use Rattle.std.proofs.lemmas.List.Elements.{All-from_get_or}
 use Rattle.std.proofs.lemmas.List.Folds.{list_all_more}
-use Rattle.std.specs.Prelude.{Option, None, Some, Result, Ok, Err}
-use Rattle.refusal.specs.declared.Refusal.{Refusal}
-use Rattle.refusal.specs.declared.Refusal.TheVariants.{RecordBreaksRule, MarkBroken, JobMisplaced}
+use Rattle.std.specs.Prelude.{None, Some, Ok, Err}
+use Rattle.refusal.specs.declared.Refusal.TheVariants.{MarkBroken}
 use Rattle.number.specs.Numbers.{all_below}
 use Rattle.number.proofs.Tests.{and_both, all_fails, lt_or_ge}
 use Rattle.number.proofs.Sums.{all_below_law}
@@ -31,11 +29,8 @@ use Rattle.turns.specs.declared.Turn.{Turn}
 use Rattle.turns.specs.Jobs.{job_limit, least_from, job_at, grid_of, sizes_kept, jobs_kept, marks_end, overlap, apart_unless_same, well_placed, first_misplaced, broken_for, first_broken_place, broken_place}
 use Rattle.turns.specs.Turn.{marked_in, job_done, going_round, waits, passed_over, turn_with, turn_of, turn}
 use Rattle.turns.proofs.Turns.{done_all, all_done_law, turn_found, turn_none}
-use Rattle.turns.proofs.Least.{clash, least_none, least_is, least_most, least_bound, least_either}
-use Rattle.turns.specs.Dispatch.{dispatch_given, dispatch_rows, dispatch}
-use Rattle.turns.specs.Answers.{Kept}
-use Rattle.turns.proofs.Parts.{tested_kept, searched_placed, marks_inside}
-use Rattle.dispatch.specs.Part.{JobLent, JobsLent, found_below, first_broken_of, refused_if}
+use Rattle.turns.proofs.Least.{clash, least_none, least_is, least_most, least_either}
+use Rattle.dispatch.specs.Part.{found_below, first_broken_of, refused_if}
 
 -- ---- the sizes
 
@@ -50,9 +45,9 @@ all_listed test jobs = rw (take_all (length jobs) jobs (omega arith)) at (upto (
 
 module _ (jobs : List Job) where
   -- Of few jobs the sizes decide;
-  pub few_kept : length jobs ≤ job_limit → (all : Bool) → all ≡ list_all sizes_kept jobs → jobs_kept jobs ≡ all
+  pub few_kept : length jobs ≤ job_limit → (all : Bool) → all ≡ list_all sizes_kept jobs → all ≡ jobs_kept jobs
   unfolding jobs_kept
-  few_kept l all e = rw (le-leb (length jobs) job_limit l, e) (sym (all_listed sizes_kept jobs))
+  few_kept l all e = rw (le-leb (length jobs) job_limit l, e) (all_listed sizes_kept jobs)
 
   -- too many are not kept.
   pub too_many : job_limit < length jobs → jobs_kept jobs ≡ false
@@ -230,68 +225,3 @@ module _ (jobs : List Job) (last : ℕ) (marks : List ℕ) (passed : ℕ)
   none_named l =
       let none = least_none (waits jobs last marks) 0 (length jobs) (λ d h m. rw (done d (omega arith))) in
       sym (turn_none jobs last marks (omega arith))
-
--- ---- the answers, by what the tests say
-
--- What a test that refuses says, and one that does not.
-refuses : (due : Bool) (cause e : Refusal) → Err e ≡ refused_if due cause → (due ≡ true) × (e ≡ cause)
-refuses true cause e q = (refl, cc)
-refuses false cause e q = absurd cc
-
-passes : (due : Bool) (cause : Refusal) → Ok tt ≡ refused_if due cause → due ≡ false
-passes true cause q = absurd cc
-passes false cause q = refl
-
-module _ (jobs : List Job) (last : ℕ) (marks : List ℕ) where
-  abbrev sizes_tested : Result Unit Refusal
-  sizes_tested = refused_if (not (jobs_kept jobs)) RecordBreaksRule
-
-  abbrev places_tested : Result Unit Refusal
-  places_tested =
-      refused_if (ltb (first_misplaced jobs (length marks)) (length jobs)) (JobMisplaced (first_misplaced jobs (length marks)))
-
-  abbrev marks_tested : Result Unit Refusal
-  marks_tested = refused_if (ltb (first_broken_place jobs marks) (length marks)) (MarkBroken (first_broken_place jobs marks))
-
-  abbrev Says : Result (Option Turn) Refusal → Type 0
-  Says answer = dispatch_given answer ≡ dispatch jobs last marks
-
-  pub refused_6 : (e : Refusal) → Err e ≡ sizes_tested → Says (Err e)
-  unfolding dispatch dispatch_rows
-  refused_6 e q = let (six, is) = refuses _ _ e q in rw (is, six)
-
-  module _ (sizes : Ok tt ≡ sizes_tested) where
-    no_6 : not (jobs_kept jobs) ≡ false
-    no_6 = passes _ _ sizes
-
-    pub sizes_passed : Kept jobs
-    sizes_passed = tested_kept jobs (not-false (jobs_kept jobs) no_6)
-
-    pub refused_18 : (e : Refusal) → Err e ≡ places_tested → Says (Err e)
-    unfolding dispatch dispatch_rows
-    refused_18 e q = let (eighteen, is) = refuses _ _ e q in rw (is, no_6, eighteen)
-
-    module _ (places : Ok tt ≡ places_tested) where
-      no_18 : ltb (first_misplaced jobs (length marks)) (length jobs) ≡ false
-      no_18 = passes _ _ places
-
-      pub places_passed : JobsLent jobs (length marks)
-      unfolding first_misplaced
-      places_passed =
-          let kept = sizes_passed in
-          let placed =
-          searched_placed jobs (length marks) (least_bound (λ i. not (well_placed jobs (length marks) i)) (length jobs) no_18) in
-          record {
-            few = kept.few;
-            each =
-                All-from_get_or (λ job. JobLent job (length marks)) jobs (record { rows = 0; columns = 0; side = 0; marks_start = 0 })
-                (λ i l. record { kept = kept.sizes i l; inside = marks_inside jobs (length marks) placed i l });
-          }
-
-      pub refused_9 : (e : Refusal) → Err e ≡ marks_tested → Says (Err e)
-      unfolding dispatch dispatch_rows
-      refused_9 e q = let (nine, is) = refuses _ _ e q in rw (is, no_6, no_18, nine)
-
-      pub made : Ok tt ≡ marks_tested → (found : Option Turn) → found ≡ turn jobs last marks → Says (Ok found)
-      unfolding dispatch dispatch_rows
-      made q found is = rw (is, no_6, no_18, passes _ _ q)

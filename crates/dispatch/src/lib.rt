@@ -33,11 +33,19 @@ pub fn dispatch(jobs: &[Job], last: usize, marks: &[u32]) -> Result<Option<Turn>
 fn test_sizes(jobs: &[Job]) -> Result<(), Refusal>
     ensures { result ≡ refused_if (not (jobs_kept jobs.now)) RecordBreaksRule }
 {
-    if jobs.len() <= JOB_LIMIT && jobs.iter().all(|job| Grid::from(*job).check()) {
+    if sizes_kept(jobs) {
         Ok(())
     } else {
         Err(Refusal::RecordBreaksRule)
     }
+}
+
+// Whether there are at most eight jobs, and the sizes of each are in range.
+#[tactic(auto, using(crate::proofs::Searching::too_many))]
+fn sizes_kept(jobs: &[Job]) -> bool
+    ensures { result ≡ jobs_kept jobs.now }
+{
+    jobs.len() <= JOB_LIMIT && jobs.iter().all(|job| Grid::from(*job).check())
 }
 
 // 18 with the first job whose marks run past the list or overlap another's.

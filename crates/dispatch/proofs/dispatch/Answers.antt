@@ -1,6 +1,6 @@
 -- The first test that fails decides. Assumes nothing.
 use Rattle.std.proofs.lemmas.Result.{err_from_is_err_and}
-use Rattle.dispatch.proofs.Searching.{refused_6, sizes_passed, refused_18, places_passed, refused_9, made}
+use Rattle.dispatch.proofs.Deciding.{refused_6, sizes_passed, refused_18, places_passed, refused_9, made}
 use Rattle.dispatch.proofs.dispatch.Goals as goal
 
 pub returns-in_err-test_sizes : goal.returns-in_err-test_sizes
