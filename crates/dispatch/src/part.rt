@@ -48,8 +48,8 @@ pub fn turn_of(i: usize, job: Job, marks: &[u32]) -> Option<Turn>
     match report::first_ready(Grid::from(job), &marks[job.marks_start..]) {
         Next::Ready(task, block) => Some(Turn {
             job: i,
-            task: task,
-            block: block,
+            task,
+            block,
         }),
         Next::Nothing => None,
     }

@@ -7,19 +7,20 @@ use mathlib.Core.List.{List}
 use Prim.Native.Nat.{ℕ, zero, suc, ◌+◌, ◌-◌, ◌<◌, ◌≤◌, max}
 use native.Mathlib.Omega.{arith}
 use native.Mathlib.Nat.{mul-le-mul}
-use lib.Dec.{ltb, leb, eqb}
+use lib.Dec.{leb, eqb}
 use lib.ListN.{length}
 use lib.Seq.{get_or-drop}
-use borrow.Author.Tests.{ltb-true, leb-true, leb-false, eqb-false, not-true, not-false, le-leb, lt-leb, lt-ltb, ne_eqb}
+use Rattle.std.proofs.lemmas.Bool.Decides.{nat_tests}
+use borrow.Author.Tests.{leb-false, eqb-false, not-true, not-false, lt-leb, ne_eqb}
 use Rattle.number.specs.Numbers.{all_below}
-use Rattle.number.proofs.Tests.{and_left, and_right, and_both, lt_or_ge, or_left, or_right, all_at, all_fails}
+use Rattle.number.proofs.Tests.{and_left, lt_or_ge, or_left, or_right, all_at, all_fails}
 use Rattle.number.proofs.Sums.{all_below_law}
 use Rattle.grid.specs.Grid.{block_total}
 use Rattle.grid.proofs.Blocks.{ranges}
 use Rattle.tasks.specs.Marks.{mark_valid, mark_valid_at}
 use Rattle.tasks.proofs.Marking.{Valid}
 use Rattle.turns.specs.declared.Job.{Job}
-use Rattle.turns.specs.Jobs.{job_limit, job_at, grid_of, sizes_kept, jobs_kept, marks_end, overlap, apart_unless_same, well_placed, first_misplaced, holds_place, broken_for, broken_place, first_broken_place}
+use Rattle.turns.specs.Jobs.{job_at, grid_of, sizes_kept, jobs_kept, marks_end, overlap, apart_unless_same, well_placed, first_misplaced, holds_place, broken_for, broken_place, first_broken_place}
 use Rattle.turns.specs.Turn.{marks_from}
 use Rattle.turns.specs.Answers.{Kept, Misplaced, past_the_list, shared, OverlapIsShared, Sound, BrokenMark, LetThrough}
 use Rattle.turns.proofs.Least.{clash, least_below_law, least_none}
@@ -40,14 +41,14 @@ one_fails test (suc n) e = by (all_below test n) refl e (one_fails test n)
 -- The test says what `Kept` says.
 pub kept_tested : (jobs : List Job) → Kept jobs → jobs_kept jobs ≡ true
 unfolding jobs_kept
-kept_tested jobs kept = and_both (le-leb (length jobs) job_limit kept.few) (all_below_law _ (length jobs) kept.sizes)
+kept_tested jobs kept = grind (arith, nat_tests, all_below_law (λ i. sizes_kept (job_at jobs i)) (length jobs) kept.sizes)
 
 pub tested_kept : (jobs : List Job) → jobs_kept jobs ≡ true → Kept jobs
 unfolding jobs_kept
 tested_kept jobs e =
     record {
-      few = leb-true (length jobs) job_limit (and_left (leb (length jobs) job_limit) _ e);
-      sizes = λ i l. all_at _ (length jobs) i (and_right (leb (length jobs) job_limit) _ e) l;
+      few = grind (arith, nat_tests);
+      sizes = λ i l. grind (arith, nat_tests, all_at (λ i. sizes_kept (job_at jobs i)) (length jobs) i);
     }
 
 -- ---- 18: where the marks lie
@@ -56,15 +57,11 @@ tested_kept jobs e =
 module _ (job : Job) (place : ℕ) where
   pub holds : job.marks_start ≤ place → place < marks_end job → holds_place job place ≡ true
   unfolding holds_place
-  holds l h = and_both (le-leb job.marks_start place l) (lt-ltb place (marks_end job) h)
+  holds l h = grind (arith, nat_tests)
 
   pub held : holds_place job place ≡ true → (job.marks_start ≤ place) × (place < marks_end job)
   unfolding holds_place
-  held e =
-      let s = job.marks_start in (
-        leb-true s place (and_left (leb s place) (ltb place (marks_end job)) e),
-        ltb-true place (marks_end job) (and_right (leb s place) (ltb place (marks_end job)) e),
-      )
+  held e = (grind (arith, nat_tests), grind (arith, nat_tests))
 
 -- Marks with a common place overlap.
 shared_overlap : (a b : Job) (place : ℕ) → holds_place a place ≡ true → holds_place b place ≡ true → overlap a b ≡ true
@@ -72,7 +69,7 @@ unfolding overlap
 shared_overlap a b place p q =
     let in_a = held a place p in
     let in_b = held b place q in
-    and_both (lt-ltb a.marks_start (marks_end b) (omega arith)) (lt-ltb b.marks_start (marks_end a) (omega arith))
+    grind (arith, nat_tests)
 
 -- Marks that overlap share the greater of the two starts, since each job has at least one mark.
 overlap_shared : (a b : Job) → sizes_kept a ≡ true → sizes_kept b ≡ true → overlap a b ≡ true
@@ -81,8 +78,8 @@ unfolding overlap
 overlap_shared a b kept_a kept_b e =
     let some_a = job_marks a kept_a in
     let some_b = job_marks b kept_b in
-    let l = ltb-true a.marks_start (marks_end b) (and_left (ltb a.marks_start (marks_end b)) _ e) in
-    let h = ltb-true b.marks_start (marks_end a) (and_right (ltb a.marks_start (marks_end b)) _ e) in
+    let l : a.marks_start < marks_end b = grind (arith, nat_tests) in
+    let h : b.marks_start < marks_end a = grind (arith, nat_tests) in
     let place = max a.marks_start b.marks_start in
     (place, holds a place (omega arith) (omega arith), holds b place (omega arith) (omega arith))
   where

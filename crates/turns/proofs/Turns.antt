@@ -233,14 +233,13 @@ module _ (jobs : List Job) (last : ℕ) (marks : List ℕ) where
       ⊎_elim (λ (l : passed_over jobs last marks < length jobs). by l _ refl (sym (turn_found l) ∙ e))
       (λ (g : length jobs ≤ passed_over jobs last marks).
       let none = turn_none g in
-      let z : ◌≡◌ {A = ℕ} 0 1 = cc in
-      absurd (omega arith))
+      absurd cc)
       (lt_or_ge (passed_over jobs last marks) (length jobs))
     where
       by : passed_over jobs last marks < length jobs → (next : Next)
           → first_ready (grid_of (job_at jobs next_job)) (marked_in (job_at jobs next_job) marks) ≡ next
           → turn_with next_job next ≡ Some (turn_to i t k) → Found i t k
-      by l Nothing q e = let z : ◌≡◌ {A = ℕ} 0 1 = cc in absurd (omega arith)
+      by l Nothing q e = absurd cc
       by l (Ready u b) q e =
           let same : turn_to next_job u b ≡ turn_to i t k = cc in
           rw (← ap (λ (found : Turn). found.job) same, ← ap (λ (found : Turn). found.task) same, ← ap (λ (found : Turn). found.block) same)
@@ -255,8 +254,7 @@ module _ (jobs : List Job) (last : ℕ) (marks : List ℕ) where
       by false p =
           let (d, l, q) = come_to jobs last i h in
           let (w, m, t, k, n) = names_upto d l (rw q p) in
-          let z : ◌≡◌ {A = ℕ} 0 1 = cc in
-          absurd (omega arith)
+          absurd cc
 
   -- and one that finds every job done names none.
   pub all_done_none : ((i : ℕ) → i < length jobs → job_done (job_at jobs i) marks ≡ true) → turn jobs last marks ≡ None
