@@ -2,18 +2,18 @@
 -- what their searches pass. Assumes nothing.
 use mathlib.Core.Path.{◌≡◌, refl, sym, ap, ap₂, ◌∙◌}
 use mathlib.Core.Logic.{⊎_elim, ◌≢◌}
-use mathlib.Core.Bool.{Bool, true, false, not, ◌&&◌, ◌||◌, and-false, true≢false}
+use mathlib.Core.Bool.{Bool, true, false, not, ◌&&◌, true≢false}
 use mathlib.Core.List.{List}
 use Prim.Native.Nat.{ℕ, zero, suc, ◌+◌, ◌-◌, ◌<◌, ◌≤◌, max}
 use native.Mathlib.Omega.{arith}
 use native.Mathlib.Nat.{mul-le-mul}
-use lib.Dec.{leb, eqb}
+use lib.Dec.{leb}
 use lib.ListN.{length}
 use lib.Seq.{get_or-drop}
 use Rattle.std.proofs.lemmas.Bool.Decides.{nat_tests}
-use borrow.Author.Tests.{leb-false, eqb-false, not-true, not-false, lt-leb, ne_eqb}
+use borrow.Author.Tests.{not-true, not-false}
 use Rattle.number.specs.Numbers.{all_below}
-use Rattle.number.proofs.Tests.{and_left, lt_or_ge, or_left, or_right, all_at, all_fails}
+use Rattle.number.proofs.Tests.{and_left, lt_or_ge, all_at, all_fails}
 use Rattle.number.proofs.Sums.{all_below_law}
 use Rattle.grid.specs.Grid.{block_total}
 use Rattle.grid.proofs.Blocks.{ranges}
@@ -96,12 +96,14 @@ module _ (jobs : List Job) (size i : ℕ) where
   -- A misplaced job does not pass the test,
   pub misplaced_tested : Misplaced jobs size i → well_placed jobs size i ≡ false
   unfolding well_placed
-  misplaced_tested (past_the_list l) = rw (lt-leb (marks_end (job_at jobs i)) size l)
+  misplaced_tested (past_the_list l) = grind (arith, nat_tests)
   misplaced_tested (shared j place h ne p q) =
-      let over = shared_overlap (job_at jobs i) (job_at jobs j) place p q in
-      let apart : apart_unless_same jobs i j ≡ false = ap₂ (λ same x. same || not x) (ne_eqb j i ne) over in
-      rw (all_fails (apart_unless_same jobs i) (length jobs) j h apart)
-      (and-false (leb (marks_end (job_at jobs i)) size))
+      grind (
+        arith,
+        nat_tests,
+        shared_overlap (job_at jobs i) (job_at jobs j) place p q,
+        all_fails (apart_unless_same jobs i) (length jobs) j h,
+      )
 
   -- and one that does not pass is misplaced.
   pub tested_misplaced : Kept jobs → i < length jobs → well_placed jobs size i ≡ false → Misplaced jobs size i
@@ -110,12 +112,12 @@ module _ (jobs : List Job) (size i : ℕ) where
     where
       by : (inside : Bool) → leb (marks_end (job_at jobs i)) size ≡ inside
           → (inside && all_below (apart_unless_same jobs i) (length jobs)) ≡ false → Misplaced jobs size i
-      by false p e = past_the_list (leb-false (marks_end (job_at jobs i)) size p)
+      by false p e = past_the_list (grind (arith, nat_tests))
       by true p e =
           let (j, h, f) = one_fails (apart_unless_same jobs i) (length jobs) e in
-          let o = not-false (overlap (job_at jobs i) (job_at jobs j)) (or_right (eqb j i) _ f) in
+          let o : overlap (job_at jobs i) (job_at jobs j) ≡ true = grind (arith, nat_tests) in
           let (place, x, y) = overlap_shared (job_at jobs i) (job_at jobs j) (kept.sizes i l) (kept.sizes j h) o in
-          shared j place h (eqb-false j i (or_left (eqb j i) _ f)) x y
+          shared j place h (grind (arith, nat_tests)) x y
 
 -- No job is misplaced.
 abbrev pub Placed : List Job → (size : ℕ) → Type 0
@@ -138,8 +140,7 @@ module _ (jobs : List Job) (size : ℕ) where
   pub searched_placed : first_misplaced jobs size ≡ length jobs → Placed jobs size
   unfolding first_misplaced
   searched_placed e i h m =
-      let passed = least_below_law (λ j. not (well_placed jobs size j)) 0 (length jobs) i (omega arith) (omega arith) in
-      clash (not-false (well_placed jobs size i) passed) (misplaced_tested jobs size i m)
+      grind (arith, nat_tests, least_below_law (λ j. not (well_placed jobs size j)) 0 (length jobs) i, misplaced_tested jobs size i m)
 
 module _ (jobs : List Job) (size : ℕ) (placed : Placed jobs size) where
   -- The marks of every job end inside the list.
