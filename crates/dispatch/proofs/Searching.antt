@@ -1,6 +1,6 @@
 -- Going over the jobs: their sizes, where their marks lie, the least broken place, and the first turn that a job has. Assumes nothing.
 use mathlib.Core.Path.{◌≡◌, refl, sym, ap, ◌∙◌}
-use mathlib.Core.Bool.{Bool, true, false, cond, not, ◌&&◌, ◌||◌, and-false}
+use mathlib.Core.Bool.{Bool, true, false, not, ◌&&◌, ◌||◌}
 use mathlib.Core.Logic.{◌≢◌, ⊎_elim}
 use mathlib.Core.List.{List, [], ◌∷◌}
 use Prim.Native.Nat.{ℕ, zero, suc, ◌+◌, ◌<◌, ◌≤◌, min}
@@ -8,28 +8,23 @@ use native.Mathlib.Omega.{arith}
 use native.Mathlib.Numerals.{add-one}
 use lib.Dec.{leb, ltb}
 use lib.ListN.{length, take}
-use borrow.Author.Tests.{ne_eqb, eq-eqb, le-leb, lt-leb, lt-ltb, le-ltb, ltb-false}
+use borrow.Author.Tests.{lt-ltb, le-ltb}
 use borrow.Author.Count.{below_more}
 use lib.Seq.{take_all}
 use Rattle.std.specs.List.{list_all, filter_map, fold, reduce}
-use Rattle.std.proofs.lemmas.Bool.{cases_eq}
+use Rattle.std.proofs.lemmas.Bool.Decides.{nat_tests}
 use Rattle.std.proofs.lemmas.List.Folds.{list_all_more}
 use Rattle.std.specs.Prelude.{None, Some, Ok, Err}
 use Rattle.refusal.specs.declared.Refusal.TheVariants.{MarkBroken}
 use Rattle.number.specs.Numbers.{all_below}
 use Rattle.number.proofs.Tests.{and_both, all_fails, lt_or_ge}
 use Rattle.number.proofs.Sums.{all_below_law}
-use Rattle.tasks.proofs.Needs.{ready_exists, ready_undone}
-use Rattle.report.specs.declared.Next.{Next}
-use Rattle.report.specs.declared.Next.TheVariants.{Ready, Nothing}
-use Rattle.report.specs.Report.{first_ready}
-use Rattle.report.proofs.Claims.{none_all, found_ready}
 use Rattle.turns.specs.declared.Job.{Job}
 use Rattle.turns.specs.declared.Turn.{Turn}
-use Rattle.turns.specs.Jobs.{job_limit, least_from, job_at, grid_of, sizes_kept, jobs_kept, marks_end, overlap, apart_unless_same, well_placed, first_misplaced, broken_for, first_broken_place, broken_place}
-use Rattle.turns.specs.Turn.{marked_in, job_done, going_round, waits, passed_over, turn_with, turn_of, turn}
-use Rattle.turns.proofs.Turns.{done_all, all_done_law, turn_found, turn_none}
-use Rattle.turns.proofs.Least.{clash, least_none, least_is, least_most, least_either}
+use Rattle.turns.specs.Jobs.{job_limit, least_from, job_at, sizes_kept, jobs_kept, marks_end, overlap, apart_unless_same, well_placed, first_misplaced, broken_for, first_broken_place, broken_place}
+use Rattle.turns.specs.Turn.{job_done, going_round, waits, passed_over, turn_of, turn}
+use Rattle.turns.proofs.Turns.{turn_waits, no_turn_done, turn_found, turn_none}
+use Rattle.turns.proofs.Least.{least_none, least_is, least_most, least_either}
 use Rattle.dispatch.specs.Part.{found_below, first_broken_of, refused_if}
 
 -- ---- the sizes
@@ -47,12 +42,12 @@ module _ (jobs : List Job) where
   -- Of few jobs the sizes decide;
   pub few_kept : length jobs ≤ job_limit → (all : Bool) → all ≡ list_all sizes_kept jobs → all ≡ jobs_kept jobs
   unfolding jobs_kept
-  few_kept l all e = rw (le-leb (length jobs) job_limit l, e) (all_listed sizes_kept jobs)
+  few_kept l all e = grind (arith, nat_tests, all_listed sizes_kept jobs)
 
   -- too many are not kept.
   pub too_many : job_limit < length jobs → jobs_kept jobs ≡ false
   unfolding jobs_kept
-  too_many l = rw (lt-leb (length jobs) job_limit l)
+  too_many l = grind (arith, nat_tests)
 
 -- ---- where the marks of one job lie
 
@@ -62,23 +57,19 @@ module _ (jobs : List Job) (size i : ℕ) where
       → ((j : ℕ) → j < length jobs → j ≢ i → overlap (job_at jobs i) (job_at jobs j) ≡ false) → well_placed jobs size i ≡ true
   unfolding well_placed
   placed_well inside apart =
-      and_both inside
-      (all_below_law (apart_unless_same jobs i) (length jobs)
-      (λ j l.
-      ⊎_elim (λ (e : j ≡ i). rw (eq-eqb j i e) refl) (λ (ne : j ≢ i). rw (ne_eqb j i ne, apart j l ne) refl) (cases_eq j i)))
+      and_both inside (all_below_law (apart_unless_same jobs i) (length jobs) (λ j l. grind (arith, nat_tests, apart j l)))
 
   -- one is not that ends past it,
   pub past_end : leb (marks_end (job_at jobs i)) size ≡ false → well_placed jobs size i ≡ false
   unfolding well_placed
-  past_end e = rw e
+  past_end e = grind arith
 
   -- or overlaps another.
   pub overlapping : (j : ℕ) → j < length jobs → j ≢ i → overlap (job_at jobs i) (job_at jobs j) ≡ true
       → well_placed jobs size i ≡ false
   unfolding well_placed
   overlapping j l ne e =
-      rw (all_fails (apart_unless_same jobs i) (length jobs) j l (rw (ne_eqb j i ne, e)))
-      (and-false (leb (marks_end (job_at jobs i)) size))
+      grind (arith, nat_tests, all_fails (apart_unless_same jobs i) (length jobs) j l)
 
 -- ---- the first misplaced job
 
@@ -104,18 +95,10 @@ fold_min a b (x ∷ xs) =
 
 -- What was found is below the bound, and where nothing was found the number is not.
 some_below : (bound number found : ℕ) → Some found ≡ found_below bound number → found ≡ number
-some_below bound number found e = by (ltb number bound) e
-  where
-    by : (below : Bool) → Some found ≡ cond below (Some number) None → found ≡ number
-    by true e = cc
-    by false e = absurd cc
+some_below bound number found e = grind (arith, nat_tests)
 
 none_below : (bound number : ℕ) → None ≡ found_below bound number → bound ≤ number
-none_below bound number e = by (ltb number bound) refl e
-  where
-    by : (below : Bool) → ltb number bound ≡ below → None ≡ cond below (Some number) None → bound ≤ number
-    by true p e = absurd cc
-    by false p e = ltb-false number bound p
+none_below bound number e = grind (arith, nat_tests)
 
 -- A number below the bound and the least of those found.
 found_more : (bound number least : ℕ) (found : List ℕ) → number < bound → least ≤ bound
@@ -165,39 +148,10 @@ module _ (marks : List ℕ) where
 -- A place that was found is refused, and where none was, nothing is.
 pub refused_at : (size first place : ℕ) → Some place ≡ found_below size first
     → Err (MarkBroken place) ≡ refused_if (ltb first size) (MarkBroken first)
-refused_at size first place e = by (ltb first size) e
-  where
-    by : (below : Bool) → Some place ≡ cond below (Some first) None → Err (MarkBroken place) ≡ refused_if below (MarkBroken first)
-    by true e = cc
-    by false e = absurd cc
+refused_at size first place e = grind (arith, nat_tests)
 
 pub refused_nowhere : (size first : ℕ) → None ≡ found_below size first → Ok tt ≡ refused_if (ltb first size) (MarkBroken first)
-refused_nowhere size first e = rw (le-ltb first size (none_below size first e)) refl
-
--- ---- the turn of one job
-
-module _ (i : ℕ) (job : Job) (marks : List ℕ) where
-  -- A job that has a turn has unmarked tasks,
-  pub turn_waits : (found : Turn) → turn_of i job marks ≡ Some found → job_done job marks ≡ false
-  turn_waits found e = by (job_done job marks) refl (first_ready (grid_of job) (marked_in job marks)) refl e
-    where
-      by : (done : Bool) → job_done job marks ≡ done → (next : Next) → first_ready (grid_of job) (marked_in job marks) ≡ next
-          → turn_with i next ≡ Some found → done ≡ false
-      by false d next q e = refl
-      by true d Nothing q e = cc
-      by true d (Ready t k) q e =
-          let ready = found_ready (grid_of job) (marked_in job marks) t k q in
-          clash (done_all job marks d t k (ready_exists (grid_of job) (marked_in job marks) t k ready))
-          (ready_undone (grid_of job) (marked_in job marks) t k ready)
-
-  -- and one that has none is done.
-  pub no_turn_done : turn_of i job marks ≡ None → job_done job marks ≡ true
-  no_turn_done e = by (first_ready (grid_of job) (marked_in job marks)) refl e
-    where
-      by : (next : Next) → first_ready (grid_of job) (marked_in job marks) ≡ next → turn_with i next ≡ None
-          → job_done job marks ≡ true
-      by Nothing q e = all_done_law job marks (none_all (grid_of job) (marked_in job marks) q)
-      by (Ready t k) q e = absurd cc
+refused_nowhere size first e = grind (arith, nat_tests)
 
 -- ---- the first turn, going round
 
