@@ -1,11 +1,12 @@
 -- Which test decides: what each says where it refuses the call, and what is known where it does not. Assumes nothing.
-use mathlib.Core.Path.{◌≡◌, refl}
-use mathlib.Core.Bool.{Bool, true, false, not}
+use mathlib.Core.Path.{◌≡◌}
+use mathlib.Core.Bool.{true, false, not}
 use mathlib.Core.List.{List}
 use Prim.Native.Nat.{ℕ}
+use native.Mathlib.Omega.{arith}
 use lib.Dec.{ltb}
 use lib.ListN.{length}
-use borrow.Author.Tests.{not-false}
+use Rattle.std.proofs.lemmas.Bool.Decides.{nat_tests}
 use Rattle.std.specs.Prelude.{Option, Result, Ok, Err}
 use Rattle.std.proofs.lemmas.List.Elements.{All-from_get_or}
 use Rattle.refusal.specs.declared.Refusal.{Refusal}
@@ -19,16 +20,6 @@ use Rattle.turns.specs.Answers.{Kept}
 use Rattle.turns.proofs.Least.{least_bound}
 use Rattle.turns.proofs.Parts.{tested_kept, searched_placed, marks_inside}
 use Rattle.dispatch.specs.Part.{JobLent, JobsLent, refused_if}
-
--- What a test that refuses says,
-refuses : (due : Bool) (cause e : Refusal) → Err e ≡ refused_if due cause → (due ≡ true) × (e ≡ cause)
-refuses true cause e q = (refl, cc)
-refuses false cause e q = absurd cc
-
--- and one that does not.
-passes : (due : Bool) (cause : Refusal) → Ok tt ≡ refused_if due cause → due ≡ false
-passes true cause q = absurd cc
-passes false cause q = refl
 
 module _ (jobs : List Job) (last : ℕ) (marks : List ℕ) where
   abbrev sizes_tested : Result Unit Refusal
@@ -46,22 +37,22 @@ module _ (jobs : List Job) (last : ℕ) (marks : List ℕ) where
 
   pub refused_6 : (e : Refusal) → Err e ≡ sizes_tested → Says (Err e)
   unfolding dispatch dispatch_rows
-  refused_6 e q = let (six, is) = refuses _ _ e q in rw (is, six)
+  refused_6 e q = grind (arith, nat_tests)
 
   module _ (sizes : Ok tt ≡ sizes_tested) where
-    no_6 : not (jobs_kept jobs) ≡ false
-    no_6 = passes _ _ sizes
+    no_6 : jobs_kept jobs ≡ true
+    no_6 = grind (arith, nat_tests)
 
     pub sizes_passed : Kept jobs
-    sizes_passed = tested_kept jobs (not-false (jobs_kept jobs) no_6)
+    sizes_passed = tested_kept jobs no_6
 
     pub refused_18 : (e : Refusal) → Err e ≡ places_tested → Says (Err e)
     unfolding dispatch dispatch_rows
-    refused_18 e q = let (eighteen, is) = refuses _ _ e q in rw (is, no_6, eighteen)
+    refused_18 e q = grind (arith, nat_tests, no_6)
 
     module _ (places : Ok tt ≡ places_tested) where
       no_18 : ltb (first_misplaced jobs (length marks)) (length jobs) ≡ false
-      no_18 = passes _ _ places
+      no_18 = grind (arith, nat_tests)
 
       pub places_passed : JobsLent jobs (length marks)
       unfolding first_misplaced
@@ -78,8 +69,8 @@ module _ (jobs : List Job) (last : ℕ) (marks : List ℕ) where
 
       pub refused_9 : (e : Refusal) → Err e ≡ marks_tested → Says (Err e)
       unfolding dispatch dispatch_rows
-      refused_9 e q = let (nine, is) = refuses _ _ e q in rw (is, no_6, no_18, nine)
+      refused_9 e q = grind (arith, nat_tests, no_6, no_18)
 
       pub made : Ok tt ≡ marks_tested → (found : Option Turn) → found ≡ turn jobs last marks → Says (Ok found)
       unfolding dispatch dispatch_rows
-      made q found is = rw (is, no_6, no_18, passes _ _ q)
+      made q found is = grind (arith, nat_tests, no_6, no_18)

@@ -6,7 +6,7 @@ use mathlib.Core.List.{List, [], ◌∷◌}
 use Prim.Native.Nat.{ℕ, zero, suc, ◌+◌, ◌<◌, ◌≤◌, min}
 use native.Mathlib.Omega.{arith}
 use native.Mathlib.Numerals.{add-one}
-use lib.Dec.{leb, ltb}
+use lib.Dec.{leb}
 use lib.ListN.{length, take}
 use borrow.Author.Tests.{lt-ltb, le-ltb}
 use borrow.Author.Count.{below_more}
@@ -14,8 +14,7 @@ use lib.Seq.{take_all}
 use Rattle.std.specs.List.{list_all, filter_map, fold, reduce}
 use Rattle.std.proofs.lemmas.Bool.Decides.{nat_tests}
 use Rattle.std.proofs.lemmas.List.Folds.{list_all_more}
-use Rattle.std.specs.Prelude.{None, Some, Ok, Err}
-use Rattle.refusal.specs.declared.Refusal.TheVariants.{MarkBroken}
+use Rattle.std.specs.Prelude.{None, Some}
 use Rattle.number.specs.Numbers.{all_below}
 use Rattle.number.proofs.Tests.{and_both, all_fails, lt_or_ge}
 use Rattle.number.proofs.Sums.{all_below_law}
@@ -25,7 +24,7 @@ use Rattle.turns.specs.Jobs.{job_limit, least_from, job_at, sizes_kept, jobs_kep
 use Rattle.turns.specs.Turn.{job_done, going_round, waits, passed_over, turn_of, turn}
 use Rattle.turns.proofs.Turns.{turn_waits, no_turn_done, turn_found, turn_none}
 use Rattle.turns.proofs.Least.{least_none, least_is, least_most, least_either}
-use Rattle.dispatch.specs.Part.{found_below, first_broken_of, refused_if}
+use Rattle.dispatch.specs.Part.{found_below, first_broken_of}
 
 -- ---- the sizes
 
@@ -144,14 +143,6 @@ module _ (marks : List ℕ) where
       let m : min number least ≡ least = omega arith in
       rw (le-ltb number n g, m) (first_found jobs))
       (lt_or_ge number n))
-
--- A place that was found is refused, and where none was, nothing is.
-pub refused_at : (size first place : ℕ) → Some place ≡ found_below size first
-    → Err (MarkBroken place) ≡ refused_if (ltb first size) (MarkBroken first)
-refused_at size first place e = grind (arith, nat_tests)
-
-pub refused_nowhere : (size first : ℕ) → None ≡ found_below size first → Ok tt ≡ refused_if (ltb first size) (MarkBroken first)
-refused_nowhere size first e = grind (arith, nat_tests)
 
 -- ---- the first turn, going round
 

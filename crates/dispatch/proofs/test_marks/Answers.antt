@@ -1,11 +1,12 @@
 -- The least of the jobs' first broken places is the first of all. Assumes nothing.
-use Rattle.std.proofs.Common.{rules, tests, length, ◌≡◌, sym, ◌∙◌}
+use Rattle.std.proofs.Common.{arith, rules, tests, length, ◌≡◌, sym, ◌∙◌}
+use Rattle.std.proofs.lemmas.Bool.Decides.{nat_tests}
 use Rattle.std.proofs.lemmas.Iterator.Adapters.{option_map_id}
 use Rattle.std.proofs.lemmas.Iterator.{YieldsList-from_slice}
 use Rattle.std.proofs.lemmas.Iterator.Consumers.{YieldsList-at, YieldsList-from_filter_map, min_from_yields_List}
 use Rattle.turns.specs.Jobs.{first_broken_place}
 use Rattle.dispatch.specs.Part.{found_below, first_broken_of}
-use Rattle.dispatch.proofs.Searching.{first_found, refused_at, refused_nowhere}
+use Rattle.dispatch.proofs.Searching.{first_found}
 use Rattle.dispatch.proofs.test_marks.Goals as goal
 use Rattle.dispatch.proofs.test_marks.Goals.{After-min}
 
@@ -21,7 +22,7 @@ found c =
     ∙ first_found marks jobs
 
 pub returns-in-Some : goal.returns-in-Some
-returns-in-Some c = refused_at _ _ _ (sym c.in-Some.is ∙ found (goal.at.returns-in-Some c).After-min)
+returns-in-Some c = let e = found (goal.at.returns-in-Some c).After-min in grind (arith, nat_tests)
 
 pub returns-in-None : goal.returns-in-None
-returns-in-None c = refused_nowhere _ _ (sym c.in-None.is ∙ found (goal.at.returns-in-None c).After-min)
+returns-in-None c = let e = found (goal.at.returns-in-None c).After-min in grind (arith, nat_tests)
