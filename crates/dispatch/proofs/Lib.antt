@@ -1,4 +1,3 @@
 pub mod Parts
 pub mod Searching
-pub mod Stages
-pub mod Walking
+pub mod Deciding

@@ -1,14 +1,16 @@
 -- One job's part of the common marks list: where it ends, whether two overlap, and its least broken place. Assumes nothing.
 use mathlib.Core.Path.{◌≡◌, refl, sym, ap, ◌∙◌}
 use mathlib.Core.Logic.{⊎_elim}
-use mathlib.Core.Bool.{Bool, true, false, not}
+use mathlib.Core.Bool.{Bool, true, false, not, ◌&&◌}
 use mathlib.Core.List.{List}
+use Rattle.std.specs.Prelude.{None, Some}
 use Prim.Native.Nat.{ℕ, ◌+◌, ◌-◌, ◌<◌, ◌≤◌}
 use native.Mathlib.Omega.{arith}
-use lib.Dec.{leb}
+use lib.Dec.{leb, ltb}
 use lib.ListN.{length, take, drop, length-drop}
 use lib.Seq.{take_all}
-use borrow.Author.Tests.{leb-true, leb-false, le-leb, lt-leb, lt-ltb, le-ltb, not-true, not-false}
+use borrow.Author.Tests.{lt-ltb, le-ltb, not-true, not-false}
+use Rattle.std.proofs.lemmas.Bool.Decides.{nat_tests}
 use Rattle.number.proofs.Tests.{lt_or_ge}
 use Rattle.grid.specs.declared.Grid.{Grid}
 use Rattle.grid.specs.Grid.{block_total}
@@ -21,41 +23,17 @@ use Rattle.turns.specs.Jobs.{least_from, grid_of, marks_end, overlap, broken_for
 use Rattle.turns.specs.Turn.{marks_from}
 use Rattle.turns.proofs.Least.{clash, least_below_law, least_holds, least_none, least_most, least_is}
 use Rattle.turns.proofs.Parts.{broken_there, broken_mark, valid_unbroken}
-use Rattle.dispatch.specs.Part.{JobLent, broken_of}
-
--- ---- the end of a part, compared with a place without a sum
-
-module _ (job : Job) (place : ℕ) where
-  pub ends_before_start : place < job.marks_start → false ≡ leb (marks_end job) place
-  ends_before_start l = sym (lt-leb (marks_end job) place (omega arith))
-
-  pub ends_by_rest : job.marks_start ≤ place → leb (block_total (grid_of job)) (place - job.marks_start) ≡ leb (marks_end job) place
-  ends_by_rest l =
-      let blocks = block_total (grid_of job) in
-      let rest = place - job.marks_start in
-      ⊎_elim (λ (h : rest < blocks). lt-leb blocks rest h ∙ sym (lt-leb (marks_end job) place (omega arith)))
-      (λ (h : blocks ≤ rest). le-leb blocks rest h ∙ sym (le-leb (marks_end job) place (omega arith)))
-      (lt_or_ge rest blocks)
+use Rattle.dispatch.specs.Part.{JobLent, first_broken_of}
 
 -- ---- whether the parts of two jobs overlap
 
-module _ (a b : Job) where
-  -- They do not where b ends before a starts;
-  pub ends_apart : leb (marks_end b) a.marks_start ≡ true → overlap a b ≡ false
-  unfolding overlap
-  ends_apart e = rw (le-ltb a.marks_start (marks_end b) (leb-true (marks_end b) a.marks_start e))
-
-  -- else they do unless a ends before b starts.
-  pub overlaps_unless : leb (marks_end b) a.marks_start ≡ false → overlap a b ≡ not (leb (marks_end a) b.marks_start)
-  unfolding overlap
-  overlaps_unless e =
-      rw (lt-ltb a.marks_start (marks_end b) (leb-false (marks_end b) a.marks_start e))
-      (⊎_elim
-      (λ (h : b.marks_start < marks_end a).
-      lt-ltb b.marks_start (marks_end a) h ∙ sym (ap not (lt-leb (marks_end a) b.marks_start h)))
-      (λ (h : marks_end a ≤ b.marks_start).
-      le-ltb b.marks_start (marks_end a) h ∙ sym (ap not (le-leb (marks_end a) b.marks_start h)))
-      (lt_or_ge b.marks_start (marks_end a)))
+-- They do unless one ends before the other starts.
+pub overlap_ends : (a b : Job) → overlap a b ≡ (not (leb (marks_end b) a.marks_start) && not (leb (marks_end a) b.marks_start))
+unfolding overlap
+overlap_ends a b = rw (before a.marks_start (marks_end b), before b.marks_start (marks_end a))
+  where
+    before : (m n : ℕ) → ltb m n ≡ not (leb n m)
+    before m n = grind (arith, nat_tests)
 
 -- ---- the part itself
 
@@ -90,7 +68,11 @@ first_failing grid marks =
     (lt_or_ge n (block_total grid))
 
 module _ (marks : List ℕ) (job : Job) where
-  module _ (inside : marks_end job ≤ length marks) (broken : ℕ) (is : broken ≡ first_broken (grid_of job) (marks_from job marks)) where
+  module _ (inside : marks_end job ≤ length marks) (grid : Grid) (is_grid : grid ≡ grid_of job) (broken : ℕ)
+      (is_first : broken ≡ first_broken grid (take (length marks - job.marks_start) (drop job.marks_start marks))) where
+    is : broken ≡ first_broken (grid_of job) (marks_from job marks)
+    is = rw (part_all job.marks_start marks, is_grid) at is_first
+
     fails : ℕ → Bool
     fails k = not (mark_valid_at (grid_of job) (marks_from job marks) k)
 
@@ -110,15 +92,21 @@ module _ (marks : List ℕ) (job : Job) where
             let f = first in
             clash (ap not invalid) (least_below_law fails 0 (block_total (grid_of job)) k (omega arith) (omega arith))
 
-    pub broken_at_law : broken < block_total (grid_of job) → job.marks_start + broken ≡ broken_of marks job
+    pub broken_at_law : broken < block_total grid → Some (job.marks_start + broken) ≡ first_broken_of marks job
     unfolding fails
-    broken_at_law l =
-        sym
-        (least_is (broken_for marks job) (length marks) (job.marks_start + broken) (omega arith) sound_below
-        (λ h. broken_there marks job broken l ∙ rw first at (least_holds fails 0 (block_total (grid_of job)) (omega (arith, first)))))
+    broken_at_law h =
+        let l : broken < block_total (grid_of job) = rw is_grid at h in
+        let e : least_from (broken_for marks job) 0 (length marks) ≡ job.marks_start + broken =
+        least_is (broken_for marks job) (length marks) (job.marks_start + broken) (omega arith) sound_below
+        (λ h. broken_there marks job broken l ∙ rw first at (least_holds fails 0 (block_total (grid_of job)) (omega (arith, first)))) in
+        rw (e, lt-ltb (job.marks_start + broken) (length marks) (omega arith))
 
-    pub broken_nowhere : block_total (grid_of job) ≤ broken → length marks ≡ broken_of marks job
+    pub broken_nowhere : block_total grid ≤ broken → None ≡ first_broken_of marks job
     unfolding first_broken
-    broken_nowhere l =
+    broken_nowhere h =
+        let l : block_total (grid_of job) ≤ broken = rw is_grid at h in
+        let e = is in
         let valid = none_broken_valid (grid_of job) (marks_from job marks) (omega arith) in
-        sym (least_none (broken_for marks job) 0 (length marks) (λ place a b. valid_unbroken marks job valid place) ∙ omega arith)
+        let e : least_from (broken_for marks job) 0 (length marks) ≡ length marks =
+        least_none (broken_for marks job) 0 (length marks) (λ place a b. valid_unbroken marks job valid place) ∙ omega arith in
+        rw (e, le-ltb (length marks) (length marks) (omega arith))

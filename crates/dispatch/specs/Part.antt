@@ -1,13 +1,28 @@
--- Inner: one job's part of the common marks list.
-use Rattle.std.specs.Prelude.{◌≡◌, true, List, ℕ, ◌≤◌, length}
+-- Inner: the parts that jobs have in the common marks list, and what a test of a call answers.
+use Rattle.std.specs.Prelude.{◌≡◌, Bool, true, cond, List, ℕ, ◌≤◌, ltb, length, Option, None, Some, Result, Ok, Err}
+use Rattle.std.specs.List.{All}
+use Rattle.refusal.specs.declared.Refusal.{Refusal}
 use Rattle.turns.specs.declared.Job.{Job}
-use Rattle.turns.specs.Jobs.{least_from, sizes_kept, marks_end, broken_for}
+use Rattle.turns.specs.Jobs.{job_limit, least_from, sizes_kept, marks_end, broken_for}
 
 -- A job has sizes in range, and its marks lie inside a list of `size` places.
 pub record JobLent (job : Job) (size : ℕ) : Type 0 where
   pub kept : sizes_kept job ≡ true
   pub inside : marks_end job ≤ size
 
--- The least place of a broken mark of one job; the list's length where there is none.
-abbrev pub broken_of : List ℕ → Job → ℕ
-broken_of marks job = least_from (broken_for marks job) 0 (length marks)
+-- There are at most eight jobs, and so it is for each of them.
+pub record JobsLent (jobs : List Job) (size : ℕ) : Type 0 where
+  pub few : length jobs ≤ job_limit
+  pub each : All (λ job. JobLent job size) jobs
+
+-- A number where it is below a bound, as what a search found.
+abbrev pub found_below : (bound number : ℕ) → Option ℕ
+found_below bound number = cond (ltb number bound) (Some number) None
+
+-- The least place of a broken mark of one job; none where there is none.
+abbrev pub first_broken_of : List ℕ → Job → Option ℕ
+first_broken_of marks job = found_below (length marks) (least_from (broken_for marks job) 0 (length marks))
+
+-- A test refuses for a cause where it is due.
+abbrev pub refused_if : Bool → Refusal → Result Unit Refusal
+refused_if due cause = cond due (Err cause) (Ok tt)

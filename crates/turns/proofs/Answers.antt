@@ -80,7 +80,7 @@ decided false true c job mark number place e =
 decided false false true job mark number place e =
     let n : 9 ≡ number = cc in
     record { by_6 = λ q. absurd (omega arith); by_18 = λ q. absurd (omega arith); by_9 = λ q. (refl, refl, refl, cc); only = inr (inr (sym n)) }
-decided false false false job mark number place e = let z : ◌≡◌ {A = ℕ} 0 1 = cc in absurd (omega arith)
+decided false false false job mark number place e = absurd cc
 
 module _ (jobs : List Job) (last : ℕ) (marks : List ℕ) where
   rows_decided : (number place : ℕ) → (dispatch jobs last marks).answer ≡ refused number place

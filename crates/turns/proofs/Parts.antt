@@ -2,24 +2,25 @@
 -- what their searches pass. Assumes nothing.
 use mathlib.Core.Path.{◌≡◌, refl, sym, ap, ap₂, ◌∙◌}
 use mathlib.Core.Logic.{⊎_elim, ◌≢◌}
-use mathlib.Core.Bool.{Bool, true, false, not, ◌&&◌, ◌||◌, and-false, true≢false}
+use mathlib.Core.Bool.{Bool, true, false, not, ◌&&◌, true≢false}
 use mathlib.Core.List.{List}
 use Prim.Native.Nat.{ℕ, zero, suc, ◌+◌, ◌-◌, ◌<◌, ◌≤◌, max}
 use native.Mathlib.Omega.{arith}
 use native.Mathlib.Nat.{mul-le-mul}
-use lib.Dec.{ltb, leb, eqb}
+use lib.Dec.{leb}
 use lib.ListN.{length}
 use lib.Seq.{get_or-drop}
-use borrow.Author.Tests.{ltb-true, leb-true, leb-false, eqb-false, not-true, not-false, le-leb, lt-leb, lt-ltb, ne_eqb}
+use Rattle.std.proofs.lemmas.Bool.Decides.{nat_tests}
+use borrow.Author.Tests.{not-true, not-false}
 use Rattle.number.specs.Numbers.{all_below}
-use Rattle.number.proofs.Tests.{and_left, and_right, and_both, lt_or_ge, or_left, or_right, all_at, all_fails}
+use Rattle.number.proofs.Tests.{and_left, lt_or_ge, all_at, all_fails}
 use Rattle.number.proofs.Sums.{all_below_law}
 use Rattle.grid.specs.Grid.{block_total}
 use Rattle.grid.proofs.Blocks.{ranges}
 use Rattle.tasks.specs.Marks.{mark_valid, mark_valid_at}
 use Rattle.tasks.proofs.Marking.{Valid}
 use Rattle.turns.specs.declared.Job.{Job}
-use Rattle.turns.specs.Jobs.{job_limit, job_at, grid_of, sizes_kept, jobs_kept, marks_end, overlap, apart_unless_same, well_placed, first_misplaced, holds_place, broken_for, broken_place, first_broken_place}
+use Rattle.turns.specs.Jobs.{job_at, grid_of, sizes_kept, jobs_kept, marks_end, overlap, apart_unless_same, well_placed, first_misplaced, holds_place, broken_for, broken_place, first_broken_place}
 use Rattle.turns.specs.Turn.{marks_from}
 use Rattle.turns.specs.Answers.{Kept, Misplaced, past_the_list, shared, OverlapIsShared, Sound, BrokenMark, LetThrough}
 use Rattle.turns.proofs.Least.{clash, least_below_law, least_none}
@@ -40,14 +41,14 @@ one_fails test (suc n) e = by (all_below test n) refl e (one_fails test n)
 -- The test says what `Kept` says.
 pub kept_tested : (jobs : List Job) → Kept jobs → jobs_kept jobs ≡ true
 unfolding jobs_kept
-kept_tested jobs kept = and_both (le-leb (length jobs) job_limit kept.few) (all_below_law _ (length jobs) kept.sizes)
+kept_tested jobs kept = grind (arith, nat_tests, all_below_law (λ i. sizes_kept (job_at jobs i)) (length jobs) kept.sizes)
 
 pub tested_kept : (jobs : List Job) → jobs_kept jobs ≡ true → Kept jobs
 unfolding jobs_kept
 tested_kept jobs e =
     record {
-      few = leb-true (length jobs) job_limit (and_left (leb (length jobs) job_limit) _ e);
-      sizes = λ i l. all_at _ (length jobs) i (and_right (leb (length jobs) job_limit) _ e) l;
+      few = grind (arith, nat_tests);
+      sizes = λ i l. grind (arith, nat_tests, all_at (λ i. sizes_kept (job_at jobs i)) (length jobs) i);
     }
 
 -- ---- 18: where the marks lie
@@ -56,15 +57,11 @@ tested_kept jobs e =
 module _ (job : Job) (place : ℕ) where
   pub holds : job.marks_start ≤ place → place < marks_end job → holds_place job place ≡ true
   unfolding holds_place
-  holds l h = and_both (le-leb job.marks_start place l) (lt-ltb place (marks_end job) h)
+  holds l h = grind (arith, nat_tests)
 
   pub held : holds_place job place ≡ true → (job.marks_start ≤ place) × (place < marks_end job)
   unfolding holds_place
-  held e =
-      let s = job.marks_start in (
-        leb-true s place (and_left (leb s place) (ltb place (marks_end job)) e),
-        ltb-true place (marks_end job) (and_right (leb s place) (ltb place (marks_end job)) e),
-      )
+  held e = (grind (arith, nat_tests), grind (arith, nat_tests))
 
 -- Marks with a common place overlap.
 shared_overlap : (a b : Job) (place : ℕ) → holds_place a place ≡ true → holds_place b place ≡ true → overlap a b ≡ true
@@ -72,7 +69,7 @@ unfolding overlap
 shared_overlap a b place p q =
     let in_a = held a place p in
     let in_b = held b place q in
-    and_both (lt-ltb a.marks_start (marks_end b) (omega arith)) (lt-ltb b.marks_start (marks_end a) (omega arith))
+    grind (arith, nat_tests)
 
 -- Marks that overlap share the greater of the two starts, since each job has at least one mark.
 overlap_shared : (a b : Job) → sizes_kept a ≡ true → sizes_kept b ≡ true → overlap a b ≡ true
@@ -81,8 +78,8 @@ unfolding overlap
 overlap_shared a b kept_a kept_b e =
     let some_a = job_marks a kept_a in
     let some_b = job_marks b kept_b in
-    let l = ltb-true a.marks_start (marks_end b) (and_left (ltb a.marks_start (marks_end b)) _ e) in
-    let h = ltb-true b.marks_start (marks_end a) (and_right (ltb a.marks_start (marks_end b)) _ e) in
+    let l : a.marks_start < marks_end b = grind (arith, nat_tests) in
+    let h : b.marks_start < marks_end a = grind (arith, nat_tests) in
     let place = max a.marks_start b.marks_start in
     (place, holds a place (omega arith) (omega arith), holds b place (omega arith) (omega arith))
   where
@@ -99,12 +96,14 @@ module _ (jobs : List Job) (size i : ℕ) where
   -- A misplaced job does not pass the test,
   pub misplaced_tested : Misplaced jobs size i → well_placed jobs size i ≡ false
   unfolding well_placed
-  misplaced_tested (past_the_list l) = rw (lt-leb (marks_end (job_at jobs i)) size l)
+  misplaced_tested (past_the_list l) = grind (arith, nat_tests)
   misplaced_tested (shared j place h ne p q) =
-      let over = shared_overlap (job_at jobs i) (job_at jobs j) place p q in
-      let apart : apart_unless_same jobs i j ≡ false = ap₂ (λ same x. same || not x) (ne_eqb j i ne) over in
-      rw (all_fails (apart_unless_same jobs i) (length jobs) j h apart)
-      (and-false (leb (marks_end (job_at jobs i)) size))
+      grind (
+        arith,
+        nat_tests,
+        shared_overlap (job_at jobs i) (job_at jobs j) place p q,
+        all_fails (apart_unless_same jobs i) (length jobs) j h,
+      )
 
   -- and one that does not pass is misplaced.
   pub tested_misplaced : Kept jobs → i < length jobs → well_placed jobs size i ≡ false → Misplaced jobs size i
@@ -113,12 +112,12 @@ module _ (jobs : List Job) (size i : ℕ) where
     where
       by : (inside : Bool) → leb (marks_end (job_at jobs i)) size ≡ inside
           → (inside && all_below (apart_unless_same jobs i) (length jobs)) ≡ false → Misplaced jobs size i
-      by false p e = past_the_list (leb-false (marks_end (job_at jobs i)) size p)
+      by false p e = past_the_list (grind (arith, nat_tests))
       by true p e =
           let (j, h, f) = one_fails (apart_unless_same jobs i) (length jobs) e in
-          let o = not-false (overlap (job_at jobs i) (job_at jobs j)) (or_right (eqb j i) _ f) in
+          let o : overlap (job_at jobs i) (job_at jobs j) ≡ true = grind (arith, nat_tests) in
           let (place, x, y) = overlap_shared (job_at jobs i) (job_at jobs j) (kept.sizes i l) (kept.sizes j h) o in
-          shared j place h (eqb-false j i (or_left (eqb j i) _ f)) x y
+          shared j place h (grind (arith, nat_tests)) x y
 
 -- No job is misplaced.
 abbrev pub Placed : List Job → (size : ℕ) → Type 0
@@ -141,8 +140,7 @@ module _ (jobs : List Job) (size : ℕ) where
   pub searched_placed : first_misplaced jobs size ≡ length jobs → Placed jobs size
   unfolding first_misplaced
   searched_placed e i h m =
-      let passed = least_below_law (λ j. not (well_placed jobs size j)) 0 (length jobs) i (omega arith) (omega arith) in
-      clash (not-false (well_placed jobs size i) passed) (misplaced_tested jobs size i m)
+      grind (arith, nat_tests, least_below_law (λ j. not (well_placed jobs size j)) 0 (length jobs) i, misplaced_tested jobs size i m)
 
 module _ (jobs : List Job) (size : ℕ) (placed : Placed jobs size) where
   -- The marks of every job end inside the list.

@@ -18,11 +18,11 @@ use Rattle.grid.specs.Grid.{block_total}
 use Rattle.tasks.specs.Tasks.{exists}
 use Rattle.tasks.specs.Marks.{is_marked}
 use Rattle.tasks.proofs.Existence.{exists_block, exists_task}
-use Rattle.tasks.proofs.Needs.{All}
+use Rattle.tasks.proofs.Needs.{All, ready_exists, ready_undone}
 use Rattle.report.specs.declared.Next.{Next}
 use Rattle.report.specs.declared.Next.TheVariants.{Ready, Nothing}
 use Rattle.report.specs.Report.{first_ready}
-use Rattle.report.proofs.Claims.{none_all}
+use Rattle.report.proofs.Claims.{none_all, found_ready}
 use Rattle.turns.specs.declared.Job.{Job}
 use Rattle.turns.specs.declared.Turn.{Turn}
 use Rattle.turns.specs.Jobs.{job_at, grid_of}
@@ -186,6 +186,31 @@ begins_with_first jobs last past d l =
     let e : 0 + d ≡ d = omega arith in
     rw (look_first jobs last past, e) (mod-eq_of_lt l)
 
+-- ---- the turn of one job
+
+module _ (i : ℕ) (job : Job) (marks : List ℕ) where
+  -- A job that has a turn has unmarked tasks,
+  pub turn_waits : (found : Turn) → turn_of i job marks ≡ Some found → job_done job marks ≡ false
+  turn_waits found e = by (job_done job marks) refl (first_ready (grid_of job) (marked_in job marks)) refl e
+    where
+      by : (done : Bool) → job_done job marks ≡ done → (next : Next) → first_ready (grid_of job) (marked_in job marks) ≡ next
+          → turn_with i next ≡ Some found → done ≡ false
+      by false d next q e = refl
+      by true d Nothing q e = absurd cc
+      by true d (Ready t k) q e =
+          let ready = found_ready (grid_of job) (marked_in job marks) t k q in
+          clash (done_all job marks d t k (ready_exists (grid_of job) (marked_in job marks) t k ready))
+          (ready_undone (grid_of job) (marked_in job marks) t k ready)
+
+  -- and one that has none is done.
+  pub no_turn_done : turn_of i job marks ≡ None → job_done job marks ≡ true
+  no_turn_done e = by (first_ready (grid_of job) (marked_in job marks)) refl e
+    where
+      by : (next : Next) → first_ready (grid_of job) (marked_in job marks) ≡ next → turn_with i next ≡ None
+          → job_done job marks ≡ true
+      by Nothing q e = all_done_law job marks (none_all (grid_of job) (marked_in job marks) q)
+      by (Ready t k) q e = absurd cc
+
 -- ---- a turn
 
 module _ (jobs : List Job) (last : ℕ) (marks : List ℕ) where
@@ -233,14 +258,13 @@ module _ (jobs : List Job) (last : ℕ) (marks : List ℕ) where
       ⊎_elim (λ (l : passed_over jobs last marks < length jobs). by l _ refl (sym (turn_found l) ∙ e))
       (λ (g : length jobs ≤ passed_over jobs last marks).
       let none = turn_none g in
-      let z : ◌≡◌ {A = ℕ} 0 1 = cc in
-      absurd (omega arith))
+      absurd cc)
       (lt_or_ge (passed_over jobs last marks) (length jobs))
     where
       by : passed_over jobs last marks < length jobs → (next : Next)
           → first_ready (grid_of (job_at jobs next_job)) (marked_in (job_at jobs next_job) marks) ≡ next
           → turn_with next_job next ≡ Some (turn_to i t k) → Found i t k
-      by l Nothing q e = let z : ◌≡◌ {A = ℕ} 0 1 = cc in absurd (omega arith)
+      by l Nothing q e = absurd cc
       by l (Ready u b) q e =
           let same : turn_to next_job u b ≡ turn_to i t k = cc in
           rw (← ap (λ (found : Turn). found.job) same, ← ap (λ (found : Turn). found.task) same, ← ap (λ (found : Turn). found.block) same)
@@ -255,8 +279,7 @@ module _ (jobs : List Job) (last : ℕ) (marks : List ℕ) where
       by false p =
           let (d, l, q) = come_to jobs last i h in
           let (w, m, t, k, n) = names_upto d l (rw q p) in
-          let z : ◌≡◌ {A = ℕ} 0 1 = cc in
-          absurd (omega arith)
+          absurd cc
 
   -- and one that finds every job done names none.
   pub all_done_none : ((i : ℕ) → i < length jobs → job_done (job_at jobs i) marks ≡ true) → turn jobs last marks ≡ None
