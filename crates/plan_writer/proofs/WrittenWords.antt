@@ -10,6 +10,7 @@ use lib.Dec.{leb}
 use lib.ListN.{length, set, drop, length-append}
 use lib.Seq.{sets, sets-eq, length-sets}
 use mir.ValLaws.{to_z-of_z}
+use Rattle.std.proofs.lemmas.List.{get_or-take}
 use borrow.Author.Tests.{lt-ltb}
 use Rattle.grid.specs.Grid.{grid_kept}
 use Rattle.plan.specs.declared.Pass.{Pass}
@@ -23,7 +24,7 @@ use Rattle.number.proofs.Tests.{and_right, all_at}
 use Rattle.buffer.specs.Lists.{list_of, joined}
 use Rattle.buffer.proofs.Listed.{listed_length}
 use Rattle.plan_writer.specs.Room.{PassFits}
-use Rattle.plan_writer.specs.WritePlan.{payload28, pass_payload, coefficient_words, pass_words, passes_words, size_word, words_of}
+use Rattle.plan_writer.specs.WritePlan.{payload28, coefficient_words, pass_words, passes_words, size_word, words_of}
 use Rattle.number.specs.KindWords.{word_of}
 
 sets_append : (a b l : List ℕ) (i : ℕ) → sets l i (a ++ b) ≡ sets (sets l i a) (i + length a) b
@@ -68,7 +69,7 @@ module _ (pass : Pass) (words : List ℕ) (place : ℕ) where
   more_coefficients count =
       rw (add-one count) (sets_parts (coefficient_words pass count) _ words place count (length_coefficients pass count))
 
-pub ruleset coefficients_written = (no_coefficients, more_coefficients, coefficient_signed, to_z-of_z, length-sets)
+pub ruleset coefficients_written = (no_coefficients, more_coefficients, coefficient_signed, to_z-of_z, length-sets, get_or-take)
 
 -- ---- one pass
 

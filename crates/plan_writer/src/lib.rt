@@ -65,8 +65,8 @@ fn write_coefficients(pass: Pass, words: &mut [u32], place: usize)
     requires { CoefficientsFit (length words.old) pass place }
     ensures { words.new ≡ sets words.old place (coefficient_words pass pass.order) }
 {
-    for j in 0..pass.order {
-        words[place + j] = value_word(Kind::Coefficient, pass.coefficients[j]);
+    for (j, value) in pass.coefficients[..pass.order].iter().enumerate() {
+        words[place + j] = value_word(Kind::Coefficient, *value);
     }
 }
 

@@ -1,6 +1,6 @@
 -- `write_plan` meets its contract: refused by the record or the room, or the words are written. Assumes nothing.
 use Rattle.std.proofs.Common.{rules}
-use mathlib.Core.Path.{◌≡◌, ◌∙◌}
+use mathlib.Core.Path.{◌∙◌}
 use Rattle.plan_writer.proofs.WriteAnswers.{call_refused, writable, written_call}
 use Rattle.plan_writer.proofs.write_plan.Goals as goal
 
