@@ -5,9 +5,11 @@ use Prim.Native.Nat.{ℕ, ◌+◌, ◌<◌, ◌≤◌, ◌^◌}
 use native.Mathlib.Omega.{arith}
 use native.Mathlib.Numerals.{add-one}
 use lib.IntN.{ℤ, pos, negsuc}
-use lib.ListN.{length, get_or, take, set, replicate, length-set}
-use lib.Seq.{take-suc, take-suc-set, take-length}
+use lib.ListN.{length, take, set, replicate, length-set}
+use lib.Seq.{take-suc-set, take-length}
 use borrow.Author.Tests.{lt-ltb, le-ltb}
+use borrow.Rule.Slice.PartMut.{put_mid}
+use Rattle.std.proofs.lemmas.Slice.{take-put_mid}
 use Rattle.plan.specs.declared.Pass.{Pass}
 use Rattle.plan.specs.declared.Plan.{Plan}
 use Rattle.plan.specs.Rules.{order_limit, pass_at}
@@ -29,40 +31,22 @@ module _ {A : Type 0} where
   take_all_of : (l : List A) (n : ℕ) → length l ≡ n → take n l ≡ l
   take_all_of l n e = sym (ap (λ (k : ℕ). take k l) e) ∙ take-length l
 
-  -- The first j elements of `source` stand behind a front; then one more.
-  module _ (front source : List A) (n j : ℕ) where
-    pub copied_more :
-        (l : List A) (v d : A) → n + j < length l → j < length source → v ≡ get_or source j d
-        → take (n + j) l ≡ front ++ take j source
-        → take (n + (j + 1)) (set l (n + j) v) ≡ front ++ take (j + 1) source
-    copied_more l v d h k e f =
-        let m : n + (j + 1) ≡ n + j + 1 = omega arith in
-        rw (m, stored l (n + j) v h, f, e, add-one j, take-suc source j d k) (append_assoc front (take j source) _)
-
 -- The words of a pass behind a front: order and gain, and then the coefficients.
-pub pass_filled :
-    (words filled : List ℤ) (place : ℕ) (pass : Pass) (order gain : ℤ) → place + pass_length ≤ length words
-    → length pass.coefficients ≡ order_limit → order ≡ number_from pass.order → gain ≡ pass.gain
-    → take (place + 2 + order_limit) filled
-    ≡ take (place + 2) (set (set words place order) (place + 1) gain) ++ take order_limit pass.coefficients
-    → take (place + pass_length) filled ≡ take place words ++ record_of_pass pass
+pub pass_written :
+    (words : List ℤ) (place k : ℕ) (pass : Pass) {order gain : ℤ} {coefficients : List ℤ} → place + pass_length ≤ length words
+    → length pass.coefficients ≡ order_limit → order ≡ number_from pass.order → gain ≡ pass.gain → coefficients ≡ pass.coefficients
+    → take (place + pass_length) (put_mid (place + 2) k (set (set words place order) (place + 1) gain) coefficients)
+    ≡ take place words ++ record_of_pass pass
 unfolding record_of_pass
-pass_filled words filled place pass order gain h k e f g =
-    let n : place + pass_length ≡ place + 2 + order_limit = omega arith in
+pass_written words place k pass {order} {gain} {coefficients} room full e f g =
+    let stores = set (set words place order) (place + 1) gain in
+    let within : length stores ≡ length words = simp length-set in
+    let n : place + pass_length ≡ place + 2 + length coefficients = omega (arith, ap length g) in
     let m : place + 2 ≡ place + 1 + 1 = omega arith in
-    let l : place + 1 < length (set words place order) = simp length-set (omega arith) in
-    let i : place < length words = omega arith in
-    rw (
-      n,
-      g,
-      take_all_of pass.coefficients order_limit k,
-      m,
-      stored (set words place order) (place + 1) gain l,
-      stored words place order i,
-      e,
-      f,
-    )
-    (simp append_assoc)
+    let second : place + 1 < length (set words place order) = simp length-set (omega arith) in
+    let first : place < length words = omega arith in
+    take-put_mid (place + 2) k stores coefficients (place + pass_length) n (omega arith)
+    ∙ rw (m, stored (set words place order) (place + 1) gain second, stored words place order first, e, f, g) (simp append_assoc)
 
 -- ---- a plan
 

@@ -21,74 +21,37 @@ fn pass_start(i: usize) -> usize
     3 + i * PASS_LENGTH
 }
 
+// Functions, not `From`: neither the array nor `Plan` is a type of this crate.
+
 // The plan that a record stands for.
 pub fn plan_of_record(words: &[i64; RECORD_LENGTH]) -> Plan
     ensures { result ≡ plan_of_record words.now }
 {
-    let rows = size_from(words[0]);
-    let columns = size_from(words[1]);
-    let side = size_from(words[2]);
-    let passes = passes_of_record(words);
-    let grid = Grid {
-        rows: rows,
-        columns: columns,
-        side: side,
-    };
     Plan {
-        grid: grid,
-        passes: passes,
+        grid: Grid {
+            rows: size_from(words[0]),
+            columns: size_from(words[1]),
+            side: size_from(words[2]),
+        },
+        passes: std::array::from_fn(|i| pass_of_record(words, pass_start(i))),
     }
 }
 
 fn size_from(number: i64) -> usize
     ensures { result ≡ size_from number }
 {
-    if number < 0 {
-        18446744073709551615
-    } else {
-        number as usize
-    }
-}
-
-fn coefficients_of_record(words: &[i64; RECORD_LENGTH], place: usize) -> [i64; plan::ORDER_LIMIT]
-    requires { place + pass_length ≤ record_length }
-    ensures { result ≡ (pass_of_record words.now place).coefficients }
-{
-    let mut coefficients = [0; plan::ORDER_LIMIT];
-    let mut j = 0;
-    while j < plan::ORDER_LIMIT {
-        coefficients[j] = words[place + 2 + j];
-        j += 1;
-    }
-    coefficients
+    usize::try_from(number).unwrap_or(usize::MAX)
 }
 
 fn pass_of_record(words: &[i64; RECORD_LENGTH], place: usize) -> Pass
     requires { place + pass_length ≤ record_length }
     ensures { result ≡ pass_of_record words.now place }
 {
-    let order = size_from(words[place]);
-    let gain = words[place + 1];
-    let coefficients = coefficients_of_record(words, place);
     Pass {
-        order: order,
-        gain: gain,
-        coefficients: coefficients,
+        order: size_from(words[place]),
+        gain: words[place + 1],
+        coefficients: std::array::from_fn(|j| words[place + 2 + j]),
     }
-}
-
-fn passes_of_record(words: &[i64; RECORD_LENGTH]) -> [Pass; 4]
-    ensures { result ≡ (plan_of_record words.now).passes }
-{
-    let empty = plan_reader::zero_pass();
-    let mut passes = [empty; 4];
-    let mut i = 0;
-    while i < 4 {
-        let pass = pass_of_record(words, pass_start(i));
-        passes[i] = pass;
-        i += 1;
-    }
-    passes
 }
 
 // The record of a plan.
@@ -99,37 +62,24 @@ pub fn record_of_plan(plan: Plan) -> [i64; RECORD_LENGTH]
     words[0] = number_from(plan.grid.rows);
     words[1] = number_from(plan.grid.columns);
     words[2] = number_from(plan.grid.side);
-    let mut i = 0;
-    while i < 4 {
-        let pass = plan.passes[i];
-        words = with_pass(words, pass_start(i), pass);
-        i += 1;
+    for (i, pass) in plan.passes.iter().enumerate() {
+        write_pass(*pass, &mut words, pass_start(i));
     }
     words
 }
 
-// A record with the words of a pass from a place on; what stands behind them is left open.
-fn with_pass(words: [i64; RECORD_LENGTH], place: usize, pass: Pass) -> [i64; RECORD_LENGTH]
-    requires { place + pass_length ≤ record_length }
-    ensures { (length result ≡ record_length) × (take (place + pass_length) result ≡ take place words ++ record_of_pass pass) }
+// The words of a pass, from a place on; what stands behind them is left open.
+fn write_pass(pass: Pass, words: &mut [i64], place: usize)
+    requires { place + pass_length ≤ length words.old }
+    ensures { take (place + pass_length) words.new ≡ take place words.old ++ record_of_pass pass }
 {
-    let mut filled = words;
-    filled[place] = number_from(pass.order);
-    filled[place + 1] = pass.gain;
-    let mut j = 0;
-    while j < plan::ORDER_LIMIT {
-        filled[place + 2 + j] = pass.coefficients[j];
-        j += 1;
-    }
-    filled
+    words[place] = number_from(pass.order);
+    words[place + 1] = pass.gain;
+    words[place + 2..place + PASS_LENGTH].copy_from_slice(&pass.coefficients);
 }
 
 fn number_from(size: usize) -> i64
     ensures { result ≡ number_from size }
 {
-    if size < 9223372036854775808 {
-        size as i64
-    } else {
-        -1
-    }
+    i64::try_from(size).unwrap_or(-1)
 }

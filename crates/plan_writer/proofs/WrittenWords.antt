@@ -8,18 +8,23 @@ use native.Mathlib.Numerals.{add-one}
 use native.Mathlib.Nat.{add-zero}
 use lib.Dec.{leb}
 use lib.ListN.{length, set, drop, length-append}
-use lib.Seq.{sets, sets-eq}
+use lib.Seq.{sets, sets-eq, length-sets}
+use mir.ValLaws.{to_z-of_z}
+use Rattle.std.proofs.lemmas.List.{get_or-take}
 use borrow.Author.Tests.{lt-ltb}
 use Rattle.grid.specs.Grid.{grid_kept}
 use Rattle.plan.specs.declared.Pass.{Pass}
 use Rattle.plan.specs.declared.Plan.{Plan}
 use Rattle.plan.specs.Rules.{order_limit, in_signed28, coefficient_at, coefficient_kept, coefficients_kept, pass_kept, pass_at, passes_kept, keeps_rules}
 use Rattle.number.specs.Numbers.{total}
-use Rattle.plan.specs.Sizes.{order_sum, word_count}
+use Rattle.plan.specs.Sizes.{order_of, order_sum, word_count}
+use Rattle.plan.proofs.Record.{rules}
+use Rattle.number.proofs.Sums.{total_none, total_grows}
 use Rattle.number.proofs.Tests.{and_right, all_at}
 use Rattle.buffer.specs.Lists.{list_of, joined}
 use Rattle.buffer.proofs.Listed.{listed_length}
-use Rattle.plan_writer.specs.WritePlan.{payload28, pass_payload, coefficient_words, pass_words, passes_words, size_word, words_of}
+use Rattle.plan_writer.specs.Room.{PassFits}
+use Rattle.plan_writer.specs.WritePlan.{payload28, coefficient_words, pass_words, passes_words, size_word, words_of}
 use Rattle.number.specs.KindWords.{word_of}
 
 sets_append : (a b l : List ℕ) (i : ℕ) → sets l i (a ++ b) ≡ sets (sets l i a) (i + length a) b
@@ -34,10 +39,12 @@ sets_parts a b l i n e = rw (← e) (sym (sets_append a b l i))
 
 -- ---- coefficients
 
-pub coefficients_kept_law : (side : ℕ) (pass : Pass) → pass_kept side pass ≡ true → coefficients_kept pass ≡ true
-unfolding pass_kept
-coefficients_kept_law side pass e =
-    and_right (in_signed28 pass.gain) _ (and_right (leb pass.order side) _ (and_right (leb pass.order order_limit) _ e))
+coefficients_kept_law : (plan : Plan) → keeps_rules plan ≡ true → (i : ℕ) → i < 4 → coefficients_kept (pass_at plan i) ≡ true
+unfolding keeps_rules passes_kept pass_kept
+coefficients_kept_law plan e i h =
+    let pass = pass_at plan i in
+    let kept = all_at (λ k. pass_kept plan.grid.side (pass_at plan k)) 4 i (and_right (grid_kept plan.grid) (passes_kept plan) e) h in
+    and_right (in_signed28 pass.gain) _ (and_right (leb pass.order plan.grid.side) _ (and_right (leb pass.order order_limit) _ kept))
 
 pub coefficient_signed : (pass : Pass) (j : ℕ) → pass.order ≤ order_limit → coefficients_kept pass ≡ true → j < pass.order
     → in_signed28 (coefficient_at pass j) ≡ true
@@ -56,12 +63,13 @@ module _ (pass : Pass) (words : List ℕ) (place : ℕ) where
   no_coefficients = refl
 
   pub more_coefficients : (count : ℕ)
-      → sets (sets words place (coefficient_words pass count)) (place + count)
-      (word_of 5 (payload28 (coefficient_at pass count)) ∷ [])
+      → set (sets words place (coefficient_words pass count)) (place + count) (word_of 5 (payload28 (coefficient_at pass count)))
       ≡ sets words place (coefficient_words pass (count + 1))
   unfolding coefficient_words list_of
   more_coefficients count =
       rw (add-one count) (sets_parts (coefficient_words pass count) _ words place count (length_coefficients pass count))
+
+pub ruleset coefficients_written = (no_coefficients, more_coefficients, coefficient_signed, to_z-of_z, length-sets, get_or-take)
 
 -- ---- one pass
 
@@ -69,25 +77,23 @@ pub length_pass : (i : ℕ) (pass : Pass) → length (pass_words i pass) ≡ 2 +
 unfolding pass_words
 length_pass i pass = omega (arith, length_coefficients pass pass.order)
 
--- Pass word, gain word and coefficient words, each written at the place after the one before.
-pub pass_parts : (words : List ℕ) (place i : ℕ) (pass : Pass) {head gain place₁ place₂ place₃ : ℕ}
-    {words₁ words₂ words₃ : List ℕ}
-    → head ≡ word_of 3 (pass_payload i pass.order) → gain ≡ word_of 4 (payload28 pass.gain)
-    → (place₁ ≡ place + 1) × (words₁ ≡ sets words place (head ∷ []))
-    → (place₂ ≡ place₁ + 1) × (words₂ ≡ sets words₁ place₁ (gain ∷ []))
-    → (place₃ ≡ place₂ + pass.order) × (words₃ ≡ sets words₂ place₂ (coefficient_words pass pass.order))
-    → (place₃ ≡ place + (2 + pass.order)) × (words₃ ≡ sets words place (pass_words i pass))
-unfolding pass_words
-pass_parts words place i pass e f a b c =
-    let first : place + 1 ≡ suc place = add-one place in
-    let second : suc place + 1 ≡ suc (suc place) = add-one (suc place) in
-    (omega arith, c.1 ∙ rw (b.1, b.0, a.1, a.0, e, f, first, second))
-
 -- ---- the passes
 
-pub pass_kept_law : (plan : Plan) → keeps_rules plan ≡ true → (i : ℕ) → i < 4 → pass_kept plan.grid.side (pass_at plan i) ≡ true
-unfolding keeps_rules passes_kept
-pass_kept_law plan e i h = all_at _ 4 i (and_right (grid_kept plan.grid) (passes_kept plan) e) h
+-- Pass i keeps the rules, and there is room for its words where there is room for those of all passes.
+pub pass_fits : (plan : Plan) (n place i : ℕ) → keeps_rules plan ≡ true → i < 4 → place + (8 + order_sum plan 4) ≤ n
+    → PassFits n i (pass_at plan i) (place + (2 * i + order_sum plan i))
+pass_fits plan n place i kept h room =
+    let pass = (rules plan kept).pass_kept_law i h in
+    record {
+      pass_number = h;
+      gain_kept = pass.gain_kept;
+      coefficients =
+          record {
+            order_limited = pass.order_limited;
+            kept = coefficients_kept_law plan kept i h;
+            room = omega (arith, total_grows (order_of plan) i 4 h, room);
+          };
+    }
 
 pub length_passes : (plan : Plan) (count : ℕ) → length (passes_words plan count) ≡ 2 * count + order_sum plan count
 unfolding passes_words joined total
@@ -114,21 +120,18 @@ module _ (plan : Plan) (words : List ℕ) (place : ℕ) where
       (sets_parts (passes_words plan i) (pass_words i (pass_at plan i)) words place (2 * i + order_sum plan i)
       (length_passes plan i))
 
+pub ruleset passes_written = (no_passes, more_passes, more_orders, total_none, length-sets)
+
 -- ---- the plan
 
 -- Size word, block word, passes and end word, each written at the place after the one before.
-pub plan_parts : (words : List ℕ) (plan : Plan) {size block place₁ place₂ place₃ : ℕ} {words₁ words₂ words₃ words₄ : List ℕ}
-    → size ≡ size_word plan → block ≡ word_of 2 plan.grid.side
-    → (place₁ ≡ 0 + 1) × (words₁ ≡ sets words 0 (size ∷ []))
-    → (place₂ ≡ place₁ + 1) × (words₂ ≡ sets words₁ place₁ (block ∷ []))
-    → (place₃ ≡ place₂ + (8 + order_sum plan 4)) × (words₃ ≡ sets words₂ place₂ (passes_words plan 4))
-    → words₄ ≡ sets words₃ place₃ (word_of 6 0 ∷ []) → words₄ ≡ sets words 0 (words_of plan)
+pub plan_parts : (words : List ℕ) (plan : Plan) {size block end place : ℕ} {after_passes : List ℕ}
+    → size ≡ size_word plan → block ≡ word_of 2 plan.grid.side → end ≡ word_of 6 0
+    → (place ≡ 2 + (8 + order_sum plan 4)) × (after_passes ≡ sets (set (set words 0 size) 1 block) 2 (passes_words plan 4))
+    → set after_passes place end ≡ sets words 0 (words_of plan)
 unfolding words_of
-plan_parts words plan {place₁ = place₁} {place₂ = place₂} {place₃ = place₃} e f a b c d =
-    let first : place₁ ≡ 1 = omega arith in
-    let second : place₂ ≡ 2 = omega arith in
-    let third : place₃ ≡ 2 + (8 + order_sum plan 4) = omega arith in
-    d ∙ rw (third, c.1, second, b.1, first, a.1, e, f)
+plan_parts words plan e f g passes =
+    rw (passes.1, passes.0, e, f, g)
     (sets_parts (passes_words plan 4) (word_of 6 0 ∷ []) _ 2 (8 + order_sum plan 4) (length_passes plan 4))
 
 pub length_words : (plan : Plan) → length (words_of plan) ≡ word_count plan

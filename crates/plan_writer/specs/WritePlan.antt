@@ -1,8 +1,8 @@
 -- The words of a plan, in the order of document 01's table, and the call that writes them, refused by 6 and 7; document
 -- 02, CR 4.
-use Rattle.std.specs.Prelude.{List, [], ◌∷◌, ◌++◌, ℕ, ◌+◌, ◌*◌, ℤ, length, drop}
-use Rattle.refusal.specs.Refusals.{refused_for, accepted}
-use Rattle.refusal.specs.Table.{first_due, if_accepted, Given, given}
+use Rattle.std.specs.Prelude.{List, [], ◌∷◌, ◌++◌, ℕ, ◌+◌, ◌*◌, ℤ, length, drop, Result}
+use Rattle.refusal.specs.declared.Refusal.{Refusal}
+use Rattle.refusal.specs.Table.{first_due, if_accepted, Given, given, given_by}
 use Rattle.plan.specs.declared.BufferOf7.TheVariants as of7
 use Rattle.plan.specs.declared.Lengths.{Lengths}
 use Rattle.plan.specs.declared.Pass.{Pass}
@@ -11,8 +11,6 @@ use Rattle.plan.specs.Rules.{coefficient_at, pass_at}
 use Rattle.plan.specs.Sizes.{word_count}
 use Rattle.plan.specs.FirstTests.{lent_rows, only_of7}
 use Rattle.buffer.specs.Lists.{list_of, joined}
-use Rattle.plan_writer.specs.declared.PlanWritten.{PlanWritten}
-use Rattle.plan_writer.specs.declared.PlanWritten.TheVariants.{Words, Refused}
 use Rattle.number.specs.KindWords.{word_of}
 use Rattle.number.specs.SignedBits.{signed_bits}
 use Rattle.plan_reader.specs.PlanWords.{end_kind}
@@ -60,10 +58,9 @@ unfoldable pub write_plan : Plan → (room : ℕ) → Given ℕ
 write_plan plan room =
     given (first_due (lent_rows plan (lent_to_writer room))) (word_count plan) 0
 
--- Document 01's number and place, and the count, of each case that `write_plan` answers.
-abbrev pub written_given : PlanWritten → Given ℕ
-written_given (Words count) = record { answer = accepted; value = count }
-written_given (Refused refusal) = record { answer = refused_for refusal; value = 0 }
+-- Document 01's number and place, and the count, of what `write_plan` answers; 0 beside a refusal.
+abbrev pub written_given : Result ℕ Refusal → Given ℕ
+written_given = given_by 0
 
 -- The lent words after the call: the plan's words and then what stood there; unaltered by a refusal.
 unfoldable pub written_words : Plan → List ℕ → List ℕ

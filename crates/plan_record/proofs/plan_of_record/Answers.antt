@@ -1,19 +1,14 @@
--- `plan_record::plan_of_record` meets its contract, field by field. Assumes nothing.
-use mathlib.Core.Path.{refl, ap, ◌∙◌}
-use mir.Syntax.{w64}
-use Rattle.number.proofs.SignedBits.{read_back_law}
-use Rattle.plan_reader.proofs.RecordParts.{same_plan}
-use Rattle.plan_record.specs.Records.{size_from, plan_of_record}
-use borrow.Author.Rules.{rules}
-use Rattle.buffer.specs.Lists.{number_at}
+-- `plan_record::plan_of_record` meets its contract: each pass is the one whose words stand at its place. Assumes nothing.
+use Rattle.std.proofs.Common.{rules, ◌≡◌}
+use Rattle.buffer.specs.Lists.{list_of}
+use Rattle.plan_reader.specs.ReadPlan.{zero_pass}
+use Rattle.plan_reader.proofs.MadeArrays.{made_listed}
+use Rattle.plan_record.specs.Records.{pass_start, pass_of_record, plan_of_record}
 use Rattle.plan_record.proofs.plan_of_record.Goals as goal
 
 pub returns : goal.returns
 unfolding plan_of_record
 returns c =
-    let words = c.args.words.now in
-    same_plan (c.size_from-rows.ensures
-    ∙ ap size_from (read_back_law {w = w64} {answer = number_at words 0} (search rules) refl))
-    (c.size_from-columns.ensures ∙ ap size_from (read_back_law {w = w64} {answer = number_at words 1} (search rules) refl))
-    (c.size_from-side.ensures ∙ ap size_from (read_back_law {w = w64} {answer = number_at words 2} (search rules) refl))
-    c.passes_of_record-passes.ensures
+    let passes : c.from_fn.result ≡ list_of (λ i. pass_of_record c.args.words.now (pass_start i)) 4 =
+    made_listed _ (λ i. pass_of_record c.args.words.now (pass_start i)) 4 (λ i answer after h called. search rules) zero_pass c.from_fn.ensures.items in
+    search rules

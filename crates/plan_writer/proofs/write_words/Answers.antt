@@ -13,6 +13,4 @@ block_word-requires c = (rules _ c.requires.0).side_high
 
 pub returns : goal.returns
 returns c =
-    plan_parts c.args.words.now c.args.plan c.size_word.ensures c.block_word.ensures
-    c.write_word-after_size.ensures c.write_word-after_block.ensures c.write_passes-after_passes.ensures
-    (rw c.word_of.ensures at c.write_word.ensures.1)
+    plan_parts c.args.words.now c.args.plan c.size_word.ensures c.block_word.ensures c.word.ensures c.write_passes-end.ensures
