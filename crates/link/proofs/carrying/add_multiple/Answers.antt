@@ -16,7 +16,7 @@ here c = c.requires.1.words_fit.inside c.loop-line.line (omega arith)
 
 pub loop-line-init : goal.loop-line-init
 loop-line-init c =
-    record { counted = omega arith; length_kept = refl; as_made = multiple_none _ _ _ _ _ _ }
+    record { length_kept = refl; as_made = multiple_none _ _ _ _ _ _ }
 
 pub overflow_mul-line : goal.overflow_mul-line
 overflow_mul-line c = let h = here (goal.at.overflow_mul-line c).In-loop-line in omega arith
@@ -34,7 +34,6 @@ pub loop-line-preserved : goal.loop-line-preserved
 loop-line-preserved c =
     let a = c.args in
     record {
-      counted = omega arith;
       length_kept = length-set c.loop-line.responses _ _ ∙ c.loop-line.invariant.length_kept;
       as_made =
           multiple_next a.place a.strips.now a.at a.step a.weight c.loop-line.line a.responses.now

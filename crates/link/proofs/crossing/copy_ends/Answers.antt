@@ -19,7 +19,7 @@ row_below c =
 
 pub loop-distance-init : goal.loop-distance-init
 loop-distance-init c =
-    record { counted = omega arith; length_kept = refl; as_made = ends_none _ _ _ _ _ }
+    record { length_kept = refl; as_made = ends_none _ _ _ _ _ }
 
 pub overflow_mul-to : goal.overflow_mul-to
 overflow_mul-to c = let h = row_below (goal.at.overflow_mul-to c).After-margin-to in search rules
@@ -37,7 +37,6 @@ pub loop-distance-preserved : goal.loop-distance-preserved
 loop-distance-preserved c =
     let a = c.args in
     record {
-      counted = omega arith;
       length_kept = omega (arith, c.copy_words.auto, c.loop-distance.invariant.length_kept);
       as_made =
           ends_next (direction_of a.pass) a.course a.row a.lines.now a.responses.now c.loop-distance.distance

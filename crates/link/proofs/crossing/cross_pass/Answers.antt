@@ -12,7 +12,7 @@ copy_ends-requires c =
       course_fits = cross.course_fits;
       order_limited = cross.orders.order_limited c.args.pass (omega arith);
       rows_in_law =
-          rw c.rows_before-row.ensures (rows_in_law (filter_at c.args.filters) cross.orders c.args.pass (omega arith));
+          rw c.rows_before-row.ensures (rows_in_law (filter_at c.args.filters.now) cross.orders c.args.pass (omega arith));
       lines_long = cross.lines_long;
       responses_long = cross.responses_long;
     }
@@ -27,5 +27,5 @@ run_pass-requires c =
 
 pub returns : goal.returns
 returns c =
-    cross_passed (filter_at c.args.filters) c.args.course c.args.lines.now c.args.responses.now c.requires.0
+    cross_passed (filter_at c.args.filters.now) c.args.course c.args.lines.now c.args.responses.now c.requires.0
     c.args.pass c.requires.1 c.rows_before-row.ensures c.copy_ends.ensures c.run_pass.ensures

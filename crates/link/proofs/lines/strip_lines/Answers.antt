@@ -8,7 +8,6 @@ use Rattle.link.proofs.lines.strip_lines.Goals as goal
 pub loop-distance-init : goal.loop-distance-init
 loop-distance-init c =
     record {
-      counted = omega arith;
       length_kept = refl;
       as_made = strip_lines_none _ _ _ _ _ _ _ _;
     }
@@ -27,7 +26,6 @@ pub loop-distance-preserved : goal.loop-distance-preserved
 loop-distance-preserved c =
     let a = c.args in
     record {
-      counted = omega arith;
       length_kept = omega (arith, c.strip_line.auto, c.loop-distance.invariant.length_kept);
       as_made =
           strip_lines_next a.gain (direction_of a.pass) a.order a.strip a.strips.now a.row a.places

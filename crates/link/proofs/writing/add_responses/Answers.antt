@@ -20,7 +20,7 @@ here c =
 
 pub loop-line-init : goal.loop-line-init
 loop-line-init c =
-    record { counted = omega arith; length_kept = refl; as_made = responses_none _ _ _ _ _ _ }
+    record { length_kept = refl; as_made = responses_none _ _ _ _ _ _ }
 
 pub overflow_mul-before : goal.overflow_mul-before
 overflow_mul-before c = let h = here (goal.at.overflow_mul-before c).In-loop-line in search rules
@@ -47,7 +47,6 @@ bounds-strips-to c = let h = here (goal.at.bounds-strips-to c).In-loop-line in s
 pub loop-line-preserved : goal.loop-line-preserved
 loop-line-preserved c =
     record {
-      counted = omega arith;
       length_kept = length-set c.loop-line.strips _ _ ∙ c.loop-line.invariant.length_kept;
       as_made =
           responses_next c.args.from c.args.to c.args.step c.args.responses.now c.args.place
