@@ -7,10 +7,6 @@ use Rattle.link.proofs.carrying.carry.Goals as goal
 pub loop-done-init : goal.loop-done-init
 loop-done-init c = carry_none (filter_at c.args.filters.now) c.args.course _ c.requires.held
 
-pub carry_pass-requires : goal.carry_pass-requires
-carry_pass-requires c =
-    record { carry_fits = c.requires.carry_fits; pass_to_carry = record { from_first = omega arith; in_course = omega arith; responses_long = c.loop-done.invariant.length_is } }
-
 pub loop-done-preserved : goal.loop-done-preserved
 loop-done-preserved c =
     let a = c.args in

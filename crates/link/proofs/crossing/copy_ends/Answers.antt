@@ -1,8 +1,7 @@
 -- `copy_ends` has put the ends of the rows so far into the margin.
-use mathlib.Core.Path.{◌≡◌, refl}
+use mathlib.Core.Path.{refl}
 use Prim.Native.Nat.{◌<◌}
 use native.Mathlib.Omega.{arith}
-use borrow.Author.Rules.{rules}
 use Rattle.axis.specs.Axis.{direction_of}
 use Rattle.squares.proofs.Lines.{margin_below}
 use Rattle.squares.specs.LineBuffers.{row_words}
@@ -20,9 +19,6 @@ row_below c =
 pub loop-distance-init : goal.loop-distance-init
 loop-distance-init c =
     record { length_kept = refl; as_made = ends_none _ _ _ _ _ }
-
-pub overflow_mul-to : goal.overflow_mul-to
-overflow_mul-to c = let h = row_below (goal.at.overflow_mul-to c).After-margin-to in search rules
 
 pub copy_words-requires : goal.copy_words-requires
 copy_words-requires c =
@@ -42,8 +38,3 @@ loop-distance-preserved c =
           ends_next (direction_of a.pass) a.course a.row a.lines.now a.responses.now c.loop-distance.distance
           c.loop-distance.invariant.as_made c.margin-to.ensures c.copy_words.ensures;
     }
-
-pub returns : goal.returns
-returns c =
-    let e : c.loop-distance.distance ≡ c.args.order = omega arith in
-    rw e at c.loop-distance.invariant.as_made

@@ -14,18 +14,6 @@ loop-pass-init c =
           c.requires.by_index;
     }
 
-pub cross_pass-requires : goal.cross_pass-requires
-cross_pass-requires c =
-    let cross = c.requires.cross_fits in (
-      record {
-        course_fits = cross.course_fits;
-        orders = cross.orders;
-        lines_long = cross.lines_long;
-        responses_long = c.loop-pass.invariant.length_is;
-      },
-      omega (arith, cross.course_fits.first_low),
-    )
-
 pub loop-pass-preserved : goal.loop-pass-preserved
 loop-pass-preserved c =
     let a = c.args in
