@@ -2,7 +2,7 @@
 // cache, it waits for each. So it first reads a word of each of their cache lines, and the lines are on their way together.
 // What these words are does not count. Joined by `or` to one word, they are stored where nothing reads it: if they were not
 // stored, the compiler would leave the reads out.
-ghost use Rattle.std.specs.Prelude.{◌+◌, ◌≤◌, length};
+ghost use Rattle.std.specs.Prelude.{length};
 ghost use Rattle.link.specs.Courses.{LinkAt};
 
 use plan::Plan;
@@ -11,43 +11,32 @@ use task_words::Half;
 // The words of a cache line of 64 bytes.
 const LINE_WORDS: usize = 8;
 
-// Reads every eighth of `count` words from `start` on, so one of each cache line (but for the last line, where the words do
-// not begin with a line), and joins them to what was read before.
-fn read_words(words: &[u64], start: usize, count: usize, read_before: u64) -> u64
-    requires { start + count ≤ length words.now }
-{
-    let mut read = read_before;
-    let mut i = 0;
-    while i < count {
-        read = read | words[start + i];
-        i += LINE_WORDS;
+// Reads every eighth word, so one of each cache line (but for the last line, where the words do not begin with a line),
+// joined.
+fn read_words(words: &[u64]) -> u64 {
+    let mut read = 0;
+    for i in (0..words.len()).step_by(LINE_WORDS) {
+        read |= words[i];
     }
     read
 }
 
 // Reads ahead block k's strip of a pass in a half.
-fn read_strip(
-    strips: &[u64],
-    plan: Plan,
-    half: Half,
-    k: usize,
-    pass: usize,
-    read_before: u64,
-) -> u64
+fn read_strip(strips: &[u64], plan: Plan, half: Half, k: usize, pass: usize) -> u64
     requires { LinkAt plan k pass (length strips.now) }
 {
     let start = strips::strip_start(plan, half, k, pass);
     let count = plan.grid.side * plan.order(pass);
-    read_words(strips, start, count, read_before)
+    read_words(&strips[start..start + count])
 }
 
 // Reads ahead the linked strip of the block that a pass comes from, where there is one.
-fn read_edge(strips: &[u64], plan: Plan, k: usize, pass: usize, read_before: u64) -> u64
+fn read_edge(strips: &[u64], plan: Plan, k: usize, pass: usize) -> u64
     requires { LinkAt plan k pass (length strips.now) }
 {
     match plan.grid.neighbour(k, pass) {
-        Some(j) => read_strip(strips, plan, Half::Linked, j, pass, read_before),
-        None => read_before,
+        Some(j) => read_strip(strips, plan, Half::Linked, j, pass),
+        None => 0,
     }
 }
 
@@ -56,12 +45,10 @@ fn read_edge(strips: &[u64], plan: Plan, k: usize, pass: usize, read_before: u64
 pub(crate) fn read_strips(strips: &[u64], plan: Plan, k: usize, pass: usize) -> u64
     requires { LinkAt plan k pass (length strips.now) }
 {
-    let lone = read_strip(strips, plan, Half::Lone, k, pass, 0);
-    let mut read = read_strip(strips, plan, Half::Linked, k, pass, lone);
-    let mut need = 0;
-    while need <= pass {
-        read = read_edge(strips, plan, k, need, read);
-        need += 1;
+    let mut read = read_strip(strips, plan, Half::Lone, k, pass);
+    read |= read_strip(strips, plan, Half::Linked, k, pass);
+    for need in 0..=pass {
+        read |= read_edge(strips, plan, k, need);
     }
     read
 }

@@ -29,12 +29,10 @@ fn add_multiple(
     ensures { responses.new
         ≡ multiple_added place strips.now at step weight lines responses.old }
 {
-    let mut line = 0;
-    while line < lines {
+    for line in 0..lines {
         let to = super::crossing::response_place(line, place);
         let product = word::mul(strips[at + line * step], weight);
         responses[to] = word::add(responses[to], product);
-        line += 1;
     }
 }
 
@@ -47,18 +45,16 @@ fn add_multiples(
     at: usize,
     step: usize,
     lines: usize,
-    weights: [u64; plan::ORDER_LIMIT],
+    weights: &[u64; plan::ORDER_LIMIT],
     gain: u64,
 )
     requires { MultiplesFit order (length responses.old) (length strips.now) at step lines }
     ensures { MultiplesAdded lines order (λ l. gain ⊗ word_at strips.now (at + l * step))
-        (word_at weights) responses.old responses.new }
+        (word_at weights.now) responses.old responses.new }
 {
-    let mut place = 0;
-    while place < order {
+    for place in 0..order {
         let weight = word::mul(gain, weights[place]);
         add_multiple(responses, place, strips, at, step, lines, weight);
-        place += 1;
     }
 }
 
@@ -70,12 +66,12 @@ fn add_distance(
     strip: Strip,
     course: Course,
     place: usize,
-    weights: [u64; plan::ORDER_LIMIT],
+    weights: &[u64; plan::ORDER_LIMIT],
     gain: u64,
 )
     requires { HistoriesFit course (length responses.old) (length strips.now) strip }
     ensures { DistanceAdded course.lines course.order (λ l. gain ⊗ strip_read strip strips.now l place)
-        (word_at weights) responses.old responses.new }
+        (word_at weights.now) responses.old responses.new }
 {
     let lines = super::lines::lines_inside(strip, place, course.lines);
     if 0 < lines {
@@ -100,20 +96,25 @@ fn add_histories(
     course: Course,
     pass: usize,
     order: usize,
-    square: [[u64; plan::ORDER_LIMIT]; plan::ORDER_LIMIT],
+    square: &[[u64; plan::ORDER_LIMIT]; plan::ORDER_LIMIT],
     gain: u64,
 )
     requires { HistoriesFit course (length responses.old) (length strips.now) strip × (order ≤ order_limit) }
     ensures { HistoriesAdded course.lines course.order order
-        (history_word gain (direction_of pass) order strip strips.now) square
+        (history_word gain (direction_of pass) order strip strips.now) square.now
         responses.old responses.new }
 {
-    let mut distance = 0;
-    while distance < order {
+    for distance in 0..order {
         let place = super::lines::from_edge(pass, order, distance);
-        let weights = square[distance];
-        add_distance(responses, strips, strip, course, place, weights, gain);
-        distance += 1;
+        add_distance(
+            responses,
+            strips,
+            strip,
+            course,
+            place,
+            &square[distance],
+            gain,
+        );
     }
 }
 
@@ -125,15 +126,15 @@ fn carry_pass(
     plan: Plan,
     k: usize,
     course: Course,
-    filters: [FilterWords; 4],
+    filters: &[FilterWords; 4],
     pass: usize,
 )
-    requires carry_fits { CarryFits plan k course filters strips.now lines.now }
+    requires carry_fits { CarryFits plan k course filters.now strips.now lines.now }
     requires pass_to_carry { PassToCarry course pass (length responses.old) }
-    ensures { Carried (filter_at filters) course pass (scaled_edges plan strips.now k course.pass pass)
+    ensures { Carried (filter_at filters.now) course pass (scaled_edges plan strips.now k course.pass pass)
         responses.old responses.new }
 {
-    let filter = filters[pass];
+    let filter = &filters[pass];
     let row = squares::rows_before(filters, pass);
     let square = squares::square_from(lines, row, filter.order, course.from);
     let past_edge = strips::strip_before(plan, k, pass);
@@ -145,7 +146,7 @@ fn carry_pass(
         course,
         pass,
         filter.order,
-        square,
+        &square,
         gain,
     );
 }
@@ -158,16 +159,15 @@ pub(crate) fn carry(
     plan: Plan,
     k: usize,
     course: Course,
-    filters: [FilterWords; 4],
+    filters: &[FilterWords; 4],
 )
-    requires carry_fits { CarryFits plan k course filters strips.now lines.now }
-    requires held { Held course (crossed_words (filter_at filters) course (scaled_edges plan strips.now k course.pass))
+    requires carry_fits { CarryFits plan k course filters.now strips.now lines.now }
+    requires held { Held course (crossed_words (filter_at filters.now) course (scaled_edges plan strips.now k course.pass))
         responses.old }
-    ensures { Held course (response_of (filter_at filters) course (scaled_edges plan strips.now k course.pass))
+    ensures { Held course (response_of (filter_at filters.now) course (scaled_edges plan strips.now k course.pass))
         responses.new }
 {
-    let mut done = 0;
-    while done < course.passes {
+    for done in 0..course.passes {
         carry_pass(
             responses,
             lines,
@@ -178,6 +178,5 @@ pub(crate) fn carry(
             filters,
             course.first + done,
         );
-        done += 1;
     }
 }

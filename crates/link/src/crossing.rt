@@ -36,8 +36,7 @@ fn copy_ends(
     ensures { responses.new
         ≡ ends_copied (direction_of pass) course row lines.now order responses.old }
 {
-    let mut distance = 0;
-    while distance < order {
+    for distance in 0..order {
         let to = squares::margin(pass, course.lines, distance);
         buffer::copy_words(
             lines,
@@ -46,7 +45,6 @@ fn copy_ends(
             to * plan::ORDER_LIMIT,
             course.order,
         );
-        distance += 1;
     }
 }
 
@@ -55,14 +53,14 @@ fn cross_pass(
     responses: &mut [u64],
     lines: &[u64],
     course: Course,
-    filters: [FilterWords; 4],
+    filters: &[FilterWords; 4],
     pass: usize,
 )
-    requires { CrossFits (filter_at filters) course (length lines.now) (length responses.old) × (pass < 2) }
-    ensures { Crossed (filter_at filters) course pass lines.now
+    requires { CrossFits (filter_at filters.now) course (length lines.now) (length responses.old) × (pass < 2) }
+    ensures { Crossed (filter_at filters.now) course pass lines.now
         responses.old responses.new }
 {
-    let filter = filters[pass];
+    let filter = &filters[pass];
     let row = squares::rows_before(filters, pass);
     copy_ends(responses, lines, row, course, pass, filter.order);
     let window = Window {
@@ -72,19 +70,22 @@ fn cross_pass(
         height: course.lines,
         width: course.order,
     };
-    filter::run_pass(responses, window, pass, plan::ORDER_LIMIT, filter);
+    filter::run_pass(responses, window, pass, plan::ORDER_LIMIT, *filter);
 }
 
 // The passes of the other axis that come before those of the link's own, over the responses.
-pub(crate) fn cross(responses: &mut [u64], lines: &[u64], course: Course, filters: [FilterWords; 4])
-    requires cross_fits { CrossFits (filter_at filters) course (length lines.now) (length responses.old) }
+pub(crate) fn cross(
+    responses: &mut [u64],
+    lines: &[u64],
+    course: Course,
+    filters: &[FilterWords; 4],
+)
+    requires cross_fits { CrossFits (filter_at filters.now) course (length lines.now) (length responses.old) }
     requires by_index { (z : ℕ) → word_at responses.old z ≡ 0 }
-    ensures { (H : ℕ → ℕ → ℕ → ℕ) → LinesReady (filter_at filters) course H lines.now
-        → Held course (crossed_words (filter_at filters) course H) responses.new }
+    ensures { (H : ℕ → ℕ → ℕ → ℕ) → LinesReady (filter_at filters.now) course H lines.now
+        → Held course (crossed_words (filter_at filters.now) course H) responses.new }
 {
-    let mut pass = 0;
-    while pass < course.first {
+    for pass in 0..course.first {
         cross_pass(responses, lines, course, filters, pass);
-        pass += 1;
     }
 }

@@ -33,9 +33,9 @@ pub fn link(plan: Plan, k: usize, pass: usize, strips: &mut [u64])
     let mut lines = [0; squares::LINES];
     let mut responses = [0; crossing::RESPONSES];
     let read = ahead::read_strips(strips, plan, k, pass);
-    lines::link_lines(&mut lines, strips, plan, k, course, filters);
-    crossing::cross(&mut responses, &lines, course, filters);
-    carrying::carry(&mut responses, &lines, strips, plan, k, course, filters);
+    lines::link_lines(&mut lines, strips, plan, k, course, &filters);
+    crossing::cross(&mut responses, &lines, course, &filters);
+    carrying::carry(&mut responses, &lines, strips, plan, k, course, &filters);
     // What was read ahead goes into the margin, where nothing reads it.
     responses[0] = read;
     let lone = strips::strip_of(plan, Half::Lone, k, pass);
@@ -92,10 +92,8 @@ fn course_of(plan: Plan, k: usize, pass: usize) -> Course
 fn unit_gain_filters(plan: Plan) -> [FilterWords; 4]
     ensures { result ≡ unit_gain_filters plan }
 {
-    let down = plan.passes[0];
-    let up = plan.passes[1];
-    let right = plan.passes[2];
-    let left = plan.passes[3];
+    // One by one: `map` would ask for a contract on its closure, and move the passes into an iterator first.
+    let [down, up, right, left] = plan.passes;
     [
         filter::filter_with_gain(down, 1),
         filter::filter_with_gain(up, 1),

@@ -26,15 +26,15 @@ pub(crate) fn from_edge(pass: usize, order: usize, distance: usize) -> usize
 }
 
 // How many of the first `count` lines of a strip have a word in the block at a place.
+#[tactic(auto, unfolding(crate::specs::Lines::lines_inside))]
 pub(crate) fn lines_inside(strip: Strip, place: usize, count: usize) -> usize
     ensures { result ≡ lines_inside strip place count }
 {
-    if strip.first <= place {
-        if place < strip.past {
-            return number::lesser(count, strip.lines);
-        }
+    if strip.first <= place && place < strip.past {
+        count.min(strip.lines)
+    } else {
+        0
     }
-    0
 }
 
 // Puts the words of a strip at one place of its lines, times a gain, into a row of lines; the words outside the block are
@@ -81,11 +81,9 @@ fn strip_lines(
     ensures { lines.new
         ≡ strip_lines gain (direction_of pass) order strip strips.now row places order lines.old }
 {
-    let mut distance = 0;
-    while distance < order {
+    for distance in 0..order {
         let place = from_edge(pass, order, distance);
         strip_line(lines, row + distance, places, strips, strip, place, gain);
-        distance += 1;
     }
 }
 
@@ -97,14 +95,14 @@ fn fill_pass(
     plan: Plan,
     k: usize,
     course: Course,
-    filters: [FilterWords; 4],
+    filters: &[FilterWords; 4],
     pass: usize,
 )
-    requires { PassToFill plan k course filters (length strips.now) pass lines.old }
-    ensures { PassFilled (filter_at filters) course (scaled_edges plan strips.now k course.pass) pass
+    requires { PassToFill plan k course filters.now (length strips.now) pass lines.old }
+    ensures { PassFilled (filter_at filters.now) course (scaled_edges plan strips.now k course.pass) pass
         lines.old lines.new }
 {
-    let filter = filters[pass];
+    let filter = &filters[pass];
     let order = filter.order;
     let row = squares::rows_before(filters, pass);
     if pass < course.first {
@@ -123,18 +121,15 @@ fn fill_lines(
     plan: Plan,
     k: usize,
     course: Course,
-    filters: [FilterWords; 4],
+    filters: &[FilterWords; 4],
 )
-    requires link_fits { LinkFits plan k course filters (length strips.now) }
+    requires link_fits { LinkFits plan k course filters.now (length strips.now) }
     requires zero_words { ZeroWords line_words lines.old }
-    ensures { LinesFilled (filter_at filters) course (scaled_edges plan strips.now k course.pass)
+    ensures { LinesFilled (filter_at filters.now) course (scaled_edges plan strips.now k course.pass)
         (course.first + course.passes) lines.new }
 {
-    let count = course.first + course.passes;
-    let mut filled = 0;
-    while filled < count {
-        fill_pass(lines, strips, plan, k, course, filters, filled);
-        filled += 1;
+    for pass in 0..course.first + course.passes {
+        fill_pass(lines, strips, plan, k, course, filters, pass);
     }
 }
 
@@ -145,11 +140,11 @@ pub(crate) fn link_lines(
     plan: Plan,
     k: usize,
     course: Course,
-    filters: [FilterWords; 4],
+    filters: &[FilterWords; 4],
 )
-    requires link_fits { LinkFits plan k course filters (length strips.now) }
+    requires link_fits { LinkFits plan k course filters.now (length strips.now) }
     requires zero_words { ZeroWords line_words lines.old }
-    ensures { LinesReady (filter_at filters) course (scaled_edges plan strips.now k course.pass)
+    ensures { LinesReady (filter_at filters.now) course (scaled_edges plan strips.now k course.pass)
         lines.new }
 {
     fill_lines(lines, strips, plan, k, course, filters);

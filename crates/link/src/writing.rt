@@ -18,12 +18,10 @@ fn add_responses(
     requires { ResponsesFit place (length responses.now) (length strips.old) from to step lines }
     ensures { strips.new ≡ responses_added from to step responses.now place lines strips.old }
 {
-    let mut line = 0;
-    while line < lines {
+    for line in 0..lines {
         let before = line * step;
         let response = responses[super::crossing::response_place(line, place)];
         strips[to + before] = word::add(strips[from + before], response);
-        line += 1;
     }
 }
 
@@ -68,9 +66,7 @@ pub(crate) fn write_strip(
     ensures { PlacesWritten lone shift side order (linked_word lone strips.old responses.now)
         strips.old strips.new }
 {
-    let mut place = 0;
-    while place < order {
+    for place in 0..order {
         write_place(strips, lone, shift, side, responses, place);
-        place += 1;
     }
 }

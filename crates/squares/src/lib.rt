@@ -49,28 +49,24 @@ pub fn axis_passes(pass: usize) -> usize
 }
 
 // The rows of the passes before a pass.
-pub fn rows_before(filters: [FilterWords; 4], pass: usize) -> usize
-    requires { OrdersFit (filter_at filters) × (pass ≤ 4) }
-    ensures { result ≡ rows_before (filter_at filters) pass }
+pub fn rows_before(filters: &[FilterWords; 4], pass: usize) -> usize
+    requires { OrdersFit (filter_at filters.now) × (pass ≤ 4) }
+    ensures { result ≡ rows_before (filter_at filters.now) pass }
 {
     let mut rows = 0;
-    let mut before = 0;
-    while before < pass {
-        let filter = filters[before];
+    for filter in &filters[..pass] {
         rows += filter.order;
-        before += 1;
     }
     rows
 }
 
 // A pass along the lines of a buffer, in the rows of the passes up to it: the rows of later passes wait for theirs.
-fn line_pass(lines: &mut [u64], places: usize, filters: [FilterWords; 4], pass: usize)
-    requires { LinesFit (length lines.old) (filter_at filters) places pass 1 }
-    ensures { lines.new ≡ line_pass (filter_at filters) places pass lines.old }
+fn line_pass(lines: &mut [u64], places: usize, filters: &[FilterWords; 4], pass: usize)
+    requires { LinesFit (length lines.old) (filter_at filters.now) places pass 1 }
+    ensures { lines.new ≡ line_pass (filter_at filters.now) places pass lines.old }
 {
     let rows = rows_before(filters, pass + 1);
     if 0 < rows {
-        let filter = filters[pass];
         let window = Window {
             stride: ROW,
             top: 0,
@@ -80,7 +76,7 @@ fn line_pass(lines: &mut [u64], places: usize, filters: [FilterWords; 4], pass: 
         };
         // Right for a forward pass, left for a backward one.
         let along_rows = 1 + axis_passes(pass);
-        filter::run_pass(lines, window, along_rows, plan::ORDER_LIMIT, filter);
+        filter::run_pass(lines, window, along_rows, plan::ORDER_LIMIT, filters[pass]);
     }
 }
 
@@ -88,30 +84,27 @@ fn line_pass(lines: &mut [u64], places: usize, filters: [FilterWords; 4], pass: 
 pub fn run_lines(
     lines: &mut [u64],
     places: usize,
-    filters: [FilterWords; 4],
+    filters: &[FilterWords; 4],
     first: usize,
     count: usize,
 )
-    requires { LinesFit (length lines.old) (filter_at filters) places first count }
-    ensures { LinesPassed (filter_at filters) places first count lines.old lines.new }
+    requires { LinesFit (length lines.old) (filter_at filters.now) places first count }
+    ensures { LinesPassed (filter_at filters.now) places first count lines.old lines.new }
 {
-    let mut done = 0;
-    while done < count {
-        line_pass(lines, places, filters, first + done);
-        done += 1;
+    for pass in first..first + count {
+        line_pass(lines, places, filters, pass);
     }
 }
 
 // Puts the unit history j beside line j, from a row on, for each j below the order.
+#[tactic(auto, using(crate::proofs::Lines::margin_below))]
 pub fn unit_lines(lines: &mut [u64], row: usize, pass: usize, places: usize, order: usize)
     requires { UnitsFit (length lines.old) row places order }
     ensures { lines.new ≡ unit_lines (direction_of pass) row places order lines.old }
 {
-    let mut line = 0;
-    while line < order {
+    for line in 0..order {
         let column = margin(pass, places, line);
         lines[(row + line) * ROW + column] = 1;
-        line += 1;
     }
 }
 
@@ -121,7 +114,7 @@ fn square_row(lines: &[u64], start: usize) -> [u64; plan::ORDER_LIMIT]
     ensures { (place : ℕ) → place < order_limit → word_at result place ≡ word_at lines.now (start + place) }
 {
     let mut words = [0; plan::ORDER_LIMIT];
-    buffer::copy_words(lines, start, &mut words, 0, plan::ORDER_LIMIT);
+    words.copy_from_slice(&lines[start..start + plan::ORDER_LIMIT]);
     words
 }
 
@@ -137,10 +130,8 @@ pub fn square_from(
     ensures { (line place : ℕ) → line < count → place < order_limit → square_at result line place ≡ word_at lines.now (row_major row_words (row + line) (from + place)) }
 {
     let mut square = [[0; plan::ORDER_LIMIT]; plan::ORDER_LIMIT];
-    let mut line = 0;
-    while line < count {
+    for line in 0..count {
         square[line] = square_row(lines, (row + line) * ROW + from);
-        line += 1;
     }
     square
 }

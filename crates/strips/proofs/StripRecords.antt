@@ -1,5 +1,5 @@
 -- What the code reads from a strip is what the definitions read, and it stands in the list. Assumes nothing.
-use mathlib.Core.Path.{◌≡◌, refl, sym, ap, ap₂, ◌∙◌}
+use mathlib.Core.Path.{◌≡◌, refl, sym, ap, ap₂}
 use mathlib.Core.Bool.{Bool, ◌&&◌, cond}
 use mathlib.Core.List.{List}
 use Prim.Native.Nat.{ℕ, ◌+◌, ◌-◌, ◌*◌, ◌≤◌, ◌<◌, min}
@@ -10,7 +10,7 @@ use Rattle.plan.specs.declared.Plan.{Plan}
 use Rattle.plan.specs.Sizes.{needed_marks, needed_strips, order_of}
 use Rattle.buffer.specs.Lists.{word_at}
 use Rattle.number.proofs.Tests.{and_left, and_right, and_both, same_test}
-use Rattle.axis.specs.Axis.{Axis, columns, rows, Direction, forward, backward, axis_of, direction_of, along, is_backward, if_forward}
+use Rattle.axis.specs.Axis.{Axis, columns, rows, Direction, forward, backward, axis_of, direction_of, along}
 use Rattle.grid.specs.Grid.{neighbour, or_zero, extent_along, lines_across}
 use Rattle.task_words.specs.declared.Half.{Half}
 use Rattle.task_words.specs.declared.Half.TheVariants.{Linked}
@@ -19,38 +19,11 @@ use Rattle.grid.proofs.Neighbours.{neighbour_below}
 use Rattle.grid.proofs.Blocks.{lines_in_side}
 use Rattle.task_words.proofs.Strips.{strip_place_below}
 use Rattle.task_words.proofs.StripReads.{from_edge_below}
-use Rattle.grid.specs.declared.BlockShape.{BlockShape}
 use Rattle.strips.specs.declared.Strip.{Strip}
 use Rattle.std.specs.Prelude.{Some, None, Option}
-use Rattle.grid.specs.Shapes.{shape_of, shape_extent, shape_lines}
 use Rattle.strips.specs.StripRecord.{first_inside, past_inside, strip_with, strip_of, empty_strip, strip_in, strip_before, address_in, strip_read, StripFits}
 
--- ---- the code's values
-
-pub strip_with_is : (d : Direction) (order n start line_step_of place_step lines : ℕ) {inside first : ℕ} {turned : Bool}
-    → inside ≡ min order n → turned ≡ is_backward d → first ≡ if_forward turned (order - inside)
-    → record {
-      start = start;
-      line_step = line_step_of;
-      place_step = place_step;
-      lines = lines;
-      first = first;
-      past = first + inside;
-    }
-    ≡ strip_with d order n start line_step_of place_step lines
-unfolding strip_with
-strip_with_is forward order n start line_step_of place_step lines e t f =
-    let whole : order - min order n + min order n ≡ order = omega arith in rw (f, t, e, whole)
-strip_with_is backward order n start line_step_of place_step lines e t f =
-    let whole : 0 + min order n ≡ min order n = omega arith in rw (f, t, e, whole)
-
-pub strip_of_is : (plan : Plan) (half : Half) (k pass : ℕ) {shape : BlockShape} {start order n line_step_of place_step lines : ℕ}
-    {strip : Strip} → shape ≡ shape_of plan.grid k → start ≡ strip_start plan half k pass → order ≡ order_of plan pass
-    → n ≡ shape_extent shape pass → line_step_of ≡ along (axis_of pass) 1 order → place_step ≡ along (axis_of pass) plan.grid.side 1
-    → lines ≡ shape_lines shape pass
-    → strip ≡ strip_with (direction_of pass) order n start line_step_of place_step lines → strip ≡ strip_of plan half k pass
-unfolding strip_of shape_of
-strip_of_is plan half k pass shaped starts o a b c d e = e ∙ rw (a, b, c, d, shaped, starts, o)
+-- ---- the strip of the block that a pass comes from
 
 module _ (plan : Plan) (k pass : ℕ) where
   pub before_below : (j : ℕ) → Some j ≡ neighbour plan.grid k pass → k < needed_marks plan → j < needed_marks plan

@@ -6,7 +6,7 @@ ghost use Rattle.std.specs.Prelude.{◌≡◌, true, ◌<◌, ◌^◌};
 ghost use Rattle.axis.specs.Axis.{direction_of};
 ghost use Rattle.plan.specs.Rules.{keeps_rules};
 ghost use Rattle.task_words.specs.Strips.{words_before_half, strip_start};
-ghost use Rattle.strips.specs.StripRecord.{StripAt, EdgeFits, edge_start, address_in, strip_with, strip_of, strip_before};
+ghost use Rattle.strips.specs.StripRecord.{StripAt, EdgeFits, edge_start, address_in, first_inside, past_inside, strip_of, strip_before};
 
 use plan::Plan;
 use task_words::Half;
@@ -24,6 +24,16 @@ pub struct Strip {
 }
 
 impl Strip {
+    // The strip without lines, which is 0 everywhere.
+    const EMPTY: Strip = Strip {
+        start: 0,
+        line_step: 0,
+        place_step: 0,
+        lines: 0,
+        first: 0,
+        past: 0,
+    };
+
     // Where the word of the first line at a place stands.
     pub fn first_at(self, place: usize) -> usize
         requires { address_in self 0 place < 2 ^ 64 }
@@ -53,28 +63,16 @@ pub fn strip_start(plan: Plan, half: Half, k: usize, pass: usize) -> usize
     slot + words_before_half(plan, half) + plan.grid.side * plan.order_sum(pass)
 }
 
-// A strip of `lines` lines, in a block of `extent` places along the pass: its last places where the pass runs forward, its
-// first where it runs backward.
-fn strip_with(
-    pass: usize,
-    order: usize,
-    extent: usize,
-    start: usize,
-    line_step: usize,
-    place_step: usize,
-    lines: usize,
-) -> Strip
-    ensures { result ≡ strip_with (direction_of pass) order extent start line_step place_step lines }
+// The places of a strip that lie in a block of `extent` places along the pass, from the first to before the second: its last
+// where the pass runs forward, its first where it runs backward.
+fn places_inside(pass: usize, order: usize, extent: usize) -> (usize, usize)
+    ensures { result ≡ (first_inside (direction_of pass) order extent, past_inside (direction_of pass) order extent) }
 {
-    let inside = number::lesser(order, extent);
-    let first = axis::if_forward(axis::is_backward(pass), order - inside);
-    Strip {
-        start: start,
-        line_step: line_step,
-        place_step: place_step,
-        lines: lines,
-        first: first,
-        past: first + inside,
+    let inside = order.min(extent);
+    if axis::is_backward(pass) {
+        (0, inside)
+    } else {
+        (order - inside, order)
     }
 }
 
@@ -97,33 +95,25 @@ pub fn strip_of(plan: Plan, half: Half, k: usize, pass: usize) -> Strip
     ensures { result ≡ strip_of plan half k pass }
 {
     let shape = plan.grid.block_shape(k);
-    let start = strip_start(plan, half, k, pass);
     let order = plan.order(pass);
-    strip_with(
-        pass,
-        order,
-        shape.extent(pass),
-        start,
-        axis::along(pass, 1, order),
-        axis::along(pass, plan.grid.side, 1),
-        shape.lines(pass),
-    )
+    let (first, past) = places_inside(pass, order, shape.extent(pass));
+    Strip {
+        start: strip_start(plan, half, k, pass),
+        line_step: axis::along(pass, 1, order),
+        place_step: axis::along(pass, plan.grid.side, 1),
+        lines: shape.lines(pass),
+        first,
+        past,
+    }
 }
 
-// The linked strip of the block that a pass comes from: one without lines where the map ends.
+// The linked strip of the block that a pass comes from: where the map ends, one without lines, so that callers need no case.
 pub fn strip_before(plan: Plan, k: usize, pass: usize) -> Strip
     requires { StripAt plan k pass }
     ensures { result ≡ strip_before plan k pass }
 {
     match plan.grid.neighbour(k, pass) {
         Some(j) => strip_of(plan, Half::Linked, j, pass),
-        None => Strip {
-            start: 0,
-            line_step: 0,
-            place_step: 0,
-            lines: 0,
-            first: 0,
-            past: 0,
-        },
+        None => Strip::EMPTY,
     }
 }

@@ -23,9 +23,6 @@ returns-then-course-eq0 c =
     link_none c.args.plan c.args.k c.args.pass c.requires c.course_of-course.ensures c.args.strips.now
     c.if-course-eq0.true
 
-pub read_strips-read-requires : goal.read_strips-read-requires
-read_strips-read-requires c = c.requires
-
 pub link_lines-requires : goal.link_lines-requires
 link_lines-requires c =
     record { link_fits = fits (goal.at.link_lines-requires c).After-unit_gain_filters-filters; zero_words = record { length_is = refl; zeros = zeros_at line_words } }

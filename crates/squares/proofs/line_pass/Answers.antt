@@ -3,12 +3,8 @@ use Prim.Native.Nat.{◌+◌}
 use native.Mathlib.Omega.{arith}
 use Rattle.squares.specs.LineBuffers.{filter_at}
 use Rattle.squares.proofs.Lines.{lines_fit, pass_some, pass_none}
-use Rattle.squares.proofs.LinePasses.{passes_in_axis}
 use Rattle.squares.proofs.LineRows.{rows_few}
 use Rattle.squares.proofs.line_pass.Goals as goal
-
-pub overflow_add-along_rows : goal.overflow_add-along_rows
-overflow_add-along_rows c = omega (arith, c.axis_passes-along_rows.ensures, passes_in_axis c.args.pass)
 
 pub run_pass-requires : goal.run_pass-requires
 run_pass-requires c =
@@ -20,7 +16,7 @@ run_pass-requires c =
           (omega (
             arith,
             f.passes,
-            rows_few (filter_at c.args.filters) f.orders (c.args.pass + 1) f.passes,
+            rows_few (filter_at c.args.filters.now) f.orders (c.args.pass + 1) f.passes,
           )))
           f.some_places f.few_places f.long,
     )
@@ -28,10 +24,10 @@ run_pass-requires c =
 pub returns-then-rows-gt0 : goal.returns-then-rows-gt0
 returns-then-rows-gt0 c =
     let a = c.args in
-    pass_some (filter_at a.filters) a.places a.pass a.lines.now c.rows_before-rows.ensures (omega arith)
+    pass_some (filter_at a.filters.now) a.places a.pass a.lines.now c.rows_before-rows.ensures (omega arith)
     (rw c.axis_passes-along_rows.ensures at c.run_pass.ensures)
 
 pub returns-else-rows-gt0 : goal.returns-else-rows-gt0
 returns-else-rows-gt0 c =
     let a = c.args in
-    pass_none (filter_at a.filters) a.places a.pass a.lines.now c.rows_before-rows.ensures (omega arith)
+    pass_none (filter_at a.filters.now) a.places a.pass a.lines.now c.rows_before-rows.ensures (omega arith)

@@ -1,26 +1,22 @@
 -- `rows_before` has the rows of the passes so far.
-use mathlib.Core.Path.{◌≡◌, sym}
+use mathlib.Core.Path.{sym}
+use Prim.Native.Nat.{◌<◌}
 use native.Mathlib.Omega.{arith}
+use Rattle.std.proofs.lemmas.List.{length-take-le, get_or-take}
 use Rattle.number.proofs.Sums.{total_none}
 use Rattle.squares.specs.LineBuffers.{filter_at, rows_before}
 use Rattle.squares.proofs.LineRows.{rows_next}
 use Rattle.squares.proofs.rows_before.Goals as goal
 
-pub loop-before-init : goal.loop-before-init
+pub loop-filter-init : goal.loop-filter-init
 unfolding rows_before
-loop-before-init c = (omega arith, sym (total_none _), omega arith)
+loop-filter-init c = (sym (total_none _), omega arith)
 
-pub overflow_add-rows : goal.overflow_add-rows
-overflow_add-rows c =
-    let few = c.requires.0.order_limited c.loop-before.before (omega arith) in
-    record { fits = omega arith }
-
-pub loop-before-preserved : goal.loop-before-preserved
-loop-before-preserved c =
-    let few = c.requires.0.order_limited c.loop-before.before (omega arith) in
-    (omega arith, rows_next (filter_at c.args.filters) c.loop-before.before c.loop-before.invariant.1, omega arith)
-
-pub returns : goal.returns
-returns c =
-    let e : c.loop-before.before ≡ c.args.pass = omega arith in
-    rw e at c.loop-before.invariant.1
+pub loop-filter-preserved : goal.loop-filter-preserved
+loop-filter-preserved c =
+    let i = c.loop-filter.filter-index in
+    let all = length-take-le c.args.pass c.args.filters.now (omega (arith, c.told-filters)) in
+    let here : i < c.args.pass = omega (arith, all) in
+    let few = c.requires.0.order_limited i (omega arith) in
+    rw (get_or-take c.args.pass c.args.filters.now i _ here)
+    (rows_next (filter_at c.args.filters.now) i c.loop-filter.invariant.0, omega arith)

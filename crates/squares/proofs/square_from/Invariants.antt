@@ -1,6 +1,6 @@
 -- `square_from` has the rows of the lines passed so far.
 use mathlib.Core.Path.{◌≡◌}
-use Prim.Native.Nat.{ℕ, ◌+◌, ◌-◌, ◌<◌, ◌≤◌}
+use Prim.Native.Nat.{ℕ, ◌+◌, ◌<◌}
 use lib.ListN.{length}
 use Rattle.plan.specs.Rules.{order_limit}
 use Rattle.buffer.specs.Lists.{word_at}
@@ -10,10 +10,6 @@ use Rattle.squares.proofs.square_from.Given as goal
 
 abbrev pub invariant-loop-line : goal.invariant-loop-line
 invariant-loop-line turn =
-    (turn.line ≤ turn.count)
-    × (length turn.square ≡ order_limit)
+    (length turn.square ≡ order_limit)
     × ((l p : ℕ) → l < turn.line → p < order_limit
     → square_at turn.square l p ≡ word_at turn.lines (row_major row_words (turn.row + l) (turn.from + p)))
-
-abbrev pub decreases-loop-line : goal.decreases-loop-line
-decreases-loop-line l = l.count - l.line

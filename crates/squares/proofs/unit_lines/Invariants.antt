@@ -1,6 +1,5 @@
 -- `unit_lines` has set the units of the lines so far.
 use mathlib.Core.Path.{◌≡◌}
-use Prim.Native.Nat.{◌-◌, ◌≤◌}
 use lib.ListN.{length}
 use Rattle.axis.specs.Axis.{direction_of}
 use Rattle.squares.specs.LineBuffers.{unit_lines}
@@ -8,7 +7,4 @@ use Rattle.squares.proofs.unit_lines.Given as goal
 
 abbrev pub invariant-loop-line : goal.invariant-loop-line
 invariant-loop-line l =
-    (l.line ≤ l.order) × (length l.lines ≡ length l.initial.lines) × (l.lines ≡ unit_lines (direction_of l.pass) l.row l.places l.line l.initial.lines)
-
-abbrev pub decreases-loop-line : goal.decreases-loop-line
-decreases-loop-line l = l.order - l.line
+    (length l.lines ≡ length l.initial.lines) × (l.lines ≡ unit_lines (direction_of l.pass) l.row l.places l.line l.initial.lines)

@@ -40,6 +40,3 @@ overflow_mul-result c =
 pub overflow_add-result-2 : goal.overflow_add-result-2
 overflow_add-result-2 c =
     rw c.order_sum.ensures (omega (arith, half_start_law (goal.at.overflow_add-result-2 c).After-words_before_half, small (goal.at.overflow_add-result-2 c).After-half_words))
-
-pub returns : goal.returns
-returns c = cc

@@ -22,6 +22,19 @@ overflow_mul-count c =
     let most = bounds c.args.plan c.requires.strip_at.kept in
     rw c.order.ensures (omega (arith, inside (goal.at.overflow_mul-count c).After-strip_start-start, most))
 
-pub read_words-requires : goal.read_words-requires
-read_words-requires c =
-    rw (c.order.ensures, c.strip_start-start.ensures) (omega (arith, inside (goal.at.read_words-requires c).After-strip_start-start, c.requires.strips_long))
+pub overflow_add-start : goal.overflow_add-start
+overflow_add-start c =
+    let most = bounds c.args.plan c.requires.strip_at.kept in
+    rw (c.order.ensures, c.strip_start-start.ensures)
+    (omega (arith, inside (goal.at.overflow_add-start c).After-strip_start-start, most))
+
+pub offset_bounds-strips-start : goal.offset_bounds-strips-start
+offset_bounds-strips-start c =
+    let most = bounds c.args.plan c.requires.strip_at.kept in
+    rw c.strip_start-start.ensures
+    (omega (arith, inside (goal.at.offset_bounds-strips-start c).After-strip_start-start, most))
+
+pub slice_bounds-read_words-end : goal.slice_bounds-read_words-end
+slice_bounds-read_words-end c =
+    rw (c.order.ensures, c.strip_start-start.ensures)
+    (omega (arith, inside (goal.at.slice_bounds-read_words-end c).After-strip_start-start, c.requires.strips_long))

@@ -1,5 +1,5 @@
 -- `add_histories` has added the distances so far.
-use mathlib.Core.Path.{◌≡◌, ap}
+use mathlib.Core.Path.{ap}
 use native.Mathlib.Omega.{arith}
 use Rattle.word.specs.Word.{◌⊗◌}
 use Rattle.strips.specs.StripRecord.{strip_read}
@@ -8,28 +8,12 @@ use Rattle.link.proofs.carrying.add_histories.Goals as goal
 
 pub loop-distance-init : goal.loop-distance-init
 loop-distance-init c =
-    (omega arith, histories_none _ _ _ _ _ (λ z. omega (arith, c.type_inv.responses z)))
-
-pub add_distance-requires : goal.add_distance-requires
-add_distance-requires c =
-    let pre = c.requires.0 in
-    record {
-      course_fits = pre.course_fits;
-      responses_long = omega (arith, c.loop-distance.invariant.1.length_kept, pre.responses_long);
-      strip_fits = pre.strip_fits;
-    }
+    histories_none _ _ _ _ _ (λ z. omega (arith, c.type_inv.responses z))
 
 pub loop-distance-preserved : goal.loop-distance-preserved
 loop-distance-preserved c =
-    let a = c.args in (
-      omega arith,
-      histories_more a.course.lines a.course.order c.loop-distance.distance _ _ a.responses.now
-          c.loop-distance.invariant.1
-          (λ line. ap (λ place. a.gain ⊗ strip_read a.strip a.strips.now line place) c.from_edge-place.ensures)
-          c.add_distance.ensures,
-    )
-
-pub returns : goal.returns
-returns c =
-    let e : c.loop-distance.distance ≡ c.args.order = omega arith in
-    rw e at c.loop-distance.invariant.1
+    let a = c.args in
+    histories_more a.course.lines a.course.order c.loop-distance.distance _ _ a.responses.now
+    c.loop-distance.invariant
+    (λ line. ap (λ place. a.gain ⊗ strip_read a.strip a.strips.now line place) c.from_edge-place.ensures)
+    c.add_distance.ensures

@@ -1,5 +1,5 @@
 -- `add_multiples` has added the multiples of the places so far.
-use Prim.Native.Nat.{◌+◌, ◌-◌, ◌*◌, ◌≤◌}
+use Prim.Native.Nat.{◌+◌, ◌*◌}
 use Rattle.word.specs.Word.{◌⊗◌}
 use Rattle.buffer.specs.Lists.{word_at}
 use Rattle.link.specs.Carrying.{MultiplesAdded}
@@ -7,8 +7,4 @@ use Rattle.link.proofs.carrying.add_multiples.Given as goal
 
 abbrev pub invariant-loop-place : goal.invariant-loop-place
 invariant-loop-place turn =
-    (turn.place ≤ turn.order)
-    × MultiplesAdded turn.lines turn.place (λ l. turn.gain ⊗ word_at turn.strips (turn.at + l * turn.step)) (word_at turn.weights) turn.initial.responses turn.responses
-
-abbrev pub decreases-loop-place : goal.decreases-loop-place
-decreases-loop-place l = l.order - l.place
+    MultiplesAdded turn.lines turn.place (λ l. turn.gain ⊗ word_at turn.strips (turn.at + l * turn.step)) (word_at turn.weights) turn.initial.responses turn.responses

@@ -5,20 +5,14 @@ use Rattle.link.proofs.carrying.Histories.{carry_none, carry_next, carry_all}
 use Rattle.link.proofs.carrying.carry.Goals as goal
 
 pub loop-done-init : goal.loop-done-init
-loop-done-init c = (omega arith, carry_none (filter_at c.args.filters) c.args.course _ c.requires.held)
-
-pub carry_pass-requires : goal.carry_pass-requires
-carry_pass-requires c =
-    record { carry_fits = c.requires.carry_fits; pass_to_carry = record { from_first = omega arith; in_course = omega arith; responses_long = c.loop-done.invariant.1.length_is } }
+loop-done-init c = carry_none (filter_at c.args.filters.now) c.args.course _ c.requires.held
 
 pub loop-done-preserved : goal.loop-done-preserved
 loop-done-preserved c =
-    let a = c.args in (
-      omega arith,
-      carry_next (filter_at a.filters) a.course _ c.loop-done.done (omega arith) c.loop-done.invariant.1 c.carry_pass.ensures,
-    )
+    let a = c.args in
+    carry_next (filter_at a.filters.now) a.course _ c.loop-done.done (omega arith) c.loop-done.invariant c.carry_pass.ensures
 
 pub returns : goal.returns
 returns c =
-    carry_all (filter_at c.args.filters) c.args.course _ c.requires.carry_fits.link_fits.course_fits c.loop-done.invariant.1
+    carry_all (filter_at c.args.filters.now) c.args.course _ c.requires.carry_fits.link_fits.course_fits c.loop-done.invariant
     (omega arith)

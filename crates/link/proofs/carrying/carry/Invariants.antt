@@ -1,5 +1,4 @@
 -- `carry` has added the histories of the passes so far.
-use Prim.Native.Nat.{◌-◌, ◌≤◌}
 use Rattle.squares.specs.LineBuffers.{filter_at}
 use Rattle.link.specs.Crossing.{Held}
 use Rattle.link.proofs.carrying.Histories.{carried_to}
@@ -8,8 +7,4 @@ use Rattle.link.proofs.carrying.carry.Given as goal
 
 abbrev pub invariant-loop-done : goal.invariant-loop-done
 invariant-loop-done l =
-    (l.done ≤ l.course.passes)
-    × Held l.course (carried_to (filter_at l.filters) l.course (scaled_edges l.plan l.strips l.k l.course.pass) l.done) l.responses
-
-abbrev pub decreases-loop-done : goal.decreases-loop-done
-decreases-loop-done l = l.course.passes - l.done
+    Held l.course (carried_to (filter_at l.filters) l.course (scaled_edges l.plan l.strips l.k l.course.pass) l.done) l.responses

@@ -26,7 +26,7 @@ square_from-square-requires c =
             arith,
             pass_below (goal.at.square_from-square-requires c).Start,
             c.requires.carry_fits.ready.length_is,
-            rows_few (filter_at c.args.filters) (link_orders fits) c.args.pass (omega (arith, pass_below (goal.at.square_from-square-requires c).Start)),
+            rows_few (filter_at c.args.filters.now) (link_orders fits) c.args.pass (omega (arith, pass_below (goal.at.square_from-square-requires c).Start)),
           )),
     )
 

@@ -1,8 +1,7 @@
 -- `copy_ends` has put the ends of the rows so far into the margin.
-use mathlib.Core.Path.{◌≡◌, refl}
+use mathlib.Core.Path.{refl}
 use Prim.Native.Nat.{◌<◌}
 use native.Mathlib.Omega.{arith}
-use borrow.Author.Rules.{rules}
 use Rattle.axis.specs.Axis.{direction_of}
 use Rattle.squares.proofs.Lines.{margin_below}
 use Rattle.squares.specs.LineBuffers.{row_words}
@@ -19,10 +18,7 @@ row_below c =
 
 pub loop-distance-init : goal.loop-distance-init
 loop-distance-init c =
-    record { counted = omega arith; length_kept = refl; as_made = ends_none _ _ _ _ _ }
-
-pub overflow_mul-to : goal.overflow_mul-to
-overflow_mul-to c = let h = row_below (goal.at.overflow_mul-to c).After-margin-to in search rules
+    record { length_kept = refl; as_made = ends_none _ _ _ _ _ }
 
 pub copy_words-requires : goal.copy_words-requires
 copy_words-requires c =
@@ -37,14 +33,8 @@ pub loop-distance-preserved : goal.loop-distance-preserved
 loop-distance-preserved c =
     let a = c.args in
     record {
-      counted = omega arith;
       length_kept = omega (arith, c.copy_words.auto, c.loop-distance.invariant.length_kept);
       as_made =
           ends_next (direction_of a.pass) a.course a.row a.lines.now a.responses.now c.loop-distance.distance
           c.loop-distance.invariant.as_made c.margin-to.ensures c.copy_words.ensures;
     }
-
-pub returns : goal.returns
-returns c =
-    let e : c.loop-distance.distance ≡ c.args.order = omega arith in
-    rw e at c.loop-distance.invariant.as_made

@@ -8,38 +8,24 @@ use Rattle.link.proofs.crossing.cross.Goals as goal
 pub loop-pass-init : goal.loop-pass-init
 loop-pass-init c =
     record {
-      counted = omega arith;
       length_is = c.requires.cross_fits.responses_long;
       held = λ H ready.
-          cross_none (filter_at c.args.filters) c.args.course H c.args.responses.now c.requires.cross_fits.responses_long
+          cross_none (filter_at c.args.filters.now) c.args.course H c.args.responses.now c.requires.cross_fits.responses_long
           c.requires.by_index;
     }
-
-pub cross_pass-requires : goal.cross_pass-requires
-cross_pass-requires c =
-    let cross = c.requires.cross_fits in (
-      record {
-        course_fits = cross.course_fits;
-        orders = cross.orders;
-        lines_long = cross.lines_long;
-        responses_long = c.loop-pass.invariant.length_is;
-      },
-      omega (arith, cross.course_fits.first_low),
-    )
 
 pub loop-pass-preserved : goal.loop-pass-preserved
 loop-pass-preserved c =
     let a = c.args in
     record {
-      counted = omega arith;
       length_is = c.cross_pass.ensures.length_kept ∙ c.loop-pass.invariant.length_is;
       held = λ H ready.
-          cross_next (filter_at a.filters) a.course H c.loop-pass.pass (omega arith) ready (c.loop-pass.invariant.held H ready)
+          cross_next (filter_at a.filters.now) a.course H c.loop-pass.pass (omega arith) ready (c.loop-pass.invariant.held H ready)
           c.cross_pass.ensures;
     }
 
 pub returns : goal.returns
 returns c =
     λ H ready.
-    cross_all (filter_at c.args.filters) c.args.course H c.requires.cross_fits.course_fits (c.loop-pass.invariant.held H ready)
+    cross_all (filter_at c.args.filters.now) c.args.course H c.requires.cross_fits.course_fits (c.loop-pass.invariant.held H ready)
     (omega arith)

@@ -1,7 +1,7 @@
 -- `cross` has made the passes of the other axis so far.
 use mathlib.Core.List.{List}
 use mathlib.Core.Path.{◌≡◌}
-use Prim.Native.Nat.{ℕ, ◌-◌, ◌≤◌}
+use Prim.Native.Nat.{ℕ}
 use lib.ListN.{length}
 use Rattle.passes.specs.Filter.{Filter}
 use Rattle.squares.specs.LineBuffers.{filter_at}
@@ -13,12 +13,8 @@ use Rattle.link.proofs.crossing.cross.Given as goal
 
 -- The first passes have been made.
 pub record PassesMade (filters : ℕ → Filter) (course : Course) (lines responses : List ℕ) (pass : ℕ) : Type 0 where
-  pub counted : pass ≤ course.first
   pub length_is : length responses ≡ response_words
   pub held : (H : ℕ → ℕ → ℕ → ℕ) → LinesReady filters course H lines → Held course (crossed_to filters course H pass) responses
 
 abbrev pub invariant-loop-pass : goal.invariant-loop-pass
 invariant-loop-pass l = PassesMade (filter_at l.filters) l.course l.lines l.responses l.pass
-
-abbrev pub decreases-loop-pass : goal.decreases-loop-pass
-decreases-loop-pass l = l.course.first - l.pass

@@ -2,7 +2,7 @@
 use native.Mathlib.Omega.{arith}
 use Rattle.squares.proofs.LineRows.{rows_in_law}
 use Rattle.squares.specs.LineBuffers.{filter_at}
-use Rattle.link.proofs.crossing.OtherAxis.{response_fits, cross_passed}
+use Rattle.link.proofs.crossing.OtherAxis.{cross_passed}
 use Rattle.link.proofs.crossing.cross_pass.Goals as goal
 
 pub copy_ends-requires : goal.copy_ends-requires
@@ -12,20 +12,12 @@ copy_ends-requires c =
       course_fits = cross.course_fits;
       order_limited = cross.orders.order_limited c.args.pass (omega arith);
       rows_in_law =
-          rw c.rows_before-row.ensures (rows_in_law (filter_at c.args.filters) cross.orders c.args.pass (omega arith));
+          rw c.rows_before-row.ensures (rows_in_law (filter_at c.args.filters.now) cross.orders c.args.pass (omega arith));
       lines_long = cross.lines_long;
       responses_long = cross.responses_long;
     }
 
-pub run_pass-requires : goal.run_pass-requires
-run_pass-requires c =
-    let cross = c.requires.0 in (
-      cross.orders.order_limited c.args.pass (omega arith),
-      response_fits _ c.args.pass c.args.course cross.course_fits
-          (omega (arith, c.copy_ends.auto, cross.responses_long)) (omega arith),
-    )
-
 pub returns : goal.returns
 returns c =
-    cross_passed (filter_at c.args.filters) c.args.course c.args.lines.now c.args.responses.now c.requires.0
+    cross_passed (filter_at c.args.filters.now) c.args.course c.args.lines.now c.args.responses.now c.requires.0
     c.args.pass c.requires.1 c.rows_before-row.ensures c.copy_ends.ensures c.run_pass.ensures

@@ -21,6 +21,6 @@ run_lines-requires c =
 pub returns : goal.returns
 returns c =
     let link = c.requires.link_fits in
-    lines_ready (filter_at c.args.filters) c.args.course
+    lines_ready (filter_at c.args.filters.now) c.args.course
     (scaled_edges c.args.plan c.args.strips.now c.args.k c.args.course.pass) link.course_fits
     (link_orders link) c.fill_lines.ensures c.run_lines.ensures

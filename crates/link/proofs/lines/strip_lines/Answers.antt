@@ -1,5 +1,5 @@
 -- `strip_lines` has put the lines of the distances so far into their rows.
-use mathlib.Core.Path.{◌≡◌, refl}
+use mathlib.Core.Path.{refl}
 use native.Mathlib.Omega.{arith}
 use Rattle.axis.specs.Axis.{direction_of}
 use Rattle.link.proofs.lines.StripRows.{strip_lines_none, strip_lines_next}
@@ -8,33 +8,16 @@ use Rattle.link.proofs.lines.strip_lines.Goals as goal
 pub loop-distance-init : goal.loop-distance-init
 loop-distance-init c =
     record {
-      counted = omega arith;
       length_kept = refl;
       as_made = strip_lines_none _ _ _ _ _ _ _ _;
-    }
-
-pub strip_line-requires : goal.strip_line-requires
-strip_line-requires c =
-    let pre = c.requires in
-    record {
-      rows_in_law = omega (arith, pre.rows_in_law);
-      few_places = pre.few_places;
-      long = omega (arith, pre.long, c.loop-distance.invariant.length_kept);
-      strip_fits = pre.strip_fits;
     }
 
 pub loop-distance-preserved : goal.loop-distance-preserved
 loop-distance-preserved c =
     let a = c.args in
     record {
-      counted = omega arith;
       length_kept = omega (arith, c.strip_line.auto, c.loop-distance.invariant.length_kept);
       as_made =
           strip_lines_next a.gain (direction_of a.pass) a.order a.strip a.strips.now a.row a.places
           a.lines.now c.loop-distance.distance c.loop-distance.invariant.as_made c.from_edge-place.ensures c.strip_line.ensures;
     }
-
-pub returns : goal.returns
-returns c =
-    let e : c.loop-distance.distance ≡ c.args.order = omega arith in
-    rw e at c.loop-distance.invariant.as_made

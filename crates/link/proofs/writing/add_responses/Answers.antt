@@ -1,8 +1,7 @@
 -- `add_responses` has added the responses of the lines so far.
-use mathlib.Core.Path.{◌≡◌, refl, ◌∙◌}
+use mathlib.Core.Path.{refl, ◌∙◌}
 use Prim.Native.Nat.{◌+◌, ◌*◌, ◌<◌}
 use native.Mathlib.Omega.{arith}
-use borrow.Author.Rules.{rules}
 use lib.ListN.{length, length-set}
 use Rattle.link.proofs.writing.Places.{responses_none, responses_next}
 use Rattle.link.proofs.writing.add_responses.Goals as goal
@@ -20,42 +19,14 @@ here c =
 
 pub loop-line-init : goal.loop-line-init
 loop-line-init c =
-    record { counted = omega arith; length_kept = refl; as_made = responses_none _ _ _ _ _ _ }
-
-pub overflow_mul-before : goal.overflow_mul-before
-overflow_mul-before c = let h = here (goal.at.overflow_mul-before c).In-loop-line in search rules
-
-pub overflow_add-from : goal.overflow_add-from
-overflow_add-from c = let h = here (goal.at.overflow_add-from c).In-loop-line in search rules
-
-pub offset_bounds-strips-from : goal.offset_bounds-strips-from
-offset_bounds-strips-from c =
-    let h = here (goal.at.offset_bounds-strips-from c).In-loop-line in search rules
-
-pub bounds-strips-from : goal.bounds-strips-from
-bounds-strips-from c = let h = here (goal.at.bounds-strips-from c).In-loop-line in search rules
-
-pub overflow_add-strips : goal.overflow_add-strips
-overflow_add-strips c = let h = here (goal.at.overflow_add-strips c).In-loop-line in search rules
-
-pub offset_bounds-strips-to : goal.offset_bounds-strips-to
-offset_bounds-strips-to c = let h = here (goal.at.offset_bounds-strips-to c).In-loop-line in search rules
-
-pub bounds-strips-to : goal.bounds-strips-to
-bounds-strips-to c = let h = here (goal.at.bounds-strips-to c).In-loop-line in search rules
+    record { length_kept = refl; as_made = responses_none _ _ _ _ _ _ }
 
 pub loop-line-preserved : goal.loop-line-preserved
 loop-line-preserved c =
     record {
-      counted = omega arith;
       length_kept = length-set c.loop-line.strips _ _ ∙ c.loop-line.invariant.length_kept;
       as_made =
           responses_next c.args.from c.args.to c.args.step c.args.responses.now c.args.place
           c.args.strips.now c.loop-line.line (here (goal.at.loop-line-preserved c).In-loop-line).0 c.loop-line.invariant.as_made
           c.response_place.ensures c.add.ensures;
     }
-
-pub returns : goal.returns
-returns c =
-    let e : c.loop-line.line ≡ c.args.lines = omega arith in
-    rw e at c.loop-line.invariant.as_made

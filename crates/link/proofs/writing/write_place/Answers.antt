@@ -22,15 +22,6 @@ few c =
     let a = c.args in
     omega (arith, c.lines_inside-lines.ensures, lines_few a.lone a.place a.side)
 
-pub first_at-from-requires : goal.first_at-from-requires
-first_at-from-requires c =
-    let pre = c.requires in
-    omega (arith, pre.inside 0 c.args.place pre.some_lines (omega arith))
-
-pub overflow_add-to : goal.overflow_add-to
-overflow_add-to c =
-    let pre = c.requires in omega (arith, pre.inside 0 c.args.place pre.some_lines (omega arith))
-
 pub add_responses-requires : goal.add_responses-requires
 add_responses-requires c =
     record {
@@ -45,16 +36,6 @@ add_responses-requires c =
           word_before c.args.lone c.args.shift c.args.side c.args.place c.args.responses.now
           c.args.strips.now c.requires c.first_at-from.ensures line (omega (arith, few (goal.at.add_responses-requires c).After-lines_inside-lines));
     }
-
-pub overflow_mul-lines : goal.overflow_mul-lines
-overflow_mul-lines c =
-    let h = there (goal.at.overflow_mul-lines c).After-lines_inside-lines c.lines_inside-lines.result (omega arith) in
-    omega arith
-
-pub overflow_add-to-then-lines-side : goal.overflow_add-to-then-lines-side
-overflow_add-to-then-lines-side c =
-    let h = there (goal.at.overflow_add-to-then-lines-side c).After-lines_inside-lines c.lines_inside-lines.result (omega arith) in
-    omega arith
 
 pub clear_words-requires : goal.clear_words-requires
 clear_words-requires c =

@@ -1,10 +1,9 @@
 -- `write_strip` has written the places so far.
-use mathlib.Core.Path.{◌≡◌}
 use Prim.Native.Nat.{◌+◌}
 use native.Mathlib.Omega.{arith}
 use lib.ListN.{length}
 use Rattle.link.specs.Writing.{StripLaid}
-use Rattle.link.proofs.writing.Places.{laid_fewer, places_none, places_next}
+use Rattle.link.proofs.writing.Places.{laid_fewer, places_next}
 use Rattle.link.proofs.writing.write_strip.Goals as goal
 use Rattle.link.proofs.writing.write_strip.Goals.{In-loop-place}
 
@@ -12,23 +11,10 @@ use Rattle.link.proofs.writing.write_strip.Goals.{In-loop-place}
 laid : (c : In-loop-place)
     → let a = c.args in
     StripLaid (length c.loop-place.strips) a.lone a.shift (c.loop-place.place + 1) a.side (length a.responses.now)
-laid c = laid_fewer c.requires (c.loop-place.place + 1) (omega arith) c.loop-place.invariant.1.length_kept
-
-pub loop-place-init : goal.loop-place-init
-loop-place-init c = (omega arith, places_none _ _ _ _ _)
-
-pub write_place-requires : goal.write_place-requires
-write_place-requires c = laid (goal.at.write_place-requires c).In-loop-place
+laid c = laid_fewer c.requires (c.loop-place.place + 1) (omega arith) c.loop-place.invariant.length_kept
 
 pub loop-place-preserved : goal.loop-place-preserved
 loop-place-preserved c =
-    let a = c.args in (
-      omega arith,
-      places_next a.lone a.shift a.side c.loop-place.place a.responses.now a.strips.now (laid (goal.at.loop-place-preserved c).In-loop-place) c.loop-place.invariant.1
-          c.write_place.ensures,
-    )
-
-pub returns : goal.returns
-returns c =
-    let e : c.loop-place.place ≡ c.args.order = omega arith in
-    rw e at c.loop-place.invariant.1
+    let a = c.args in
+    places_next a.lone a.shift a.side c.loop-place.place a.responses.now a.strips.now (laid (goal.at.loop-place-preserved c).In-loop-place) c.loop-place.invariant
+    c.write_place.ensures
