@@ -64,7 +64,7 @@ fn report_on(grid: Grid, marks: &[u32]) -> Result<Progress, Refusal>
     })
 }
 
-// The least block whose mark is broken, or the number of blocks.
+// The least block whose mark is broken, or the number of blocks, a number above every block, as its definition has it.
 #[tactic(auto, using(tasks::proofs::Verdicts::below_none, tasks::proofs::Verdicts::below_valid, tasks::proofs::Verdicts::below_all, tasks::proofs::Verdicts::first_least), unfolding(crate::specs::Report::first_broken))]
 pub fn first_broken(grid: Grid, marks: &[u32]) -> usize
     requires { Lent grid (length marks.now) }
@@ -115,30 +115,25 @@ fn sums_of(grid: Grid, marks: &[u32]) -> Sums
         marked += marked_at(marks, block);
         tally += tally_at(grid, marks, block);
     }
-    Sums {
-        marked: marked,
-        tally: tally,
-    }
+    Sums { marked, tally }
 }
 
-// The first ready task: task numbers rising, and for each the blocks rising.
+// The first ready task: task numbers rising, and for each the blocks rising. Document 01 has this search as nested loops
+// that are left by label with the ready task.
 #[tactic(auto, using(crate::proofs::Search::row_hit, crate::proofs::Search::row_miss, crate::proofs::Search::row_end_law, crate::proofs::Search::task_end, crate::proofs::Search::task_row), unfolding(crate::specs::Report::first_ready))]
 pub fn first_ready(grid: Grid, marks: &[u32]) -> Option<Ready>
     requires { Lent grid (length marks.now) }
     ensures { result ≡ first_ready grid (is_marked marks.now) }
 {
     let blocks = grid.blocks();
-    let mut first = None;
-    'out: for task in 0..tasks::TASKS {
-        for block in 0..blocks {
-            if tasks::is_ready(grid, marks, task, block) {
-                first = Some(Ready {
-                    task: task,
-                    block: block,
-                });
-                break 'out;
+    'out: {
+        for task in 0..tasks::TASKS {
+            for block in 0..blocks {
+                if tasks::is_ready(grid, marks, task, block) {
+                    break 'out Some(Ready { task, block });
+                }
             }
         }
+        None
     }
-    first
 }
