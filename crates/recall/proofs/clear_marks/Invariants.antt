@@ -1,13 +1,9 @@
 -- Invariant: the marks before this block are without the bits that the recall clears.
 use mathlib.Core.Path.{◌≡◌}
-use Prim.Native.Nat.{◌-◌, ◌≤◌}
 use lib.ListN.{length}
 use Rattle.recall.proofs.Clearing.{recalled_to}
 use Rattle.recall.proofs.clear_marks.Given as goal
 
 abbrev pub invariant-loop-block : goal.invariant-loop-block
 invariant-loop-block l =
-    (l.block ≤ l.blocks) × (length l.marks ≡ length l.initial.marks) × (l.marks ≡ recalled_to l.grid l.recalled l.initial.marks l.block)
-
-abbrev pub decreases-loop-block : goal.decreases-loop-block
-decreases-loop-block l = l.blocks - l.block
+    (length l.marks ≡ length l.initial.marks) × (l.marks ≡ recalled_to l.grid l.recalled l.initial.marks l.block)
