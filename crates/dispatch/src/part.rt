@@ -5,7 +5,7 @@ ghost use Rattle.turns.specs.Turn.{turn_of};
 ghost use Rattle.dispatch.specs.Part.{JobLent, first_broken_of};
 
 use grid::Grid;
-use report::Next;
+use report::Ready;
 use turns::{Job, Turn};
 
 // Whether a job's marks end by a place. The end is not worked out, since it may be past what a word holds.
@@ -45,12 +45,10 @@ pub fn turn_of(i: usize, job: Job, marks: &[u32]) -> Option<Turn>
     requires { JobLent job (length marks.now) }
     ensures { result ≡ turn_of i job marks.now }
 {
-    match report::first_ready(Grid::from(job), &marks[job.marks_start..]) {
-        Next::Ready(task, block) => Some(Turn {
-            job: i,
-            task,
-            block,
-        }),
-        Next::Nothing => None,
-    }
+    let Ready { task, block } = report::first_ready(Grid::from(job), &marks[job.marks_start..])?;
+    Some(Turn {
+        job: i,
+        task,
+        block,
+    })
 }

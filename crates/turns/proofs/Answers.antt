@@ -22,7 +22,7 @@ use Rattle.report.proofs.Claims.{found_ready, reported}
 use Rattle.turns.specs.declared.Job.{Job}
 use Rattle.turns.specs.declared.Turn.{Turn}
 use Rattle.turns.specs.Jobs.{job_at, grid_of, jobs_kept, well_placed, first_misplaced, broken_place, first_broken_place}
-use Rattle.turns.specs.Turn.{marks_from, marked_in, job_done, passed_over, turn_to, turn}
+use Rattle.turns.specs.Turn.{ready_to, marks_from, marked_in, job_done, passed_over, turn_to, turn}
 use Rattle.turns.specs.Dispatch.{TurnValues, zero_turn, turn_values, dispatch_given, dispatch_rows, dispatch}
 use Rattle.turns.specs.Answers.{LetThrough, LetThroughIsAccepted, Refuses, RefusesAtTheLeast, naming, NoneIfAllDone, WellNamed, NamesWell}
 use Rattle.turns.proofs.Least.{clash, least_below_law, least_holds, least_bound}
@@ -200,7 +200,7 @@ module _ (jobs : List Job) (last : ℕ) (marks : List ℕ) where
         before_it = λ j l before.
             let (d, h, is) = come_before jobs last (passed_over jobs last marks) j f.inside l (rw f.round at before) in
             ap (λ (n : ℕ). job_done (job_at jobs n) marks) (sym is) ∙ passed_done jobs last marks d h;
-        ready = found_ready (grid_of (job_at jobs i)) (marked_in (job_at jobs i) marks) t k f.first;
+        ready = found_ready (grid_of (job_at jobs i)) (marked_in (job_at jobs i) marks) (ready_to t k) f.first;
         reported = reported_so a i t k f inside;
       }
 

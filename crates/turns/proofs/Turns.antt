@@ -4,7 +4,7 @@ use mathlib.Core.Path.{◌≡◌, refl, sym, ap, ◌∙◌}
 use mathlib.Core.Logic.{⊎_elim}
 use mathlib.Core.Bool.{Bool, true, false, not, ◌||◌}
 use mathlib.Core.List.{List}
-use Rattle.std.specs.Prelude.{None, Some}
+use Rattle.std.specs.Prelude.{Option, None, Some}
 use Prim.Native.Nat.{ℕ, suc, ◌+◌, ◌-◌, ◌%◌, ◌<◌, ◌≤◌}
 use native.Mathlib.Omega.{arith}
 use native.Mathlib.Nat.{mod-lt, mod-eq_of_lt, add-mod_right, mod-add-mod}
@@ -19,14 +19,13 @@ use Rattle.tasks.specs.Tasks.{exists}
 use Rattle.tasks.specs.Marks.{is_marked}
 use Rattle.tasks.proofs.Existence.{exists_block, exists_task}
 use Rattle.tasks.proofs.Needs.{All, ready_exists, ready_undone}
-use Rattle.report.specs.declared.Next.{Next}
-use Rattle.report.specs.declared.Next.TheVariants.{Ready, Nothing}
+use Rattle.report.specs.declared.Ready.{Ready}
 use Rattle.report.specs.Report.{first_ready}
 use Rattle.report.proofs.Claims.{none_all, found_ready}
 use Rattle.turns.specs.declared.Job.{Job}
 use Rattle.turns.specs.declared.Turn.{Turn}
 use Rattle.turns.specs.Jobs.{job_at, grid_of}
-use Rattle.turns.specs.Turn.{marks_from, marked_in, marked_if_exists, job_done, look_from, going_round, waits, passed_over, turn_to, turn_with, turn_of, turn}
+use Rattle.turns.specs.Turn.{ready_to, marks_from, marked_in, marked_if_exists, job_done, look_from, going_round, waits, passed_over, turn_to, turn_with, turn_of, turn}
 use Rattle.turns.specs.Answers.{DoneIfAllMarked, ComesBefore, between, behind, from_start, BeginsWithFirst}
 use Rattle.turns.proofs.Least.{clash, least_below_law, least_holds, least_none}
 
@@ -57,13 +56,13 @@ module _ (job : Job) (marks : List ℕ) where
 
   -- A job with unmarked tasks has a ready one, on any marks.
   pub unmarked_ready : job_done job marks ≡ false
-      → (t : ℕ) × (k : ℕ) × (first_ready (grid_of job) (marked_in job marks) ≡ Ready t k)
+      → (t : ℕ) × (k : ℕ) × (first_ready (grid_of job) (marked_in job marks) ≡ Some (ready_to t k))
   unmarked_ready e = by (first_ready (grid_of job) (marked_in job marks)) refl
     where
-      by : (next : Next) → first_ready (grid_of job) (marked_in job marks) ≡ next
-          → (t : ℕ) × (k : ℕ) × (first_ready (grid_of job) (marked_in job marks) ≡ Ready t k)
-      by (Ready t k) q = (t, k, q)
-      by Nothing q = clash (all_done_law (none_all (grid_of job) (marked_in job marks) q)) e
+      by : (next : Option Ready) → first_ready (grid_of job) (marked_in job marks) ≡ next
+          → (t : ℕ) × (k : ℕ) × (first_ready (grid_of job) (marked_in job marks) ≡ Some (ready_to t k))
+      by (Some next) q = (next.task, next.block, q)
+      by None q = clash (all_done_law (none_all (grid_of job) (marked_in job marks) q)) e
 
 pub done_if_all_marked : DoneIfAllMarked
 done_if_all_marked job marks = (done_all job marks, all_done_law job marks)
@@ -193,23 +192,23 @@ module _ (i : ℕ) (job : Job) (marks : List ℕ) where
   pub turn_waits : (found : Turn) → turn_of i job marks ≡ Some found → job_done job marks ≡ false
   turn_waits found e = by (job_done job marks) refl (first_ready (grid_of job) (marked_in job marks)) refl e
     where
-      by : (done : Bool) → job_done job marks ≡ done → (next : Next) → first_ready (grid_of job) (marked_in job marks) ≡ next
+      by : (done : Bool) → job_done job marks ≡ done → (next : Option Ready) → first_ready (grid_of job) (marked_in job marks) ≡ next
           → turn_with i next ≡ Some found → done ≡ false
       by false d next q e = refl
-      by true d Nothing q e = absurd cc
-      by true d (Ready t k) q e =
-          let ready = found_ready (grid_of job) (marked_in job marks) t k q in
-          clash (done_all job marks d t k (ready_exists (grid_of job) (marked_in job marks) t k ready))
-          (ready_undone (grid_of job) (marked_in job marks) t k ready)
+      by true d None q e = absurd cc
+      by true d (Some next) q e =
+          let ready = found_ready (grid_of job) (marked_in job marks) next q in
+          clash (done_all job marks d next.task next.block (ready_exists (grid_of job) (marked_in job marks) next.task next.block ready))
+          (ready_undone (grid_of job) (marked_in job marks) next.task next.block ready)
 
   -- and one that has none is done.
   pub no_turn_done : turn_of i job marks ≡ None → job_done job marks ≡ true
   no_turn_done e = by (first_ready (grid_of job) (marked_in job marks)) refl e
     where
-      by : (next : Next) → first_ready (grid_of job) (marked_in job marks) ≡ next → turn_with i next ≡ None
+      by : (next : Option Ready) → first_ready (grid_of job) (marked_in job marks) ≡ next → turn_with i next ≡ None
           → job_done job marks ≡ true
-      by Nothing q e = all_done_law job marks (none_all (grid_of job) (marked_in job marks) q)
-      by (Ready t k) q e = absurd cc
+      by None q e = all_done_law job marks (none_all (grid_of job) (marked_in job marks) q)
+      by (Some next) q e = absurd cc
 
 -- ---- a turn
 
@@ -251,7 +250,7 @@ module _ (jobs : List Job) (last : ℕ) (marks : List ℕ) where
     pub inside : passed_over jobs last marks < length jobs
     pub round : i ≡ next_job
     pub unmarked : job_done (job_at jobs i) marks ≡ false
-    pub first : first_ready (grid_of (job_at jobs i)) (marked_in (job_at jobs i) marks) ≡ Ready t k
+    pub first : first_ready (grid_of (job_at jobs i)) (marked_in (job_at jobs i) marks) ≡ Some (ready_to t k)
 
   pub named_found : (i t k : ℕ) → turn jobs last marks ≡ Some (turn_to i t k) → Found i t k
   named_found i t k e =
@@ -261,12 +260,12 @@ module _ (jobs : List Job) (last : ℕ) (marks : List ℕ) where
       absurd cc)
       (lt_or_ge (passed_over jobs last marks) (length jobs))
     where
-      by : passed_over jobs last marks < length jobs → (next : Next)
+      by : passed_over jobs last marks < length jobs → (next : Option Ready)
           → first_ready (grid_of (job_at jobs next_job)) (marked_in (job_at jobs next_job) marks) ≡ next
           → turn_with next_job next ≡ Some (turn_to i t k) → Found i t k
-      by l Nothing q e = absurd cc
-      by l (Ready u b) q e =
-          let same : turn_to next_job u b ≡ turn_to i t k = cc in
+      by l None q e = absurd cc
+      by l (Some next) q e =
+          let same : turn_to next_job next.task next.block ≡ turn_to i t k = cc in
           rw (← ap (λ (found : Turn). found.job) same, ← ap (λ (found : Turn). found.task) same, ← ap (λ (found : Turn). found.block) same)
           (record { inside = l; round = refl; unmarked = next_unmarked l; first = q })
 

@@ -5,8 +5,7 @@ use Rattle.number.specs.Numbers.{all_below}
 use Rattle.grid.specs.Grid.{block_total}
 use Rattle.tasks.specs.Tasks.{exists, ready}
 use Rattle.tasks.specs.Marks.{is_marked}
-use Rattle.report.specs.declared.Next.{Next}
-use Rattle.report.specs.declared.Next.TheVariants.{Ready, Nothing}
+use Rattle.report.specs.declared.Ready.{Ready}
 use Rattle.report.specs.Report.{first_ready}
 use Rattle.turns.specs.declared.Job.{Job}
 use Rattle.turns.specs.declared.Turn.{Turn}
@@ -48,14 +47,18 @@ waits jobs last marks d = not (job_done (job_at jobs (going_round jobs last d)) 
 unfoldable pub passed_over : List Job → (last : ℕ) → List ℕ → ℕ
 passed_over jobs last marks = least_from (waits jobs last marks) 0 (length jobs)
 
--- The turn of job i with task t of block k.
+-- Task t of block k, as the report names a ready one;
+abbrev pub ready_to : (t k : ℕ) → Ready
+ready_to t k = record { task = t; block = k }
+
+-- and the turn of job i with it.
 abbrev pub turn_to : (i t k : ℕ) → Turn
 turn_to i t k = record { job = i; task = t; block = k }
 
 -- Job i with the ready task that is found for it; none where none is, which no job with unmarked tasks comes to.
-abbrev pub turn_with : ℕ → Next → Option Turn
-turn_with i (Ready t k) = Some (turn_to i t k)
-turn_with i Nothing = None
+abbrev pub turn_with : ℕ → Option Ready → Option Turn
+turn_with i (Some next) = Some (turn_to i next.task next.block)
+turn_with i None = None
 
 -- A job as job i of the list, with its first ready task as the report finds it.
 abbrev pub turn_of : (i : ℕ) → Job → List ℕ → Option Turn
