@@ -56,16 +56,14 @@ module _ {plan : Plan} {k pass : ℕ} {shape : BlockShape} {n m : ℕ} (placed :
     module _ {first step place height width : ℕ} (begins : first ≡ address_in strip 0 strip.first) (stepped : step ≡ along a strip.place_step strip.line_step)
         (at : place ≡ work_place a 0 (start + strip.first)) (tall : height ≡ along a places strip.lines)
         (wide : width ≡ across a places strip.lines) where
-      pub strip_in_strips : StrideFits n first step height width
-      strip_in_strips = rw (begins, stepped, tall, wide) strip_lies.grid_in
-
-      pub strip_in_work : StrideFits m place work_stride height width
-      strip_in_work =
-          rw (at, tall, wide)
-          (lines_fit a (start + strip.first) places strip.lines m places_in_work lines_few moves.sized)
-
-      pub strip_narrow : width ≤ work_stride
-      strip_narrow = rw wide (lines_narrow a (start + strip.first) places strip.lines places_in_work lines_few)
+      -- What the copy asks: it is in the strips and in the work array, and none of its rows reaches into the next.
+      pub strip_asked : StrideFits n first step height width × StrideFits m place work_stride height width × (width ≤ work_stride)
+      strip_asked = (
+        rw (begins, stepped, tall, wide) strip_lies.grid_in,
+        rw (at, tall, wide)
+            (lines_fit a (start + strip.first) places strip.lines m places_in_work lines_few moves.sized),
+        rw wide (lines_narrow a (start + strip.first) places strip.lines places_in_work lines_few),
+      )
 
       pub strip_loaded : (gain : ℕ) (strips : List ℕ) {before after : List ℕ} → length before ≡ m
           → MarginClear plan shape pass before

@@ -31,7 +31,7 @@ const CORNER: usize = MARGIN * STRIDE + MARGIN;
 // As many heights as a cache line of 64 bytes holds, and the pairs that they make.
 const LINE_HEIGHTS: usize = 16;
 
-const LINE_PAIRS: usize = 8;
+const LINE_PAIRS: usize = LINE_HEIGHTS / 2;
 
 // The rows of a rectangle in a buffer: where the first begins, and how far apart they begin.
 #[derive(Clone, Copy)]
@@ -68,8 +68,8 @@ pub fn collect(plan: Plan, k: usize, map: &[i32], strips: &mut [u64])
     let block = Block { plan, k, shape };
     let mut work = [0; STRIDE * STRIDE];
     block.load(map, &mut work);
-    for pass in 0..4 {
-        let words = filter::filter_with_gain(plan.passes[pass], 1);
+    for (pass, described) in plan.passes.iter().enumerate() {
+        let words = filter::filter_with_gain(*described, 1);
         block.run_pass(pass, words, &mut work);
         let gain = filter::gains_from(plan, 0, pass + 1);
         block.write_strip(pass, gain, &work, strips);
@@ -137,6 +137,7 @@ impl Block {
     }
 
     // One pass over the block in the work array, the margin standing for the outputs past its edge.
+    #[tactic(auto, using(crate::proofs::WorkPlaces::shape_in_work, crate::proofs::WorkPlaces::window_fits), unfolding(crate::specs::Work::block_pass))]
     fn run_pass(&self, pass: usize, words: FilterWords, work: &mut [u64])
         requires { PassFits words.order (length work.old) }
         ensures { work.new ≡ block_pass self.now.shape pass (filter_with words) work.old }
@@ -279,6 +280,7 @@ impl Rectangle {
 }
 
 // Words times a gain. With gain 1 they are a plain copy, which the compiler moves at once.
+#[tactic(auto, using(buffer::proofs::Copies::words_fit, crate::proofs::CopiedRows::unscaled_row))]
 fn copy_row(
     from: &[u64],
     from_start: usize,
