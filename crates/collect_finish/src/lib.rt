@@ -60,6 +60,7 @@ struct Block {
 
 // Block k's four lone strips: the passes over its pixels, zeros around it. The passes run with gain 1; a strip takes the
 // gains of its pass and of those before it.
+#[tactic(auto, using(crate::proofs::WorkCells::blank_sized))]
 pub fn collect(plan: Plan, k: usize, map: &[i32], strips: &mut [u64])
     requires { CollectFits plan k (length map.now) (length strips.old) }
     ensures { strips.new ≡ collected plan (map_of plan map.now) k strips.old }
@@ -77,6 +78,7 @@ pub fn collect(plan: Plan, k: usize, map: &[i32], strips: &mut [u64])
 }
 
 // Block k's output words: one copy of its pixels into the work array, the four passes there, one copy of its words out.
+#[tactic(auto, using(crate::proofs::WorkCells::blank_sized))]
 pub fn finish(plan: Plan, k: usize, map: &[i32], strips: &[u64], output: &mut [u64])
     requires { FinishFits plan k (length map.now) (length strips.now) (length output.old) }
     ensures { output.new ≡ finished plan (map_of plan map.now) strips.now k output.old }
