@@ -19,7 +19,8 @@ use Rattle.task_words.specs.Strips.{strip_words, strip_start, strip_written_to, 
 use Rattle.task_words.proofs.Strips.{strip_in_list}
 use Rattle.strips.specs.StripRecord.{edge_start}
 use Rattle.buffer.specs.Written.{cleared, row_written}
-use Rattle.buffer.specs.Copies.{stride_place, stride_scaled, stride_written, StrideFits}
+use Rattle.buffer.specs.Copies.{stride_place, stride_scaled, stride_written}
+use Rattle.collect_finish.specs.Rectangles.{CopyFits}
 use Rattle.buffer.proofs.Written.{written_same}
 use Rattle.buffer.proofs.Copies.{rectangle_same}
 use Rattle.collect_finish.specs.Work.{work_stride, work_place, edge_first, work_edge}
@@ -81,18 +82,25 @@ module _ {plan : Plan} {k pass : ℕ} {shape : BlockShape} {n m : ℕ} (placed :
     module _ {index place height width : ℕ} (indexed : index ≡ edge) (at : place ≡ work_place a 0 index)
         (tall : height ≡ along a r side) (wide : width ≡ across a r side) where
       -- What the copy asks: the edge is in the work array, and the strip in the strips.
-      pub edge_copied : StrideFits m place work_stride height width × StrideFits n start width height width × (width ≤ width)
+      pub edge_copied :
+          CopyFits (record { start = place; stride = work_stride; height = height; width = width })
+          (record { start = start; stride = width }) m n
+          × (width ≤ width)
       edge_copied = (
-        rw (at, indexed, tall, wide)
-            (lines_fit a edge r side m edge_in_work (rules plan placed.block.kept).side_high moves.sized),
-        rw (tall, wide)
-            record {
-              row =
-                  λ y h.
-                  let e : (y + 1) * across a r side ≤ along a r side * across a r side =
-                  mul-le-mul_right (across a r side) (omega arith) in
-                  omega (arith, words_in_strips, strip_count a side r);
-            },
+        record {
+          read =
+              rw (at, indexed, tall, wide)
+              (lines_fit a edge r side m edge_in_work (rules plan placed.block.kept).side_high moves.sized);
+          written =
+              rw (tall, wide)
+              record {
+                row =
+                    λ y h.
+                    let e : (y + 1) * across a r side ≤ along a r side * across a r side =
+                    mul-le-mul_right (across a r side) (omega arith) in
+                    omega (arith, words_in_strips, strip_count a side r);
+              };
+        },
         omega arith,
       )
 

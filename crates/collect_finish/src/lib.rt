@@ -1,5 +1,6 @@
 // Collect and finish: the passes over one block, in a work array with a margin of words around the block.
 // An inner crate: what its functions require, their callers in this repository show.
+// Buffers come whole, with places as numbers, as those of `buffer` do.
 #![tactic(auto)]
 
 ghost use Rattle.std.specs.Prelude.{◌≡◌, ◌+◌, ◌<◌, ◌≤◌, length};
@@ -10,10 +11,11 @@ ghost use Rattle.task_words.specs.Strips.{strip_written};
 ghost use Rattle.filter.specs.PlanFilters.{map_of};
 ghost use Rattle.task_words.specs.Writes.{collected, finished};
 ghost use Rattle.strips.specs.StripRecord.{strip_before, EdgeFits};
-ghost use Rattle.buffer.specs.Copies.{scaled_from, heights_from, stride_scaled, stride_heights, stride_written, StrideFits};
+ghost use Rattle.buffer.specs.Copies.{scaled_from, heights_from, stride_heights, stride_written, StrideFits};
 ghost use Rattle.buffer.specs.Written.{row_written};
-ghost use Rattle.plan.specs.Sizes.{needed_strips, needed_pixels};
+ghost use Rattle.plan.specs.Sizes.{needed_pixels};
 ghost use Rattle.collect_finish.specs.Work.{work_stride, work_words, block_loaded, work_place, margin_start, MarginLoaded, block_pass, PassesRun, work_edge};
+ghost use Rattle.collect_finish.specs.Rectangles.{CopyFits, rectangle_copied};
 ghost use Rattle.collect_finish.specs.WorkFits.{ShapedBlock, CollectFits, FinishFits, PassFits, ReadyToFinish, StripMoves, MarginFits};
 
 use filter::{FilterWords, Window};
@@ -49,7 +51,7 @@ struct Rectangle {
     width: usize,
 }
 
-// Block k of a plan, and its shape.
+// Block k of a plan, and its shape. That the plan keeps its rules, and the block is in its map, stands here once.
 #[derive(Drop)]
 struct Block {
     plan: Plan,
@@ -216,20 +218,22 @@ impl Rectangle {
     // The rectangle, times a gain, into rows of another buffer: along its longer side, since a loop over a few words
     // costs more than the words.
     fn copy(self, from: &[u64], to: &mut [u64], target: Rows, gain: u64)
-        requires { StrideFits (length from.now) self.start self.stride self.height self.width × StrideFits (length to.old) target.start target.stride self.height self.width × (self.width ≤ target.stride) }
-        ensures { to.new ≡ stride_written target.start target.stride self.width (stride_scaled gain from.now self.start self.stride) self.height to.old }
+        requires { CopyFits self target (length from.now) (length to.old) × (self.width ≤ target.stride) }
+        ensures { to.new ≡ rectangle_copied gain self target from.now to.old }
     {
         if self.width < self.height {
-            return self.copy_columns(from, to, target, gain);
+            self.copy_columns(from, to, target, gain)
+        } else {
+            self.copy_rows(from, to, target, gain)
         }
-        self.copy_rows(from, to, target, gain);
     }
 
     // Column by column, of at least one row. The places in `to` differ, so that their order does not count.
+    // Columns and rows by two loops: a row's words stand together, and move at once where nothing scales them.
     #[tactic(auto, using(crate::proofs::CopiedColumns::columns_none))]
     fn copy_columns(self, from: &[u64], to: &mut [u64], target: Rows, gain: u64)
-        requires { StrideFits (length from.now) self.start self.stride self.height self.width × StrideFits (length to.old) target.start target.stride self.height self.width × (self.width ≤ target.stride) × (0 < self.height) }
-        ensures { to.new ≡ stride_written target.start target.stride self.width (stride_scaled gain from.now self.start self.stride) self.height to.old }
+        requires { CopyFits self target (length from.now) (length to.old) × (self.width ≤ target.stride) × (0 < self.height) }
+        ensures { to.new ≡ rectangle_copied gain self target from.now to.old }
     {
         for column in 0..self.width {
             buffer::scale_words(
@@ -248,8 +252,8 @@ impl Rectangle {
     // Row by row.
     #[tactic(auto, using(crate::proofs::CopiedRows::rows_none))]
     fn copy_rows(self, from: &[u64], to: &mut [u64], target: Rows, gain: u64)
-        requires { StrideFits (length from.now) self.start self.stride self.height self.width × StrideFits (length to.old) target.start target.stride self.height self.width }
-        ensures { to.new ≡ stride_written target.start target.stride self.width (stride_scaled gain from.now self.start self.stride) self.height to.old }
+        requires { CopyFits self target (length from.now) (length to.old) }
+        ensures { to.new ≡ rectangle_copied gain self target from.now to.old }
     {
         for row in 0..self.height {
             copy_row(
@@ -323,7 +327,7 @@ fn load_line(map: &[i32], map_start: usize, work: &mut [u64], work_start: usize)
     }
 }
 
-// The words of a row's heights.
+// The words of a row's heights: a whole line by the loop of known length, which is the faster.
 fn load_row(map: &[i32], map_start: usize, work: &mut [u64], work_start: usize, count: usize)
     requires { (map_start + count ≤ length map.now) × (work_start + count ≤ length work.old) }
     ensures { work.new ≡ row_written work_start (heights_from map.now map_start) count work.old }
@@ -344,6 +348,7 @@ fn work_place(pass: usize, index: usize) -> usize
     axis::along(pass, index * STRIDE + MARGIN, MARGIN * STRIDE + index)
 }
 
+// The first index of the margin that a pass reads, of a block of so many places along the pass.
 #[tactic(auto, using(axis::proofs::Passes::runs_forward, axis::proofs::Passes::runs_backward))]
 fn margin_start(pass: usize, order: usize, extent: usize) -> usize
     requires { EdgeFits order extent }

@@ -15,8 +15,10 @@ run_passes-requires c =
 pub copy-requires : goal.copy-requires
 copy-requires c =
     let placed = placed_block c.requires.block c.block_shape-shape.ensures in (
-      block_in_work placed (ran_sized placed c.args.map.now c.load.ensures c.run_passes.ensures),
-      block_in_map placed c.requires.output_long,
+      record {
+        read = block_in_work placed (ran_sized placed c.args.map.now c.load.ensures c.run_passes.ensures);
+        written = block_in_map placed c.requires.output_long;
+      },
       block_narrow placed,
     )
 
