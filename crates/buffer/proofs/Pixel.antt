@@ -1,15 +1,15 @@
--- What the reading of a pixel gives, and that a pixel is a word. Assumes nothing.
+-- What the reading of a pixel gives. Assumes nothing.
 use mathlib.Core.Path.{◌≡◌, refl, sym, ap, ◌∙◌, fun_ext}
 use mathlib.Core.Bool.{Bool, true, false}
 use mathlib.Core.List.{List, map}
-use Prim.Native.Nat.{ℕ, ◌<◌, ◌^◌}
+use Prim.Native.Nat.{ℕ}
 use lib.IntN.{ℤ, pos, neg_ℤ}
 use lib.ListN.{get_or, get_or-map}
 use mir.ValLaws.{to_z-of_z}
 use Rattle.number.specs.Numbers.{row_major}
 use Rattle.number.proofs.SignedBits.{eq_z_true, eq_z_refl, eq_z_false}
 use Rattle.word.specs.Word.{residue}
-use Rattle.word.proofs.Residues.{residue_zero, residue_small}
+use Rattle.word.proofs.Residues.{residue_zero}
 use Rattle.buffer.specs.Lists.{word_at, number_at, word_map}
 use Rattle.buffer.specs.Pixel.{is_dropout, reading, pixel, height_map, DropoutsReplaced}
 
@@ -74,10 +74,6 @@ dropouts_replaced =
       others_kept = λ height other. reading_other height (not_dropout height other);
       same_replaced = same_replaced;
     }
-
-pub pixel_small : (height : ℤ) → pixel height < 2 ^ 64
-unfolding pixel
-pixel_small height = residue_small (reading height)
 
 -- ---- the words of heights
 

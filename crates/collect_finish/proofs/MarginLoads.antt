@@ -10,7 +10,8 @@ use Rattle.axis.specs.Axis.{Axis, axis_of, direction_of, along, across}
 use Rattle.grid.specs.declared.BlockShape.{BlockShape}
 use Rattle.strips.specs.declared.Strip.{Strip}
 use Rattle.strips.specs.StripRecord.{strip_before, address_in}
-use Rattle.buffer.specs.Copies.{stride_scaled, stride_written, StrideFits}
+use Rattle.buffer.specs.Copies.{stride_scaled, stride_written}
+use Rattle.collect_finish.specs.Rectangles.{CopyFits}
 use Rattle.collect_finish.specs.Work.{work_stride, work_place, ShapeFits, margin_first, MarginClear, MarginLoaded}
 use Rattle.collect_finish.specs.WorkFits.{ShapedBlock, StripMoves}
 use Rattle.collect_finish.proofs.WorkPlaces.{shape_in_work, move_limited, lines_small, extent_small, lines_fit, lines_narrow}
@@ -56,16 +57,20 @@ module _ {plan : Plan} {k pass : ℕ} {shape : BlockShape} {n m : ℕ} (placed :
     module _ {first step place height width : ℕ} (begins : first ≡ address_in strip 0 strip.first) (stepped : step ≡ along a strip.place_step strip.line_step)
         (at : place ≡ work_place a 0 (start + strip.first)) (tall : height ≡ along a places strip.lines)
         (wide : width ≡ across a places strip.lines) where
-      pub strip_in_strips : StrideFits n first step height width
-      strip_in_strips = rw (begins, stepped, tall, wide) strip_lies.grid_in
-
-      pub strip_in_work : StrideFits m place work_stride height width
-      strip_in_work =
-          rw (at, tall, wide)
-          (lines_fit a (start + strip.first) places strip.lines m places_in_work lines_few moves.sized)
-
-      pub strip_narrow : width ≤ work_stride
-      strip_narrow = rw wide (lines_narrow a (start + strip.first) places strip.lines places_in_work lines_few)
+      -- What the copy asks: it is in the strips and in the work array, and none of its rows reaches into the next.
+      pub strip_asked :
+          CopyFits (record { start = first; stride = step; height = height; width = width })
+          (record { start = place; stride = work_stride }) n m
+          × (width ≤ work_stride)
+      strip_asked = (
+        record {
+          read = rw (begins, stepped, tall, wide) strip_lies.grid_in;
+          written =
+              rw (at, tall, wide)
+              (lines_fit a (start + strip.first) places strip.lines m places_in_work lines_few moves.sized);
+        },
+        rw wide (lines_narrow a (start + strip.first) places strip.lines places_in_work lines_few),
+      )
 
       pub strip_loaded : (gain : ℕ) (strips : List ℕ) {before after : List ℕ} → length before ≡ m
           → MarginClear plan shape pass before

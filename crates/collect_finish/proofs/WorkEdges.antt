@@ -19,7 +19,8 @@ use Rattle.task_words.specs.Strips.{strip_words, strip_start, strip_written_to, 
 use Rattle.task_words.proofs.Strips.{strip_in_list}
 use Rattle.strips.specs.StripRecord.{edge_start}
 use Rattle.buffer.specs.Written.{cleared, row_written}
-use Rattle.buffer.specs.Copies.{stride_place, stride_scaled, stride_written, StrideFits}
+use Rattle.buffer.specs.Copies.{stride_place, stride_scaled, stride_written}
+use Rattle.collect_finish.specs.Rectangles.{CopyFits}
 use Rattle.buffer.proofs.Written.{written_same}
 use Rattle.buffer.proofs.Copies.{rectangle_same}
 use Rattle.collect_finish.specs.Work.{work_stride, work_place, edge_first, work_edge}
@@ -80,21 +81,28 @@ module _ {plan : Plan} {k pass : ℕ} {shape : BlockShape} {n m : ℕ} (placed :
     -- and one that a neighbour needs: the code's place in the work array, and rows and columns of the rectangle.
     module _ {index place height width : ℕ} (indexed : index ≡ edge) (at : place ≡ work_place a 0 index)
         (tall : height ≡ along a r side) (wide : width ≡ across a r side) where
-      pub edge_fits : StrideFits m place work_stride height width
-      edge_fits =
-          rw (at, indexed, tall, wide)
-          (lines_fit a edge r side m edge_in_work (rules plan placed.block.kept).side_high moves.sized)
-
-      pub strip_in_strips : StrideFits n start width height width
-      strip_in_strips =
-          rw (tall, wide)
-          record {
-            row =
-                λ y h.
-                let e : (y + 1) * across a r side ≤ along a r side * across a r side =
-                mul-le-mul_right (across a r side) (omega arith) in
-                omega (arith, words_in_strips, strip_count a side r);
-          }
+      -- What the copy asks: the edge is in the work array, and the strip in the strips.
+      pub edge_copied :
+          CopyFits (record { start = place; stride = work_stride; height = height; width = width })
+          (record { start = start; stride = width }) m n
+          × (width ≤ width)
+      edge_copied = (
+        record {
+          read =
+              rw (at, indexed, tall, wide)
+              (lines_fit a edge r side m edge_in_work (rules plan placed.block.kept).side_high moves.sized);
+          written =
+              rw (tall, wide)
+              record {
+                row =
+                    λ y h.
+                    let e : (y + 1) * across a r side ≤ along a r side * across a r side =
+                    mul-le-mul_right (across a r side) (omega arith) in
+                    omega (arith, words_in_strips, strip_count a side r);
+              };
+        },
+        omega arith,
+      )
 
       pub copied_strip : (gain : ℕ) (work strips : List ℕ) {after : List ℕ} → goes_on plan.grid k pass ≡ true
           → after ≡ stride_written start width width (stride_scaled gain work place work_stride) height strips

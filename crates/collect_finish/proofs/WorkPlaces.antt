@@ -80,6 +80,10 @@ module _ {plan : Plan} {k : ℕ} (block : BlockOf plan k) where
       )
 
 -- The same with the code's shape of the block.
+pub placed_block : {plan : Plan} {k : ℕ} {shape : BlockShape} → BlockOf plan k → shape ≡ shape_of plan.grid k
+    → ShapedBlock plan k shape
+placed_block block shaped = record { block = block; shaped = shaped }
+
 module _ {plan : Plan} {k : ℕ} {shape : BlockShape} (placed : ShapedBlock plan k shape) where
   pub shape_in_work : ShapeFits shape
   shape_in_work = rw placed.shaped (shape_fits placed.block)

@@ -1,5 +1,6 @@
 // Collect and finish: the passes over one block, in a work array with a margin of words around the block.
 // An inner crate: what its functions require, their callers in this repository show.
+// Buffers come whole, with places as numbers, as those of `buffer` do.
 #![tactic(auto)]
 
 ghost use Rattle.std.specs.Prelude.{◌≡◌, ◌+◌, ◌<◌, ◌≤◌, length};
@@ -10,10 +11,11 @@ ghost use Rattle.task_words.specs.Strips.{strip_written};
 ghost use Rattle.filter.specs.PlanFilters.{map_of};
 ghost use Rattle.task_words.specs.Writes.{collected, finished};
 ghost use Rattle.strips.specs.StripRecord.{strip_before, EdgeFits};
-ghost use Rattle.buffer.specs.Copies.{scaled_from, heights_from, stride_scaled, stride_heights, stride_written, StrideFits};
+ghost use Rattle.buffer.specs.Copies.{scaled_from, heights_from, stride_heights, stride_written, StrideFits};
 ghost use Rattle.buffer.specs.Written.{row_written};
-ghost use Rattle.plan.specs.Sizes.{needed_strips, needed_pixels};
+ghost use Rattle.plan.specs.Sizes.{needed_pixels};
 ghost use Rattle.collect_finish.specs.Work.{work_stride, work_words, block_loaded, work_place, margin_start, MarginLoaded, block_pass, PassesRun, work_edge};
+ghost use Rattle.collect_finish.specs.Rectangles.{CopyFits, rectangle_copied};
 ghost use Rattle.collect_finish.specs.WorkFits.{ShapedBlock, CollectFits, FinishFits, PassFits, ReadyToFinish, StripMoves, MarginFits};
 
 use filter::{FilterWords, Window};
@@ -31,7 +33,7 @@ const CORNER: usize = MARGIN * STRIDE + MARGIN;
 // As many heights as a cache line of 64 bytes holds, and the pairs that they make.
 const LINE_HEIGHTS: usize = 16;
 
-const LINE_PAIRS: usize = 8;
+const LINE_PAIRS: usize = LINE_HEIGHTS / 2;
 
 // The rows of a rectangle in a buffer: where the first begins, and how far apart they begin.
 #[derive(Clone, Copy)]
@@ -49,7 +51,7 @@ struct Rectangle {
     width: usize,
 }
 
-// Block k of a plan, and its shape.
+// Block k of a plan, and its shape. That the plan keeps its rules, and the block is in its map, stands here once.
 #[derive(Drop)]
 struct Block {
     plan: Plan,
@@ -60,6 +62,7 @@ struct Block {
 
 // Block k's four lone strips: the passes over its pixels, zeros around it. The passes run with gain 1; a strip takes the
 // gains of its pass and of those before it.
+#[tactic(auto, using(crate::proofs::WorkCells::blank_sized))]
 pub fn collect(plan: Plan, k: usize, map: &[i32], strips: &mut [u64])
     requires { CollectFits plan k (length map.now) (length strips.old) }
     ensures { strips.new ≡ collected plan (map_of plan map.now) k strips.old }
@@ -68,8 +71,8 @@ pub fn collect(plan: Plan, k: usize, map: &[i32], strips: &mut [u64])
     let block = Block { plan, k, shape };
     let mut work = [0; STRIDE * STRIDE];
     block.load(map, &mut work);
-    for pass in 0..4 {
-        let words = filter::filter_with_gain(plan.passes[pass], 1);
+    for (pass, described) in plan.passes.iter().enumerate() {
+        let words = filter::filter_with_gain(*described, 1);
         block.run_pass(pass, words, &mut work);
         let gain = filter::gains_from(plan, 0, pass + 1);
         block.write_strip(pass, gain, &work, strips);
@@ -77,6 +80,7 @@ pub fn collect(plan: Plan, k: usize, map: &[i32], strips: &mut [u64])
 }
 
 // Block k's output words: one copy of its pixels into the work array, the four passes there, one copy of its words out.
+#[tactic(auto, using(crate::proofs::WorkCells::blank_sized))]
 pub fn finish(plan: Plan, k: usize, map: &[i32], strips: &[u64], output: &mut [u64])
     requires { FinishFits plan k (length map.now) (length strips.now) (length output.old) }
     ensures { output.new ≡ finished plan (map_of plan map.now) strips.now k output.old }
@@ -137,6 +141,7 @@ impl Block {
     }
 
     // One pass over the block in the work array, the margin standing for the outputs past its edge.
+    #[tactic(auto, using(crate::proofs::WorkPlaces::shape_in_work, crate::proofs::WorkPlaces::window_fits), unfolding(crate::specs::Work::block_pass))]
     fn run_pass(&self, pass: usize, words: FilterWords, work: &mut [u64])
         requires { PassFits words.order (length work.old) }
         ensures { work.new ≡ block_pass self.now.shape pass (filter_with words) work.old }
@@ -213,20 +218,22 @@ impl Rectangle {
     // The rectangle, times a gain, into rows of another buffer: along its longer side, since a loop over a few words
     // costs more than the words.
     fn copy(self, from: &[u64], to: &mut [u64], target: Rows, gain: u64)
-        requires { StrideFits (length from.now) self.start self.stride self.height self.width × StrideFits (length to.old) target.start target.stride self.height self.width × (self.width ≤ target.stride) }
-        ensures { to.new ≡ stride_written target.start target.stride self.width (stride_scaled gain from.now self.start self.stride) self.height to.old }
+        requires { CopyFits self target (length from.now) (length to.old) × (self.width ≤ target.stride) }
+        ensures { to.new ≡ rectangle_copied gain self target from.now to.old }
     {
         if self.width < self.height {
-            return self.copy_columns(from, to, target, gain);
+            self.copy_columns(from, to, target, gain)
+        } else {
+            self.copy_rows(from, to, target, gain)
         }
-        self.copy_rows(from, to, target, gain);
     }
 
     // Column by column, of at least one row. The places in `to` differ, so that their order does not count.
+    // Columns and rows by two loops: a row's words stand together, and move at once where nothing scales them.
     #[tactic(auto, using(crate::proofs::CopiedColumns::columns_none))]
     fn copy_columns(self, from: &[u64], to: &mut [u64], target: Rows, gain: u64)
-        requires { StrideFits (length from.now) self.start self.stride self.height self.width × StrideFits (length to.old) target.start target.stride self.height self.width × (self.width ≤ target.stride) × (0 < self.height) }
-        ensures { to.new ≡ stride_written target.start target.stride self.width (stride_scaled gain from.now self.start self.stride) self.height to.old }
+        requires { CopyFits self target (length from.now) (length to.old) × (self.width ≤ target.stride) × (0 < self.height) }
+        ensures { to.new ≡ rectangle_copied gain self target from.now to.old }
     {
         for column in 0..self.width {
             buffer::scale_words(
@@ -245,8 +252,8 @@ impl Rectangle {
     // Row by row.
     #[tactic(auto, using(crate::proofs::CopiedRows::rows_none))]
     fn copy_rows(self, from: &[u64], to: &mut [u64], target: Rows, gain: u64)
-        requires { StrideFits (length from.now) self.start self.stride self.height self.width × StrideFits (length to.old) target.start target.stride self.height self.width }
-        ensures { to.new ≡ stride_written target.start target.stride self.width (stride_scaled gain from.now self.start self.stride) self.height to.old }
+        requires { CopyFits self target (length from.now) (length to.old) }
+        ensures { to.new ≡ rectangle_copied gain self target from.now to.old }
     {
         for row in 0..self.height {
             copy_row(
@@ -279,6 +286,7 @@ impl Rectangle {
 }
 
 // Words times a gain. With gain 1 they are a plain copy, which the compiler moves at once.
+#[tactic(auto, using(buffer::proofs::Copies::words_fit, crate::proofs::CopiedRows::unscaled_row))]
 fn copy_row(
     from: &[u64],
     from_start: usize,
@@ -319,7 +327,7 @@ fn load_line(map: &[i32], map_start: usize, work: &mut [u64], work_start: usize)
     }
 }
 
-// The words of a row's heights.
+// The words of a row's heights: a whole line by the loop of known length, which is the faster.
 fn load_row(map: &[i32], map_start: usize, work: &mut [u64], work_start: usize, count: usize)
     requires { (map_start + count ≤ length map.now) × (work_start + count ≤ length work.old) }
     ensures { work.new ≡ row_written work_start (heights_from map.now map_start) count work.old }
@@ -340,6 +348,7 @@ fn work_place(pass: usize, index: usize) -> usize
     axis::along(pass, index * STRIDE + MARGIN, MARGIN * STRIDE + index)
 }
 
+// The first index of the margin that a pass reads, of a block of so many places along the pass.
 #[tactic(auto, using(axis::proofs::Passes::runs_forward, axis::proofs::Passes::runs_backward))]
 fn margin_start(pass: usize, order: usize, extent: usize) -> usize
     requires { EdgeFits order extent }

@@ -4,4 +4,4 @@ use Rattle.collect_finish.proofs.Collecting.{Collecting}
 use Rattle.collect_finish.proofs.collect.Given as goal
 
 abbrev pub invariant-loop-pass : goal.invariant-loop-pass
-invariant-loop-pass l = Collecting l.plan l.k (map_of l.plan l.map) l.initial.strips l.strips l.pass l.work
+invariant-loop-pass l = Collecting l.fn.plan l.k (map_of l.fn.plan l.map) l.initial.strips l.strips l.pass l.work

@@ -8,7 +8,7 @@ use Rattle.plan.specs.Sizes.{order_of}
 use Rattle.collect_finish.specs.Work.{work_stride, margin_start, margin_first}
 use Rattle.collect_finish.proofs.WorkPlaces.{edge_asked}
 use Rattle.collect_finish.proofs.StripRectangles.{StripLies}
-use Rattle.collect_finish.proofs.MarginLoads.{strip_lies, first_in_work, strip_in_strips, strip_in_work, strip_narrow, strip_loaded}
+use Rattle.collect_finish.proofs.MarginLoads.{strip_lies, first_in_work, strip_asked, strip_loaded}
 use Rattle.grid.specs.Shapes.{shape_lines}
 use Rattle.collect_finish.proofs.Block.load_margin.Goals as goal
 use Rattle.collect_finish.proofs.Block.load_margin.Goals.{After-margin_start, After-strip_before-strip}
@@ -52,14 +52,8 @@ work_place-requires c = index_small (goal.at.work_place-requires c).After-margin
 
 pub copy-requires : goal.copy-requires
 copy-requires c =
-    let first = c.first_at.ensures in
-    let step = c.along.ensures in
-    let place = c.work_place.ensures in
-    let tall = c.along-height.ensures in (
-      strip_in_strips c.args.self.now.placed c.requires.moves c.strip_before-strip.ensures (start_is (goal.at.copy-requires c).After-margin_start) first step place tall c.across-width.ensures,
-      strip_in_work c.args.self.now.placed c.requires.moves c.strip_before-strip.ensures (start_is (goal.at.copy-requires c).After-margin_start) first step place tall c.across-width.ensures,
-      strip_narrow c.args.self.now.placed c.requires.moves c.strip_before-strip.ensures (start_is (goal.at.copy-requires c).After-margin_start) first step place tall c.across-width.ensures,
-    )
+    strip_asked c.args.self.now.placed c.requires.moves c.strip_before-strip.ensures (start_is (goal.at.copy-requires c).After-margin_start) c.first_at.ensures c.along.ensures
+    c.work_place.ensures c.along-height.ensures c.across-width.ensures
 
 pub returns : goal.returns
 returns c =

@@ -12,7 +12,7 @@ use Rattle.buffer.proofs.Copies.{words_fit}
 use Rattle.strips.specs.StripRecord.{edge_start}
 use Rattle.collect_finish.specs.Work.{edge_first}
 use Rattle.collect_finish.proofs.WorkPlaces.{move_limited, edge_asked}
-use Rattle.collect_finish.proofs.WorkEdges.{edge_in_work, edge_fits, words_in_strips, strip_in_strips, cleared_strip, copied_strip}
+use Rattle.collect_finish.proofs.WorkEdges.{edge_in_work, words_in_strips, edge_copied, cleared_strip, copied_strip}
 use Rattle.collect_finish.proofs.Block.write_strip.Goals as goal
 use Rattle.collect_finish.proofs.Block.write_strip.Goals.{After-across-width, After-along-height, After-edge_start-index, After-goes_on-needed}
 
@@ -79,13 +79,8 @@ work_place-requires c =
 
 pub copy-requires : goal.copy-requires
 copy-requires c =
-    let starts = c.strip_start-start.ensures in
-    let place = c.work_place.ensures in
-    let wide = width_is (goal.at.copy-requires c).After-across-width in (
-      edge_fits c.args.self.now.placed c.requires starts (edge_is (goal.at.copy-requires c).After-edge_start-index) place (height_is (goal.at.copy-requires c).After-along-height) wide,
-      strip_in_strips c.args.self.now.placed c.requires starts (edge_is (goal.at.copy-requires c).After-edge_start-index) place (height_is (goal.at.copy-requires c).After-along-height) wide,
-      omega arith,
-    )
+    edge_copied c.args.self.now.placed c.requires c.strip_start-start.ensures (edge_is (goal.at.copy-requires c).After-edge_start-index) c.work_place.ensures
+    (height_is (goal.at.copy-requires c).After-along-height) (width_is (goal.at.copy-requires c).After-across-width)
 
 pub returns : goal.returns
 returns c =
