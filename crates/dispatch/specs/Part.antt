@@ -10,12 +10,12 @@ pub record JobLent (job : Job) (size : ℕ) : Type 0 where
   pub kept : sizes_kept job ≡ true
   pub inside : marks_end job ≤ size
 
--- There are at most eight jobs, and so it is for each of them.
+-- There are at most eight jobs, each with sizes in range and with its marks inside a list of `size` places.
 pub record JobsLent (jobs : List Job) (size : ℕ) : Type 0 where
   pub few : length jobs ≤ job_limit
   pub each : All (λ job. JobLent job size) jobs
 
--- A number where it is below a bound, as what a search found.
+-- What a search for a number below a bound found; none where it ended at the bound.
 abbrev pub found_below : (bound number : ℕ) → Option ℕ
 found_below bound number = cond (ltb number bound) (Some number) None
 
@@ -23,6 +23,6 @@ found_below bound number = cond (ltb number bound) (Some number) None
 abbrev pub first_broken_of : List ℕ → Job → Option ℕ
 first_broken_of marks job = found_below (length marks) (least_from (broken_for marks job) 0 (length marks))
 
--- A test refuses for a cause where it is due.
+-- What a test answers: it refuses for its cause where that is due.
 abbrev pub refused_if : Bool → Refusal → Result Unit Refusal
 refused_if due cause = cond due (Err cause) (Ok tt)

@@ -3,10 +3,10 @@
 
 mod part;
 
-ghost use Rattle.std.specs.Prelude.{◌≡◌, not, cond, suc, ◌<◌, ltb, length};
+ghost use Rattle.std.specs.Prelude.{◌≡◌, not, ◌<◌, ltb, length};
 ghost use Rattle.refusal.specs.declared.Refusal.TheVariants.{RecordBreaksRule, MarkBroken, JobMisplaced};
 ghost use Rattle.turns.specs.Jobs.{jobs_kept, well_placed, first_misplaced, first_broken_place};
-ghost use Rattle.turns.specs.Turn.{turn};
+ghost use Rattle.turns.specs.Turn.{look_from, turn};
 ghost use Rattle.turns.specs.Dispatch.{dispatch_given, dispatch};
 ghost use Rattle.turns.specs.Answers.{Kept};
 ghost use Rattle.dispatch.specs.Part.{JobsLent, refused_if};
@@ -99,7 +99,7 @@ fn next_turn(jobs: &[Job], last: usize, marks: &[u32]) -> Option<Turn>
     ensures { result ≡ turn jobs.now last marks.now }
 {
     let count = jobs.len();
-    let start = look_from(count, last);
+    let start = look_from(jobs, last);
     for passed in 0..count {
         let i = (start + passed) % count;
         if let Some(turn) = part::turn_of(i, jobs[i], marks) {
@@ -109,9 +109,10 @@ fn next_turn(jobs: &[Job], last: usize, marks: &[u32]) -> Option<Turn>
     None
 }
 
-// Where a turn begins to look: at the job after `last`, or at the first where that is past the list.
-fn look_from(count: usize, last: usize) -> usize
-    ensures { result ≡ cond (ltb last count) (suc last) 0 }
+// Where a turn begins to look: at the job after `last`, or at the first where `last` is past the list.
+#[tactic(auto, unfolding(turns::specs::Turn::look_from))]
+fn look_from(jobs: &[Job], last: usize) -> usize
+    ensures { result ≡ look_from jobs.now last }
 {
-    if last < count { last + 1 } else { 0 }
+    if last < jobs.len() { last + 1 } else { 0 }
 }
