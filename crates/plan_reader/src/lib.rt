@@ -114,7 +114,7 @@ fn pass_allowed(pass: usize, payload: u32) -> bool
         && payload / 64 == 0
 }
 
-// A payload of signed 28 bits.
+// A payload of signed 28 bits, by its top bit: std has no number of that width.
 #[tactic(auto, using(number::proofs::SignedBits::complement_low, number::proofs::SignedBits::complement_high), unfolding(crate::specs::PlanWords::signed28))]
 fn decode_signed28(payload: u32) -> i64
     requires { payload < payload_limit }
@@ -244,14 +244,6 @@ fn coefficient_in(words: &[u32], place: usize, j: usize) -> i64
     }
 }
 
-fn coefficients_from(words: &[u32], place: usize) -> [i64; plan::ORDER_LIMIT]
-    requires { place ≤ 1000 }
-    ensures { result ≡ (pass_from words.now place).coefficients }
-{
-    std::array::from_fn(|j| coefficient_in(words, place, j))
-}
-
-#[tactic(auto, unfolding(crate::specs::ReadPlan::pass_from))]
 fn pass_from(words: &[u32], place: usize) -> Pass
     requires { place ≤ 1000 }
     ensures { result ≡ pass_from words.now place }
@@ -259,18 +251,11 @@ fn pass_from(words: &[u32], place: usize) -> Pass
     Pass {
         order: order_at(words, place),
         gain: decode_signed28(payload_at(words, place + 1)),
-        coefficients: coefficients_from(words, place),
+        coefficients: std::array::from_fn(|j| coefficient_in(words, place, j)),
     }
 }
 
 #[tactic(auto, using(crate::proofs::PassPlaces::pass_place_bounded))]
-fn passes_from(words: &[u32]) -> [Pass; 4]
-    ensures { result ≡ (plan_from words.now).passes }
-{
-    std::array::from_fn(|i| pass_from(words, pass_place(words, i)))
-}
-
-#[tactic(auto, unfolding(crate::specs::ReadPlan::plan_from))]
 fn plan_from(words: &[u32]) -> Plan
     ensures { result ≡ plan_from words.now }
 {
@@ -281,6 +266,6 @@ fn plan_from(words: &[u32]) -> Plan
             columns: columns_in(size),
             side: payload_at(words, 1) as usize,
         },
-        passes: passes_from(words),
+        passes: std::array::from_fn(|i| pass_from(words, pass_place(words, i))),
     }
 }
