@@ -6,7 +6,7 @@ ghost use Rattle.refusal.specs.Table.{first_due, answer_of};
 ghost use Rattle.plan.specs.Rules.{order_limit};
 ghost use Rattle.buffer.specs.Lists.{word_at};
 ghost use Rattle.plan_reader.specs.PlanWords.{rows_in, columns_in, size_allowed, order_in, pass_allowed, signed28, kind_number};
-ghost use Rattle.plan_reader.specs.ReadPlan.{payload_at, order_at, pass_place, word_rows, head_rows, coefficient_rows, pass_rows, passes_rows, end_rows, side_rows, plan_rows, coefficient_in, pass_from, plan_from, read_plan, read_given};
+ghost use Rattle.plan_reader.specs.ReadPlan.{payload_at, order_at, pass_place, word_rows, head_rows, coefficient_rows, pass_rows, passes_rows, end_rows, side_rows, plan_rows, pass_from, plan_from, read_plan, read_given};
 ghost use Rattle.number.specs.KindWords.{payload_limit, word_of};
 
 use grid::Grid;
@@ -114,7 +114,7 @@ fn pass_allowed(pass: usize, payload: u32) -> bool
         && payload / 64 == 0
 }
 
-// A payload of signed 28 bits.
+// A payload of signed 28 bits, by its top bit: std has no number of that width.
 #[tactic(auto, using(number::proofs::SignedBits::complement_low, number::proofs::SignedBits::complement_high), unfolding(crate::specs::PlanWords::signed28))]
 fn decode_signed28(payload: u32) -> i64
     requires { payload < payload_limit }
@@ -152,12 +152,8 @@ fn test_head(words: &[u32]) -> Result<(), Refusal>
 {
     test_word(words, 0, Kind::Size, size_allowed(payload_at(words, 0)))?;
     let side = payload_at(words, 1) as usize;
-    test_word(
-        words,
-        1,
-        Kind::Block,
-        number::within(side, grid::SIDE_LIMIT),
-    )
+    let allowed = number::within(side, grid::SIDE_LIMIT);
+    test_word(words, 1, Kind::Block, allowed)
 }
 
 #[tactic(auto, using(crate::proofs::RefusalRows::each_in_turn), unfolding(crate::specs::ReadPlan::coefficient_rows))]
@@ -171,36 +167,33 @@ fn test_coefficients(words: &[u32], place: usize, count: usize) -> Result<(), Re
     Ok(())
 }
 
-#[tactic(auto, using(crate::proofs::RefusalRows::in_turn), unfolding(crate::specs::ReadPlan::pass_rows))]
-fn test_pass(words: &[u32], i: usize, place: usize) -> Result<(), Refusal>
-    requires { place ≤ 1000 }
-    ensures { answer_of result ≡ first_due (pass_rows words.now i place) }
+#[tactic(auto, using(crate::proofs::RefusalRows::in_turn, crate::proofs::PassPlaces::pass_place_bounded), unfolding(crate::specs::ReadPlan::pass_rows))]
+fn test_pass(words: &[u32], i: usize) -> Result<(), Refusal>
+    requires { i < 4 }
+    ensures { answer_of result ≡ first_due (pass_rows words.now i (pass_place words.now i)) }
 {
-    test_word(
-        words,
-        place,
-        Kind::Pass,
-        pass_allowed(i, payload_at(words, place)),
-    )?;
+    let place = pass_place(words, i);
+    let allowed = pass_allowed(i, payload_at(words, place));
+    test_word(words, place, Kind::Pass, allowed)?;
     test_word(words, place + 1, Kind::Gain, true)?;
     test_coefficients(words, place + 2, order_at(words, place))
 }
 
-#[tactic(auto, using(crate::proofs::RefusalRows::each_in_turn, crate::proofs::PassPlaces::pass_place_bounded), unfolding(crate::specs::ReadPlan::passes_rows))]
+#[tactic(auto, using(crate::proofs::RefusalRows::each_in_turn), unfolding(crate::specs::ReadPlan::passes_rows))]
 fn test_passes(words: &[u32]) -> Result<(), Refusal>
     ensures { answer_of result ≡ first_due (passes_rows words.now 4) }
 {
     for i in 0..4 {
-        test_pass(words, i, pass_place(words, i))?;
+        test_pass(words, i)?;
     }
     Ok(())
 }
 
-#[tactic(auto, using(crate::proofs::RefusalRows::in_turn), unfolding(crate::specs::ReadPlan::end_rows))]
-fn test_end(words: &[u32], place: usize) -> Result<(), Refusal>
-    requires { place ≤ 1000 }
-    ensures { answer_of result ≡ first_due (end_rows words.now place) }
+#[tactic(auto, using(crate::proofs::RefusalRows::in_turn, crate::proofs::PassPlaces::pass_place_bounded), unfolding(crate::specs::ReadPlan::end_rows))]
+fn test_end(words: &[u32]) -> Result<(), Refusal>
+    ensures { answer_of result ≡ first_due (end_rows words.now (pass_place words.now 4)) }
 {
+    let place = pass_place(words, 4);
     test_word(words, place, Kind::End, payload_at(words, place) == 0)?;
     if place + 1 < words.len() {
         return Err(Refusal::WordsAfterEnd(place + 1));
@@ -221,56 +214,37 @@ fn test_side(words: &[u32]) -> Result<(), Refusal>
     Ok(())
 }
 
-#[tactic(auto, using(crate::proofs::RefusalRows::in_turn, crate::proofs::PassPlaces::pass_place_bounded), unfolding(crate::specs::ReadPlan::plan_rows))]
+#[tactic(auto, using(crate::proofs::RefusalRows::in_turn), unfolding(crate::specs::ReadPlan::plan_rows))]
 fn test_plan(words: &[u32]) -> Result<(), Refusal>
     ensures { answer_of result ≡ first_due (plan_rows words.now) }
 {
     test_head(words)?;
     test_passes(words)?;
-    test_end(words, pass_place(words, 4))?;
+    test_end(words)?;
     test_side(words)
 }
 
 // ---- the record
 
-fn coefficient_in(words: &[u32], place: usize, j: usize) -> i64
-    requires { (place ≤ 1000) × (j < order_limit) }
-    ensures { result ≡ coefficient_in words.now place j }
-{
-    if j < order_at(words, place) {
-        decode_signed28(payload_at(words, place + 2 + j))
-    } else {
-        0
-    }
-}
-
-fn coefficients_from(words: &[u32], place: usize) -> [i64; plan::ORDER_LIMIT]
-    requires { place ≤ 1000 }
-    ensures { result ≡ (pass_from words.now place).coefficients }
-{
-    std::array::from_fn(|j| coefficient_in(words, place, j))
-}
-
-#[tactic(auto, unfolding(crate::specs::ReadPlan::pass_from))]
 fn pass_from(words: &[u32], place: usize) -> Pass
     requires { place ≤ 1000 }
     ensures { result ≡ pass_from words.now place }
 {
+    let order = order_at(words, place);
     Pass {
-        order: order_at(words, place),
+        order,
         gain: decode_signed28(payload_at(words, place + 1)),
-        coefficients: coefficients_from(words, place),
+        coefficients: std::array::from_fn(|j| {
+            if j < order {
+                decode_signed28(payload_at(words, place + 2 + j))
+            } else {
+                0
+            }
+        }),
     }
 }
 
 #[tactic(auto, using(crate::proofs::PassPlaces::pass_place_bounded))]
-fn passes_from(words: &[u32]) -> [Pass; 4]
-    ensures { result ≡ (plan_from words.now).passes }
-{
-    std::array::from_fn(|i| pass_from(words, pass_place(words, i)))
-}
-
-#[tactic(auto, unfolding(crate::specs::ReadPlan::plan_from))]
 fn plan_from(words: &[u32]) -> Plan
     ensures { result ≡ plan_from words.now }
 {
@@ -281,6 +255,6 @@ fn plan_from(words: &[u32]) -> Plan
             columns: columns_in(size),
             side: payload_at(words, 1) as usize,
         },
-        passes: passes_from(words),
+        passes: std::array::from_fn(|i| pass_from(words, pass_place(words, i))),
     }
 }

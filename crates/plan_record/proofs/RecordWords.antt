@@ -4,10 +4,11 @@ use mathlib.Core.List.{List, [], ◌∷◌, ◌++◌, append_assoc}
 use Prim.Native.Nat.{ℕ, ◌+◌, ◌<◌, ◌≤◌, ◌^◌}
 use native.Mathlib.Omega.{arith}
 use native.Mathlib.Numerals.{add-one}
-use lib.IntN.{ℤ, pos, negsuc}
+use lib.IntN.{ℤ, pos}
 use lib.ListN.{length, take, set, replicate, length-set}
 use lib.Seq.{take-suc-set, take-length}
-use borrow.Author.Tests.{lt-ltb, le-ltb}
+use borrow.Author.Tests.{lt-ltb}
+use mir.ValLaws.{to_z-of_z}
 use borrow.Rule.Slice.PartMut.{put_mid}
 use Rattle.std.proofs.lemmas.Slice.{take-put_mid}
 use Rattle.plan.specs.declared.Pass.{Pass}
@@ -19,9 +20,6 @@ use Rattle.plan_record.specs.Records.{pass_length, pass_start, record_length, nu
 
 pub number_held : (size : ℕ) → size < 2 ^ 63 → number_from size ≡ pos size
 number_held size h = simp (lt-ltb size 9223372036854775808 h)
-
-pub number_too_large : (size : ℕ) → 2 ^ 63 ≤ size → number_from size ≡ negsuc 0
-number_too_large size h = simp (le-ltb size 9223372036854775808 h)
 
 module _ {A : Type 0} where
   -- A store behind what stands in front.
@@ -47,6 +45,8 @@ pass_written words place k pass {order} {gain} {coefficients} room full e f g =
     let first : place < length words = omega arith in
     take-put_mid (place + 2) k stores coefficients (place + pass_length) n (omega arith)
     ∙ rw (m, stored (set words place order) (place + 1) gain second, stored words place order first, e, f, g) (simp append_assoc)
+
+pub ruleset pass_stored = (pass_written, to_z-of_z)
 
 -- ---- a plan
 
@@ -75,6 +75,8 @@ pub front_all : (plan : Plan) (words : List ℤ) → length words ≡ record_len
     → words ≡ record_of_plan plan
 unfolding front record_of_plan
 front_all plan words e f = sym (take_all_of words record_length e) ∙ f
+
+pub ruleset record_filled = (front_none, front_more, to_z-of_z)
 
 -- What stands beside a refusal: the record of a plan of zeros is all zeros.
 pub zero_record : record_of_plan zero_plan ≡ replicate record_length (pos 0)

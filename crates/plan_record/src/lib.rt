@@ -55,6 +55,7 @@ fn pass_of_record(words: &[i64; RECORD_LENGTH], place: usize) -> Pass
 }
 
 // The record of a plan.
+#[tactic(auto, using(crate::proofs::RecordWords::record_filled))]
 pub fn record_of_plan(plan: Plan) -> [i64; RECORD_LENGTH]
     ensures { result ≡ record_of_plan plan }
 {
@@ -69,6 +70,7 @@ pub fn record_of_plan(plan: Plan) -> [i64; RECORD_LENGTH]
 }
 
 // The words of a pass, from a place on; what stands behind them is left open.
+#[tactic(auto, using(crate::proofs::RecordWords::pass_stored))]
 fn write_pass(pass: Pass, words: &mut [i64], place: usize)
     requires { place + pass_length ≤ length words.old }
     ensures { take (place + pass_length) words.new ≡ take place words.old ++ record_of_pass pass }

@@ -7,5 +7,5 @@ use Rattle.plan_reader.proofs.test_passes.Goals as goal
 pub returns-in_err-test_pass : goal.returns-in_err-test_pass
 unfolding passes_rows
 returns-in_err-test_pass c =
-    let e = joined_refused _ 4 c.loop-i.i c.loop-i.invariant (rw c.pass_place.ensures at c.in_err-test_pass.ensures) c.loop-i-test.true in
+    let e = joined_refused _ 4 c.loop-i.i c.loop-i.invariant c.in_err-test_pass.ensures c.loop-i-test.true in
     search rules
