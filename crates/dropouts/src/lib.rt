@@ -42,12 +42,14 @@ fn count_inside(plan: Plan, rectangle: Rectangle, map: &[i32]) -> usize
     found
 }
 
-// The dropouts among the heights of a row.
+// The dropouts among the heights of a row. A sum of 0s and 1s, several at a time: `filter` and `count`, one by one, take
+// three times as long.
 fn count_row(heights: &[i32]) -> usize
     ensures { result ≡ count_by is_dropout heights.now }
 {
-    heights
-        .iter()
-        .filter(|height| buffer::is_dropout(**height))
-        .count()
+    let mut found = 0;
+    for height in heights {
+        found += usize::from(buffer::is_dropout(*height));
+    }
+    found
 }
