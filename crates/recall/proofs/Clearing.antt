@@ -2,10 +2,11 @@
 -- Assumes nothing.
 use mathlib.Core.Path.{◌≡◌, refl, sym, ap, ◌∙◌}
 use mathlib.Core.Bool.{Bool, true, false, not, ◌&&◌, and-true}
-use mathlib.Core.List.{List}
+use mathlib.Core.List.{List, ◌++◌}
 use Prim.Native.Nat.{ℕ, ◌+◌, ◌*◌, ◌%◌, ◌^◌, ◌≤◌, ◌<◌}
 use native.Mathlib.Omega.{arith}
-use lib.ListN.{set}
+use lib.ListN.{length, set, get_or-append}
+use Rattle.std.proofs.lemmas.List.{set-append_left}
 use Rattle.number.specs.Numbers.{one}
 use Rattle.number.specs.KindWords.{word_of}
 use Rattle.number.proofs.Sums.{total_cut}
@@ -68,11 +69,17 @@ module _ (grid : Grid) (k : ℕ) (marks : List ℕ) (valid : Valid grid marks) (
 abbrev pub recalled_to : Grid → (k : ℕ) → List ℕ → (n : ℕ) → List ℕ
 recalled_to grid k marks n = written (λ j. j) (mark_of (done_without grid (is_marked marks) k)) n marks
 
--- One turn more of the loop: the mark that it comes to is as it was.
-pub recalled_next : (grid : Grid) (k : ℕ) (marks : List ℕ) → Valid grid marks → (n : ℕ) → n < block_total grid → (list : List ℕ)
-    → list ≡ recalled_to grid k marks n → {first mark : ℕ} → first ≡ first_reached (position_of grid k) (position_of grid n)
-    → mark ≡ word_of mark_kind (word_at list n % 2 ^ first) → set list n mark ≡ recalled_to grid k marks (n + 1)
-recalled_next grid k marks valid n h list is reach e =
-    written_more (λ j. j) (mark_of (done_without grid (is_marked marks) k)) n marks list _ is
-    (e ∙ rw (reach, is, written_other (λ j. j) (mark_of (done_without grid (is_marked marks) k)) n marks n (λ i l. omega arith))
-    (spared_mark grid k marks valid n h))
+-- One turn more of the loop: of the marks that it goes over, before the rest, it comes to one that is as it was.
+pub recalled_next : (grid : Grid) (k : ℕ) (marks : List ℕ) → Valid grid marks → (n : ℕ) → n < block_total grid
+    → (items rest : List ℕ) → n < length items → items ++ rest ≡ recalled_to grid k marks n → {first mark : ℕ}
+    → first ≡ first_reached (position_of grid k) (position_of grid n)
+    → mark ≡ word_of mark_kind (word_at items n % 2 ^ first) → set items n mark ++ rest ≡ recalled_to grid k marks (n + 1)
+recalled_next grid k marks valid n h items rest here is {first} {mark} reach e =
+    let kept : word_at items n ≡ word_at marks n =
+    sym (get_or-append items rest 0 n here)
+    ∙ ap (λ words. word_at words n) is
+    ∙ written_other (λ j. j) (mark_of (done_without grid (is_marked marks) k)) n marks n (λ i l. omega arith)
+    in
+    sym (set-append_left items rest n mark here)
+    ∙ written_more (λ j. j) (mark_of (done_without grid (is_marked marks) k)) n marks (items ++ rest) mark is
+    (e ∙ rw (reach, kept) (spared_mark grid k marks valid n h))

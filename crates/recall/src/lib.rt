@@ -56,15 +56,15 @@ fn test_marks(grid: Grid, block: usize, marks: &[u32]) -> Result<(), Refusal>
 }
 
 // Clears the bits of the tasks that an accepted recall reaches.
-#[tactic(auto, using(buffer::proofs::Written::written_none, crate::proofs::Clearing::recalled_next), unfolding(crate::specs::RecallCall::marks_recalled))]
 fn clear_marks(grid: Grid, recalled: usize, marks: &mut [u32])
     requires { Clearable grid marks.old recalled }
     ensures { marks.new ≡ marks_recalled grid recalled marks.old }
 {
     let from = grid.position(recalled);
-    for block in 0..grid.blocks() {
+    let blocks = grid.blocks();
+    for (block, mark) in marks[..blocks].iter_mut().enumerate() {
         let first = first_reached(from, grid.position(block));
-        marks[block] = first_tasks_of(marks[block], first);
+        *mark = first_tasks_of(*mark, first);
     }
 }
 
