@@ -28,14 +28,19 @@ pub fn link(plan: Plan, k: usize, pass: usize, strips: &mut [u64])
     if course.order == 0 {
         return;
     }
-    let filters = unit_gain_filters(plan);
+    let link = BlockLink {
+        plan,
+        k,
+        course,
+        filters: unit_gain_filters(plan),
+    };
     // Both buffers are cleared before any pass runs: a link takes longer with a clear between (docs/changes/CR08.md).
     let mut lines = [0; squares::LINES];
     let mut responses = [0; crossing::RESPONSES];
     let read = ahead::read_strips(strips, plan, k, pass);
-    lines::link_lines(&mut lines, strips, plan, k, course, &filters);
-    crossing::cross(&mut responses, &lines, course, &filters);
-    carrying::carry(&mut responses, &lines, strips, plan, k, course, &filters);
+    link.link_lines(&mut lines, strips);
+    link.cross(&mut responses, &lines);
+    link.carry(&mut responses, &lines, strips);
     // What was read ahead goes into the margin, where nothing reads it.
     responses[0] = read;
     let lone = strips::strip_of(plan, Half::Lone, k, pass);
@@ -57,19 +62,28 @@ pub struct Course {
     pub order: usize,
 }
 
+// The link of a pass of block k of a plan: its course, and the plan's filters with gain 1.
+#[derive(Clone, Copy)]
+pub struct BlockLink {
+    pub plan: Plan,
+    pub k: usize,
+    pub course: Course,
+    pub filters: [FilterWords; 4],
+}
+
 // The course of a link of a pass along lines of so many places.
 fn course_along(pass: usize, places: usize, lines: usize, order: usize) -> Course
     requires { EdgeFits order places }
     ensures { result ≡ course_along pass places lines order }
 {
     Course {
-        pass: pass,
+        pass,
         first: squares::axis_start(pass),
         passes: squares::axis_passes(pass),
-        places: places,
-        lines: lines,
+        places,
+        lines,
         from: strips::edge_start(pass, order, places),
-        order: order,
+        order,
     }
 }
 

@@ -4,13 +4,10 @@ ghost use Rattle.std.specs.Prelude.{◌≡◌, ◌+◌, ◌<◌, length};
 ghost use Rattle.axis.specs.Axis.{direction_of};
 ghost use Rattle.task_words.specs.Strips.{from_edge};
 ghost use Rattle.squares.specs.LineBuffers.{line_words, filter_at};
-ghost use Rattle.link.specs.Courses.{LinkFits};
+ghost use Rattle.link.specs.Courses.{LinkFits, edges_of};
 ghost use Rattle.link.specs.Lines.{lines_inside, strip_line, strip_lines, StripRows, PassToFill, PassFilled, ZeroWords, LinesFilled, LinesReady};
-ghost use Rattle.task_words.specs.ScaledEdges.{scaled_edges};
 
-use super::Course;
-use filter::FilterWords;
-use plan::Plan;
+use super::BlockLink;
 use strips::Strip;
 
 // The place of a line of a strip that lies at a distance from the edge by which a pass leaves the block.
@@ -87,66 +84,52 @@ fn strip_lines(
     }
 }
 
-// Fills the rows of a pass: with the lines past the block's edge, times the gains of the passes after it, where the pass runs
-// along the other axis, and with the unit histories where it runs along the link's own.
-fn fill_pass(
-    lines: &mut [u64],
-    strips: &[u64],
-    plan: Plan,
-    k: usize,
-    course: Course,
-    filters: &[FilterWords; 4],
-    pass: usize,
-)
-    requires { PassToFill plan k course filters.now (length strips.now) pass lines.old }
-    ensures { PassFilled (filter_at filters.now) course (scaled_edges plan strips.now k course.pass) pass
-        lines.old lines.new }
-{
-    let filter = &filters[pass];
-    let order = filter.order;
-    let row = squares::rows_before(filters, pass);
-    if pass < course.first {
-        let strip = strips::strip_before(plan, k, pass);
-        let gain = filter::gains_after(plan, pass, course.pass);
-        strip_lines(lines, row, course.places, strips, strip, pass, order, gain);
-    } else {
-        squares::unit_lines(lines, row, pass, course.places, order);
+impl BlockLink {
+    // Fills the rows of a pass: with the lines past the block's edge, times the gains of the passes after it, where the pass
+    // runs along the other axis, and with the unit histories where it runs along the link's own.
+    fn fill_pass(&self, lines: &mut [u64], strips: &[u64], pass: usize)
+        requires { PassToFill self.now (length strips.now) pass lines.old }
+        ensures { PassFilled (filter_at self.now.filters) self.now.course (edges_of self.now strips.now) pass
+            lines.old lines.new }
+    {
+        let course = &self.course;
+        let order = self.filters[pass].order;
+        let row = squares::rows_before(&self.filters, pass);
+        if pass < course.first {
+            let strip = strips::strip_before(self.plan, self.k, pass);
+            let gain = filter::gains_after(self.plan, pass, course.pass);
+            strip_lines(lines, row, course.places, strips, strip, pass, order, gain);
+        } else {
+            squares::unit_lines(lines, row, pass, course.places, order);
+        }
     }
-}
 
-// Fills the rows of all passes.
-fn fill_lines(
-    lines: &mut [u64],
-    strips: &[u64],
-    plan: Plan,
-    k: usize,
-    course: Course,
-    filters: &[FilterWords; 4],
-)
-    requires link_fits { LinkFits plan k course filters.now (length strips.now) }
-    requires zero_words { ZeroWords line_words lines.old }
-    ensures { LinesFilled (filter_at filters.now) course (scaled_edges plan strips.now k course.pass)
-        (course.first + course.passes) lines.new }
-{
-    for pass in 0..course.first + course.passes {
-        fill_pass(lines, strips, plan, k, course, filters, pass);
+    // Fills the rows of all passes.
+    fn fill_lines(&self, lines: &mut [u64], strips: &[u64])
+        requires link_fits { LinkFits self.now (length strips.now) }
+        requires zero_words { ZeroWords line_words lines.old }
+        ensures { LinesFilled (filter_at self.now.filters) self.now.course (edges_of self.now strips.now)
+            (self.now.course.first + self.now.course.passes) lines.new }
+    {
+        for pass in 0..self.course.first + self.course.passes {
+            self.fill_pass(lines, strips, pass);
+        }
     }
-}
 
-// The lines of a link after the passes of its axis: the ends of the lines past the block's edges, and the squares.
-pub(crate) fn link_lines(
-    lines: &mut [u64],
-    strips: &[u64],
-    plan: Plan,
-    k: usize,
-    course: Course,
-    filters: &[FilterWords; 4],
-)
-    requires link_fits { LinkFits plan k course filters.now (length strips.now) }
-    requires zero_words { ZeroWords line_words lines.old }
-    ensures { LinesReady (filter_at filters.now) course (scaled_edges plan strips.now k course.pass)
-        lines.new }
-{
-    fill_lines(lines, strips, plan, k, course, filters);
-    squares::run_lines(lines, course.places, filters, course.first, course.passes);
+    // The lines of a link after the passes of its axis: the ends of the lines past the block's edges, and the squares.
+    pub(crate) fn link_lines(&self, lines: &mut [u64], strips: &[u64])
+        requires link_fits { LinkFits self.now (length strips.now) }
+        requires zero_words { ZeroWords line_words lines.old }
+        ensures { LinesReady (filter_at self.now.filters) self.now.course (edges_of self.now strips.now) lines.new }
+    {
+        let course = &self.course;
+        self.fill_lines(lines, strips);
+        squares::run_lines(
+            lines,
+            course.places,
+            &self.filters,
+            course.first,
+            course.passes,
+        );
+    }
 }

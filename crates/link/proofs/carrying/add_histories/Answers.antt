@@ -13,7 +13,7 @@ loop-distance-init c =
 pub loop-distance-preserved : goal.loop-distance-preserved
 loop-distance-preserved c =
     let a = c.args in
-    histories_more a.course.lines a.course.order c.loop-distance.distance _ _ a.responses.now
+    histories_more a.course.now.lines a.course.now.order c.loop-distance.distance _ _ a.responses.now
     c.loop-distance.invariant
     (λ line. ap (λ place. a.gain ⊗ strip_read a.strip a.strips.now line place) c.from_edge-place.ensures)
     c.add_distance.ensures

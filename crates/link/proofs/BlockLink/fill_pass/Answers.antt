@@ -2,7 +2,7 @@
 use native.Mathlib.Omega.{arith}
 use Rattle.link.proofs.Courses.{link_orders, scaled_edges_law, before_strip_fits}
 use Rattle.link.proofs.lines.Filling.{fill_pass_below, fill_order_limited, fill_rows_in, fill_long, pass_strips, pass_units}
-use Rattle.link.proofs.lines.fill_pass.Goals as goal
+use Rattle.link.proofs.BlockLink.fill_pass.Goals as goal
 
 pub rows_before-row-requires : goal.rows_before-row-requires
 rows_before-row-requires c =

@@ -5,8 +5,8 @@ use Rattle.squares.proofs.LineRows.{rows_few}
 use Rattle.squares.specs.LineBuffers.{filter_at}
 use Rattle.link.proofs.Courses.{link_orders, before_strip_fits}
 use Rattle.link.proofs.carrying.Histories.{histories_carried}
-use Rattle.link.proofs.carrying.carry_pass.Goals as goal
-use Rattle.link.proofs.carrying.carry_pass.Goals.{Start}
+use Rattle.link.proofs.BlockLink.carry_pass.Goals as goal
+use Rattle.link.proofs.BlockLink.carry_pass.Goals.{Start}
 
 pass_below : (c : Start) → c.args.pass < 4
 pass_below c = omega (arith, c.requires.pass_to_carry.in_course, c.requires.carry_fits.link_fits.course_fits.passes_counted)
@@ -26,7 +26,7 @@ square_from-square-requires c =
             arith,
             pass_below (goal.at.square_from-square-requires c).Start,
             c.requires.carry_fits.ready.length_is,
-            rows_few (filter_at c.args.filters.now) (link_orders fits) c.args.pass (omega (arith, pass_below (goal.at.square_from-square-requires c).Start)),
+            rows_few (filter_at c.args.self.now.filters) (link_orders fits) c.args.pass (omega (arith, pass_below (goal.at.square_from-square-requires c).Start)),
           )),
     )
 
