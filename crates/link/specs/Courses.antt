@@ -4,13 +4,15 @@ use Rattle.plan.specs.Rules.{order_limit, pass_at, keeps_rules}
 use Rattle.plan.specs.Sizes.{needed_marks, needed_strips, order_of}
 use Rattle.plan.specs.declared.Plan.{Plan}
 use Rattle.axis.specs.Axis.{direction_of}
-use Rattle.filter.specs.FilterWords.{filter_words, with_gain}
+use Rattle.filter.specs.FilterWords.{filter_words, with_gain, gains_after}
 use Rattle.filter.specs.declared.FilterWords.{FilterWords}
 use Rattle.grid.specs.Grid.{side_limit, extent_along, lines_across}
-use Rattle.strips.specs.StripRecord.{StripAt, edge_start}
+use Rattle.strips.specs.StripRecord.{StripAt, edge_start, strip_before}
 use Rattle.squares.specs.LinePasses.{axis_start, axis_passes}
 use Rattle.link.specs.declared.Course.{Course}
 use Rattle.link.specs.declared.BlockLink.{BlockLink}
+use Rattle.link.specs.declared.Edge.{Edge}
+use Rattle.squares.specs.LineBuffers.{filter_at}
 use Rattle.task_words.specs.ScaledEdges.{scaled_edges}
 
 -- The words of the four filters of a plan, with gain 1.
@@ -83,3 +85,13 @@ pub record LinkFits (link : BlockLink) (strips : ℕ) : Type 0 where
 -- What stands past the edges of its block, times the gains of the passes after, up to the link's own.
 abbrev pub edges_of : BlockLink → List ℕ → ℕ → ℕ → ℕ → ℕ
 edges_of link strips = scaled_edges link.plan strips link.k link.course.pass
+
+-- The edge of its block where a pass comes from: the strip there, and the gains of the passes after, up to the link's own.
+abbrev pub edge_of : BlockLink → (pass : ℕ) → Edge
+edge_of link pass =
+    record {
+      strip = strip_before link.plan link.k pass;
+      pass = pass;
+      order = (filter_at link.filters pass).order;
+      gain = gains_after link.plan pass link.course.pass;
+    }

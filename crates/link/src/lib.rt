@@ -10,13 +10,16 @@ mod crossing;
 mod lines;
 mod writing;
 
-ghost use Rattle.std.specs.Prelude.{◌≡◌, length};
+ghost use Rattle.std.specs.Prelude.{◌≡◌, ◌<◌, ◌≤◌, length};
+ghost use Rattle.axis.specs.Axis.{direction_of};
+ghost use Rattle.task_words.specs.Strips.{from_edge};
 ghost use Rattle.task_words.specs.Writes.{linked};
 ghost use Rattle.strips.specs.StripRecord.{StripAt, EdgeFits};
-ghost use Rattle.link.specs.Courses.{unit_gain_filters, course_along, course_of, LinkAt};
+ghost use Rattle.link.specs.Courses.{unit_gain_filters, course_along, course_of, edge_of, LinkAt};
 
 use filter::FilterWords;
 use plan::Plan;
+use strips::Strip;
 use task_words::Half;
 
 // The link of a pass of block k: its linked strip is that of the whole map where the strips of its needs are.
@@ -69,6 +72,45 @@ pub struct BlockLink {
     pub k: usize,
     pub course: Course,
     pub filters: [FilterWords; 4],
+}
+
+// An edge of a block: the strip past it, the pass that comes from there and its order, and the gain that the strip's words are
+// taken times.
+#[derive(Clone, Copy)]
+pub struct Edge {
+    pub strip: Strip,
+    pub pass: usize,
+    pub order: usize,
+    pub gain: u64,
+}
+
+impl BlockLink {
+    // The edge where a pass comes from. The gain is that of the passes after it, up to the link's own.
+    fn edge(&self, pass: usize) -> Edge
+        requires { StripAt self.now.plan self.now.k pass × (pass ≤ self.now.course.pass) × (self.now.course.pass < 4) }
+        ensures { result ≡ edge_of self.now pass }
+    {
+        Edge {
+            strip: strips::strip_before(self.plan, self.k, pass),
+            pass,
+            order: self.filters[pass].order,
+            gain: filter::gains_after(self.plan, pass, self.course.pass),
+        }
+    }
+}
+
+impl Edge {
+    // The place of the strip's lines at a distance from the edge.
+    fn place(&self, distance: usize) -> usize
+        requires { distance < self.now.order }
+        ensures { result ≡ from_edge (direction_of self.now.pass) self.now.order distance }
+    {
+        if axis::is_backward(self.pass) {
+            distance
+        } else {
+            self.order - 1 - distance
+        }
+    }
 }
 
 // The course of a link of a pass along lines of so many places.

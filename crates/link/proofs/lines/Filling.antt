@@ -9,7 +9,6 @@ use native.Mathlib.Omega.{arith}
 use native.Mathlib.Nat.{add-zero, sub-zero, mul-le-mul_right}
 use borrow.Author.Tests.{lt-ltb, le-ltb}
 use lib.ListN.{length}
-use Rattle.word.specs.Word.{◌⊗◌}
 use Rattle.number.proofs.Sums.{total_grows}
 use Rattle.plan.specs.Rules.{order_limit}
 use Rattle.buffer.specs.Lists.{word_at}
@@ -17,20 +16,18 @@ use Rattle.passes.specs.Filter.{Filter}
 use Rattle.axis.specs.Axis.{direction_of}
 use Rattle.passes.specs.Square.{unit_history}
 use Rattle.number.specs.Numbers.{row_major}
-use Rattle.task_words.specs.Strips.{from_edge}
-use Rattle.strips.specs.StripRecord.{strip_read}
-use Rattle.strips.specs.declared.Strip.{Strip}
 use Rattle.squares.proofs.Lines.{margin_below}
 use Rattle.squares.proofs.LineRows.{row_passed, rows_next, rows_in_law}
 use Rattle.squares.proofs.Units.{units_filled}
 use Rattle.squares.specs.LinePasses.{only_at, line_passes, pass_square, row_end}
 use Rattle.squares.specs.LineBuffers.{row_words, line_rows, line_words, filter_at, rows_before, unit_lines, OrdersFit}
 use Rattle.squares.specs.Rows.{JoinsAt, LinesPassed, RowsFilled}
-use Rattle.link.specs.Courses.{CourseFits}
+use Rattle.link.specs.Courses.{CourseFits, edges_of, edge_of}
 use Rattle.link.specs.Lines.{strip_lines, row_history, row_input, PassFilled, ZeroWords, PassToFill, LinesFilled, LinesReady}
 use Rattle.link.specs.declared.Course.{Course}
 use Rattle.link.specs.declared.BlockLink.{BlockLink}
-use Rattle.link.proofs.Courses.{link_orders}
+use Rattle.link.specs.declared.Edge.{Edge}
+use Rattle.link.proofs.Courses.{link_orders, scaled_edges_law}
 use Rattle.link.proofs.lines.StripRows.{strips_filled}
 
 -- ---- the rows of a pass
@@ -108,18 +105,18 @@ module _ {link : BlockLink} {n pass : ℕ} {before : List ℕ} (fill : PassToFil
   pub fill_long : (row + order) * row_words ≤ length before
   fill_long = omega (arith, mul-le-mul_right row_words fill_rows_in, fill.long)
 
-  module _ (H : ℕ → ℕ → ℕ → ℕ) where
-    pub pass_strips : {at : ℕ} {after : List ℕ} → at ≡ row → (gain : ℕ) (strip : Strip) (strips : List ℕ) → pass < link.course.first
-        → after ≡ strip_lines gain (direction_of pass) order strip strips at link.course.places order before
-        → ((k j : ℕ) → k < order → gain ⊗ strip_read strip strips j (from_edge (direction_of pass) order k) ≡ H pass j k)
-        → PassFilled (filter_at link.filters) link.course H pass before after
-    pass_strips at_is gain strip strips h e f =
-        strip_rows link.course H pass row order h
-        (rw (e, at_is)
-        (strips_filled link.course.places row fill.link_fits.course_fits.few_places gain (direction_of pass) order strip strips
-        before fill_long fill.zeros link.course.first link.course.passes))
-        f
+  pub pass_strips : {at : ℕ} {after : List ℕ} → at ≡ row → {edge : Edge} → edge ≡ edge_of link pass → (strips : List ℕ)
+      → pass < link.course.first
+      → after ≡ strip_lines edge.gain (direction_of edge.pass) edge.order edge.strip strips at link.course.places edge.order before
+      → PassFilled (filter_at link.filters) link.course (edges_of link strips) pass before after
+  pass_strips at_is edge_is strips h e =
+      strip_rows link.course (edges_of link strips) pass row order h
+      (rw (rw edge_is at e, at_is)
+      (strips_filled link.course.places row fill.link_fits.course_fits.few_places (edge_of link pass).gain (direction_of pass) order
+      (edge_of link pass).strip strips before fill_long fill.zeros link.course.first link.course.passes))
+      (λ k j. scaled_edges_law fill.link_fits strips pass fill_pass_below refl refl j k)
 
+  module _ (H : ℕ → ℕ → ℕ → ℕ) where
     pub pass_units : {at : ℕ} {after : List ℕ} → at ≡ row → link.course.first ≤ pass
         → after ≡ unit_lines (direction_of pass) at link.course.places order before
         → PassFilled (filter_at link.filters) link.course H pass before after
