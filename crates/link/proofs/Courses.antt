@@ -14,7 +14,6 @@ use Rattle.passes.specs.Gains.{unit_gain}
 use Rattle.axis.specs.Axis.{Direction, forward, backward, axis_of, direction_of}
 use Rattle.filter.proofs.Filters.{filter_words_filter}
 use Rattle.filter.specs.PlanFilters.{filter_of, filters_of}
-use Rattle.filter.specs.declared.FilterWords.{FilterWords}
 use Rattle.grid.specs.declared.Grid.{Grid}
 use Rattle.grid.specs.Grid.{extent_along, lines_across}
 use Rattle.task_words.specs.Strips.{from_edge}
@@ -29,6 +28,7 @@ use Rattle.squares.specs.LinePasses.{axis_start, axis_passes}
 use Rattle.squares.specs.LineBuffers.{filter_at, OrdersFit}
 use Rattle.link.specs.Courses.{unit_gain_filters, course_along, course_of, CourseFits, LinkFits}
 use Rattle.link.specs.declared.Course.{Course}
+use Rattle.link.specs.declared.BlockLink.{BlockLink}
 use Rattle.filter.specs.FilterWords.{gains_after}
 use Rattle.task_words.specs.ScaledEdges.{scaled_edges}
 
@@ -140,26 +140,25 @@ filter_is plan (suc (suc zero)) h = ap unit_gain (filter_words_filter (pass_at p
 filter_is plan (suc (suc (suc zero))) h = ap unit_gain (filter_words_filter (pass_at plan 3))
 filter_is plan (suc (suc (suc (suc pass)))) h = absurd (omega arith)
 
-module _ {plan : Plan} {k : ℕ} {course : Course} {filters : List FilterWords} {n : ℕ}
-    (fits : LinkFits plan k course filters n) where
-  order_is : (pass : ℕ) → pass < 4 → (filter_at filters pass).order ≡ order_of plan pass
+module _ {link : BlockLink} {n : ℕ} (fits : LinkFits link n) where
+  order_is : (pass : ℕ) → pass < 4 → (filter_at link.filters pass).order ≡ order_of link.plan pass
   unfolding filter_of
-  order_is pass h = rw fits.filters_are (ap (λ (f : Filter). f.order) (filter_is plan pass h))
+  order_is pass h = rw fits.filters_are (ap (λ (f : Filter). f.order) (filter_is link.plan pass h))
 
-  pub link_orders : OrdersFit (filter_at filters)
+  pub link_orders : OrdersFit (filter_at link.filters)
   link_orders =
-      record { order_limited = λ pass h. rw (order_is pass h) (order_limited_at plan fits.kept pass h) }
+      record { order_limited = λ pass h. rw (order_is pass h) (order_limited_at link.plan fits.kept pass h) }
 
   -- What is read at a distance in the strip of the block that a pass comes from, times the gains of the passes after it.
-  pub scaled_edges_law : (strips : List ℕ) (pass : ℕ) → pass < 4 → {strip : Strip} → strip ≡ strip_before plan k pass → {gain : ℕ}
-      → gain ≡ gains_after plan pass course.pass → (line distance : ℕ) → distance < (filter_at filters pass).order
-      → gain ⊗ strip_read strip strips line (from_edge (direction_of pass) (filter_at filters pass).order distance)
-      ≡ scaled_edges plan strips k course.pass pass line distance
+  pub scaled_edges_law : (strips : List ℕ) (pass : ℕ) → pass < 4 → {strip : Strip} → strip ≡ strip_before link.plan link.k pass → {gain : ℕ}
+      → gain ≡ gains_after link.plan pass link.course.pass → (line distance : ℕ) → distance < (filter_at link.filters pass).order
+      → gain ⊗ strip_read strip strips line (from_edge (direction_of pass) (filter_at link.filters pass).order distance)
+      ≡ scaled_edges link.plan strips link.k link.course.pass pass line distance
   unfolding scaled_edges
   scaled_edges_law strips pass h s g line distance b =
-      let b' : distance < order_of plan pass = rw (order_is pass h) at b in
+      let b' : distance < order_of link.plan pass = rw (order_is pass h) at b in
       rw (s, g, order_is pass h)
-      (ap (gains_after plan pass course.pass ⊗◌) (past_edges_read plan strips k pass line distance b'))
+      (ap (gains_after link.plan pass link.course.pass ⊗◌) (past_edges_read link.plan strips link.k pass line distance b'))
 
-  pub before_strip_fits : (pass : ℕ) → pass < 4 → StripFits n (strip_before plan k pass)
-  before_strip_fits pass h = before_fits plan k pass n fits.counted h fits.strips_long
+  pub before_strip_fits : (pass : ℕ) → pass < 4 → StripFits n (strip_before link.plan link.k pass)
+  before_strip_fits pass h = before_fits link.plan link.k pass n fits.counted h fits.strips_long

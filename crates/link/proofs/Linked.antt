@@ -192,7 +192,7 @@ module _ (plan : Plan) (k pass : ℕ) {n : ℕ} (at : LinkAt plan k pass n) {cou
       rw none (sym (written_none _ _ strips))
 
   pub link_fits : {filters : List FilterWords} → (course.order ≡ 0 → ⊥) → filters ≡ unit_gain_filters plan
-      → LinkFits plan k course filters n
+      → LinkFits (record { plan = plan; k = k; course = course; filters = filters }) n
   link_fits some filters_are =
       let asked = at.strip_at in
       let some_order : 0 < order_of plan pass = omega (arith, order_of_course) in

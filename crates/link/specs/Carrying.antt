@@ -3,24 +3,22 @@ use Rattle.std.specs.Prelude.{◌≡◌, List, ℕ, ◌+◌, ◌-◌, ◌*◌, �
 use Rattle.word.specs.Word.{◌⊕◌, ◌⊗◌}
 use Rattle.grid.specs.Grid.{side_limit}
 use Rattle.plan.specs.Rules.{order_limit}
-use Rattle.plan.specs.declared.Plan.{Plan}
 use Rattle.buffer.specs.Lists.{word_at}
 use Rattle.buffer.specs.Written.{written}
 use Rattle.buffer.specs.Copies.{WordsFit}
 use Rattle.passes.specs.Filter.{Filter}
 use Rattle.axis.specs.Axis.{Direction}
 use Rattle.passes.specs.Square.{weighted_sum}
-use Rattle.filter.specs.declared.FilterWords.{FilterWords}
 use Rattle.task_words.specs.Strips.{from_edge}
 use Rattle.strips.specs.StripRecord.{strip_read, StripFits}
 use Rattle.strips.specs.declared.Strip.{Strip}
 use Rattle.squares.specs.LinePasses.{pass_square, response}
 use Rattle.squares.specs.LineBuffers.{filter_at, square_at}
-use Rattle.link.specs.Courses.{Inside, index_at, CourseFits, LinkFits}
+use Rattle.link.specs.Courses.{Inside, index_at, CourseFits, LinkFits, edges_of}
 use Rattle.link.specs.Lines.{LinesReady}
 use Rattle.link.specs.Crossing.{response_words, response_place}
 use Rattle.link.specs.declared.Course.{Course}
-use Rattle.task_words.specs.ScaledEdges.{scaled_edges}
+use Rattle.link.specs.declared.BlockLink.{BlockLink}
 
 -- ---- multiples of words that lie apart
 
@@ -76,9 +74,9 @@ pub record HistoriesAdded (lines places n : ℕ) (H : ℕ → ℕ → ℕ) (squa
 -- ---- the passes of the link's axis
 
 -- What they want of the lines: their rows have the squares.
-pub record CarryFits (plan : Plan) (k : ℕ) (course : Course) (filters : List FilterWords) (strips lines : List ℕ) : Type 0 where
-  pub link_fits : LinkFits plan k course filters (length strips)
-  pub ready : LinesReady (filter_at filters) course (scaled_edges plan strips k course.pass) lines
+pub record CarryFits (link : BlockLink) (strips lines : List ℕ) : Type 0 where
+  pub link_fits : LinkFits link (length strips)
+  pub ready : LinesReady (filter_at link.filters) link.course (edges_of link strips) lines
 
 -- One of these passes, and responses of so many words.
 pub record PassToCarry (course : Course) (pass responses : ℕ) : Type 0 where

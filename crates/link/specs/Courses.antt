@@ -4,12 +4,16 @@ use Rattle.plan.specs.Rules.{order_limit, pass_at, keeps_rules}
 use Rattle.plan.specs.Sizes.{needed_marks, needed_strips, order_of}
 use Rattle.plan.specs.declared.Plan.{Plan}
 use Rattle.axis.specs.Axis.{direction_of}
-use Rattle.filter.specs.FilterWords.{filter_words, with_gain}
+use Rattle.filter.specs.FilterWords.{filter_words, with_gain, gains_after}
 use Rattle.filter.specs.declared.FilterWords.{FilterWords}
 use Rattle.grid.specs.Grid.{side_limit, extent_along, lines_across}
-use Rattle.strips.specs.StripRecord.{StripAt, edge_start}
+use Rattle.strips.specs.StripRecord.{StripAt, edge_start, strip_before}
 use Rattle.squares.specs.LinePasses.{axis_start, axis_passes}
 use Rattle.link.specs.declared.Course.{Course}
+use Rattle.link.specs.declared.BlockLink.{BlockLink}
+use Rattle.link.specs.declared.Edge.{Edge}
+use Rattle.squares.specs.LineBuffers.{filter_at}
+use Rattle.task_words.specs.ScaledEdges.{scaled_edges}
 
 -- The words of the four filters of a plan, with gain 1.
 unfoldable pub unit_gain_filters : Plan → List FilterWords
@@ -70,11 +74,24 @@ pub record LinkAt (plan : Plan) (k pass strips : ℕ) : Type 0 where
   pub strip_at : StripAt plan k pass
   pub strips_long : needed_strips plan ≤ strips
 
--- What a link of block k along a course wants, with strips of so many words: the filters are the plan's,
--- with gain 1.
-pub record LinkFits (plan : Plan) (k : ℕ) (course : Course) (filters : List FilterWords) (strips : ℕ) : Type 0 where
-  pub kept : keeps_rules plan ≡ true
-  pub counted : k < needed_marks plan
-  pub course_fits : CourseFits course
-  pub filters_are : filters ≡ unit_gain_filters plan
-  pub strips_long : needed_strips plan ≤ strips
+-- What a link of a block wants, with strips of so many words: the filters are the plan's, with gain 1.
+pub record LinkFits (link : BlockLink) (strips : ℕ) : Type 0 where
+  pub kept : keeps_rules link.plan ≡ true
+  pub counted : link.k < needed_marks link.plan
+  pub course_fits : CourseFits link.course
+  pub filters_are : link.filters ≡ unit_gain_filters link.plan
+  pub strips_long : needed_strips link.plan ≤ strips
+
+-- What stands past the edges of its block, times the gains of the passes after, up to the link's own.
+abbrev pub edges_of : BlockLink → List ℕ → ℕ → ℕ → ℕ → ℕ
+edges_of link strips = scaled_edges link.plan strips link.k link.course.pass
+
+-- The edge of its block where a pass comes from: the strip there, and the gains of the passes after, up to the link's own.
+abbrev pub edge_of : BlockLink → (pass : ℕ) → Edge
+edge_of link pass =
+    record {
+      strip = strip_before link.plan link.k pass;
+      pass = pass;
+      order = (filter_at link.filters pass).order;
+      gain = gains_after link.plan pass link.course.pass;
+    }

@@ -2,13 +2,11 @@
 use Rattle.std.specs.Prelude.{◌≡◌, cond, List, ℕ, zero, suc, ◌+◌, ◌-◌, ◌<◌, ◌≤◌, min, length, ltb}
 use Rattle.word.specs.Word.{◌⊗◌}
 use Rattle.grid.specs.Grid.{side_limit}
-use Rattle.plan.specs.declared.Plan.{Plan}
 use Rattle.buffer.specs.Lists.{word_at}
 use Rattle.buffer.specs.Written.{row_written}
 use Rattle.passes.specs.Filter.{Filter}
 use Rattle.axis.specs.Axis.{Direction}
 use Rattle.passes.specs.Square.{unit_history}
-use Rattle.filter.specs.declared.FilterWords.{FilterWords}
 use Rattle.task_words.specs.Strips.{from_edge}
 use Rattle.strips.specs.StripRecord.{place_held, strip_read, StripFits}
 use Rattle.strips.specs.declared.Strip.{Strip}
@@ -17,6 +15,7 @@ use Rattle.squares.specs.LineBuffers.{line_rows, line_words, filter_at, rows_bef
 use Rattle.squares.specs.Rows.{LineIs, RowsFilled, ZerosFrom}
 use Rattle.link.specs.Courses.{LinkFits}
 use Rattle.link.specs.declared.Course.{Course}
+use Rattle.link.specs.declared.BlockLink.{BlockLink}
 
 -- ---- the lines past a block's edges
 
@@ -68,12 +67,11 @@ pub record ZeroWords (n : ℕ) (buffer : List ℕ) : Type 0 where
   pub zeros : (z : ℕ) → word_at buffer z ≡ 0
 
 -- What is asked where the rows of a pass are filled: the rows from its first on are zeros.
-pub record PassToFill (plan : Plan) (k : ℕ) (course : Course) (filters : List FilterWords) (strips pass : ℕ) (lines : List ℕ) :
-    Type 0 where
-  pub link_fits : LinkFits plan k course filters strips
-  pub in_course : pass < course.first + course.passes
+pub record PassToFill (link : BlockLink) (strips pass : ℕ) (lines : List ℕ) : Type 0 where
+  pub link_fits : LinkFits link strips
+  pub in_course : pass < link.course.first + link.course.passes
   pub long : line_words ≤ length lines
-  pub zeros : ZerosFrom (rows_before (filter_at filters) pass) lines
+  pub zeros : ZerosFrom (rows_before (filter_at link.filters) pass) lines
 
 -- The rows of the first passes have their lines, and the others are zeros.
 pub record LinesFilled (filters : ℕ → Filter) (course : Course) (H : ℕ → ℕ → ℕ → ℕ) (passes : ℕ) (buffer : List ℕ) : Type 0 where

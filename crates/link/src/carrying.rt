@@ -8,12 +8,9 @@ ghost use Rattle.strips.specs.StripRecord.{strip_read};
 ghost use Rattle.squares.specs.LineBuffers.{filter_at};
 ghost use Rattle.link.specs.Crossing.{crossed_words, Held};
 ghost use Rattle.link.specs.Carrying.{WordPerLine, multiple_added, MultiplesFit, MultiplesAdded, DistanceAdded, HistoriesFit, history_word, HistoriesAdded, CarryFits, PassToCarry, Carried, response_of};
-ghost use Rattle.task_words.specs.ScaledEdges.{scaled_edges};
+ghost use Rattle.link.specs.Courses.{edges_of};
 
-use super::Course;
-use filter::FilterWords;
-use plan::Plan;
-use strips::Strip;
+use super::{BlockLink, Course, Edge};
 
 // Adds a multiple of words that lie `step` apart in the strips, one for each line, to a place of the responses.
 fn add_multiple(
@@ -58,125 +55,80 @@ fn add_multiples(
     }
 }
 
-// Adds the words of a strip at one distance from the edge, which is a place of its lines, times a gain, to all places of
-// the responses, times what each weighs for that distance.
-fn add_distance(
-    responses: &mut [u64],
-    strips: &[u64],
-    strip: Strip,
-    course: Course,
-    place: usize,
-    weights: &[u64; plan::ORDER_LIMIT],
-    gain: u64,
-)
-    requires { HistoriesFit course (length responses.old) (length strips.now) strip }
-    ensures { DistanceAdded course.lines course.order (λ l. gain ⊗ strip_read strip strips.now l place)
-        (word_at weights.now) responses.old responses.new }
-{
-    let lines = super::lines::lines_inside(strip, place, course.lines);
-    if 0 < lines {
-        add_multiples(
-            responses,
-            course.order,
-            strips,
-            strip.first_at(place),
-            strip.line_step,
-            lines,
-            weights,
-            gain,
-        );
+impl Edge {
+    // Adds the strip's words at one place of its lines, times the gain, to all places of the responses, times what each weighs
+    // for the distance of that place from the edge.
+    fn add_distance(
+        &self,
+        responses: &mut [u64],
+        strips: &[u64],
+        course: &Course,
+        place: usize,
+        weights: &[u64; plan::ORDER_LIMIT],
+    )
+        requires { HistoriesFit course.now (length responses.old) (length strips.now) self.now.strip }
+        ensures { DistanceAdded course.now.lines course.now.order (λ l. self.now.gain ⊗ strip_read self.now.strip strips.now l place)
+            (word_at weights.now) responses.old responses.new }
+    {
+        let lines = super::lines::lines_inside(self.strip, place, course.lines);
+        if 0 < lines {
+            add_multiples(
+                responses,
+                course.order,
+                strips,
+                self.strip.first_at(place),
+                self.strip.line_step,
+                lines,
+                weights,
+                self.gain,
+            );
+        }
+    }
+
+    // Adds the histories of all lines, times the gain, to the responses, weighted by a square.
+    fn add_histories(
+        &self,
+        responses: &mut [u64],
+        strips: &[u64],
+        course: &Course,
+        square: &[[u64; plan::ORDER_LIMIT]; plan::ORDER_LIMIT],
+    )
+        requires { HistoriesFit course.now (length responses.old) (length strips.now) self.now.strip × (self.now.order ≤ order_limit) }
+        ensures { HistoriesAdded course.now.lines course.now.order self.now.order
+            (history_word self.now.gain (direction_of self.now.pass) self.now.order self.now.strip strips.now) square.now
+            responses.old responses.new }
+    {
+        for distance in 0..self.order {
+            let place = self.place(distance);
+            self.add_distance(responses, strips, course, place, &square[distance]);
+        }
     }
 }
 
-// Adds the histories of all lines, times a gain, to the responses, weighted by a square.
-fn add_histories(
-    responses: &mut [u64],
-    strips: &[u64],
-    strip: Strip,
-    course: Course,
-    pass: usize,
-    order: usize,
-    square: &[[u64; plan::ORDER_LIMIT]; plan::ORDER_LIMIT],
-    gain: u64,
-)
-    requires { HistoriesFit course (length responses.old) (length strips.now) strip × (order ≤ order_limit) }
-    ensures { HistoriesAdded course.lines course.order order
-        (history_word gain (direction_of pass) order strip strips.now) square.now
-        responses.old responses.new }
-{
-    for distance in 0..order {
-        let place = super::lines::from_edge(pass, order, distance);
-        add_distance(
-            responses,
-            strips,
-            strip,
-            course,
-            place,
-            &square[distance],
-            gain,
-        );
+impl BlockLink {
+    // Adds the histories of a pass of the link's axis, times the gains of the passes after it, to the responses.
+    fn carry_pass(&self, responses: &mut [u64], lines: &[u64], strips: &[u64], pass: usize)
+        requires carry_fits { CarryFits self.now strips.now lines.now }
+        requires pass_to_carry { PassToCarry self.now.course pass (length responses.old) }
+        ensures { Carried (filter_at self.now.filters) self.now.course pass (edges_of self.now strips.now pass)
+            responses.old responses.new }
+    {
+        let edge = self.edge(pass);
+        let row = squares::rows_before(&self.filters, pass);
+        let square = squares::square_from(lines, row, edge.order, self.course.from);
+        edge.add_histories(responses, strips, &self.course, &square);
     }
-}
 
-// Adds the histories of a pass of the link's axis, times the gains of the passes after it, to the responses.
-fn carry_pass(
-    responses: &mut [u64],
-    lines: &[u64],
-    strips: &[u64],
-    plan: Plan,
-    k: usize,
-    course: Course,
-    filters: &[FilterWords; 4],
-    pass: usize,
-)
-    requires carry_fits { CarryFits plan k course filters.now strips.now lines.now }
-    requires pass_to_carry { PassToCarry course pass (length responses.old) }
-    ensures { Carried (filter_at filters.now) course pass (scaled_edges plan strips.now k course.pass pass)
-        responses.old responses.new }
-{
-    let filter = &filters[pass];
-    let row = squares::rows_before(filters, pass);
-    let square = squares::square_from(lines, row, filter.order, course.from);
-    let past_edge = strips::strip_before(plan, k, pass);
-    let gain = filter::gains_after(plan, pass, course.pass);
-    add_histories(
-        responses,
-        strips,
-        past_edge,
-        course,
-        pass,
-        filter.order,
-        &square,
-        gain,
-    );
-}
-
-// Adds the histories of all passes of the link's axis to the responses.
-pub(crate) fn carry(
-    responses: &mut [u64],
-    lines: &[u64],
-    strips: &[u64],
-    plan: Plan,
-    k: usize,
-    course: Course,
-    filters: &[FilterWords; 4],
-)
-    requires carry_fits { CarryFits plan k course filters.now strips.now lines.now }
-    requires held { Held course (crossed_words (filter_at filters.now) course (scaled_edges plan strips.now k course.pass))
-        responses.old }
-    ensures { Held course (response_of (filter_at filters.now) course (scaled_edges plan strips.now k course.pass))
-        responses.new }
-{
-    for done in 0..course.passes {
-        carry_pass(
-            responses,
-            lines,
-            strips,
-            plan,
-            k,
-            course,
-            filters,
-            course.first + done,
-        );
+    // Adds the histories of all passes of the link's axis to the responses.
+    pub(crate) fn carry(&self, responses: &mut [u64], lines: &[u64], strips: &[u64])
+        requires carry_fits { CarryFits self.now strips.now lines.now }
+        requires held { Held self.now.course (crossed_words (filter_at self.now.filters) self.now.course (edges_of self.now strips.now))
+            responses.old }
+        ensures { Held self.now.course (response_of (filter_at self.now.filters) self.now.course (edges_of self.now strips.now))
+            responses.new }
+    {
+        for done in 0..self.course.passes {
+            self.carry_pass(responses, lines, strips, self.course.first + done);
+        }
     }
 }

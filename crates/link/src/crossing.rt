@@ -9,8 +9,8 @@ ghost use Rattle.grid.specs.Grid.{side_limit};
 ghost use Rattle.plan.specs.Rules.{order_limit};
 ghost use Rattle.link.specs.Crossing.{response_place, ends_copied, EndsFit, Crossed, CrossFits, crossed_words, Held};
 
-use super::Course;
-use filter::{FilterWords, Window};
+use super::{BlockLink, Course};
+use filter::Window;
 
 // The words of a buffer of responses: a row of ORDER_LIMIT words for each line, between margins of ORDER_LIMIT rows.
 pub(crate) const RESPONSES: usize = squares::ROW * plan::ORDER_LIMIT;
@@ -28,13 +28,13 @@ fn copy_ends(
     responses: &mut [u64],
     lines: &[u64],
     row: usize,
-    course: Course,
+    course: &Course,
     pass: usize,
     order: usize,
 )
-    requires { EndsFit course row order (length lines.now) (length responses.old) }
+    requires { EndsFit course.now row order (length lines.now) (length responses.old) }
     ensures { responses.new
-        ≡ ends_copied (direction_of pass) course row lines.now order responses.old }
+        ≡ ends_copied (direction_of pass) course.now row lines.now order responses.old }
 {
     for distance in 0..order {
         let to = squares::margin(pass, course.lines, distance);
@@ -48,44 +48,36 @@ fn copy_ends(
     }
 }
 
-// A pass of the other axis over the responses.
-fn cross_pass(
-    responses: &mut [u64],
-    lines: &[u64],
-    course: Course,
-    filters: &[FilterWords; 4],
-    pass: usize,
-)
-    requires { CrossFits (filter_at filters.now) course (length lines.now) (length responses.old) × (pass < 2) }
-    ensures { Crossed (filter_at filters.now) course pass lines.now
-        responses.old responses.new }
-{
-    let filter = &filters[pass];
-    let row = squares::rows_before(filters, pass);
-    copy_ends(responses, lines, row, course, pass, filter.order);
-    let window = Window {
-        stride: plan::ORDER_LIMIT,
-        top: plan::ORDER_LIMIT,
-        left: 0,
-        height: course.lines,
-        width: course.order,
-    };
-    filter::run_pass(responses, window, pass, plan::ORDER_LIMIT, *filter);
-}
+impl BlockLink {
+    // A pass of the other axis over the responses.
+    fn cross_pass(&self, responses: &mut [u64], lines: &[u64], pass: usize)
+        requires { CrossFits (filter_at self.now.filters) self.now.course (length lines.now) (length responses.old) × (pass < 2) }
+        ensures { Crossed (filter_at self.now.filters) self.now.course pass lines.now
+            responses.old responses.new }
+    {
+        let course = &self.course;
+        let filter = &self.filters[pass];
+        let row = squares::rows_before(&self.filters, pass);
+        copy_ends(responses, lines, row, course, pass, filter.order);
+        let window = Window {
+            stride: plan::ORDER_LIMIT,
+            top: plan::ORDER_LIMIT,
+            left: 0,
+            height: course.lines,
+            width: course.order,
+        };
+        filter::run_pass(responses, window, pass, plan::ORDER_LIMIT, *filter);
+    }
 
-// The passes of the other axis that come before those of the link's own, over the responses.
-pub(crate) fn cross(
-    responses: &mut [u64],
-    lines: &[u64],
-    course: Course,
-    filters: &[FilterWords; 4],
-)
-    requires cross_fits { CrossFits (filter_at filters.now) course (length lines.now) (length responses.old) }
-    requires by_index { (z : ℕ) → word_at responses.old z ≡ 0 }
-    ensures { (H : ℕ → ℕ → ℕ → ℕ) → LinesReady (filter_at filters.now) course H lines.now
-        → Held course (crossed_words (filter_at filters.now) course H) responses.new }
-{
-    for pass in 0..course.first {
-        cross_pass(responses, lines, course, filters, pass);
+    // The passes of the other axis that come before those of the link's own, over the responses.
+    pub(crate) fn cross(&self, responses: &mut [u64], lines: &[u64])
+        requires cross_fits { CrossFits (filter_at self.now.filters) self.now.course (length lines.now) (length responses.old) }
+        requires by_index { (z : ℕ) → word_at responses.old z ≡ 0 }
+        ensures { (H : ℕ → ℕ → ℕ → ℕ) → LinesReady (filter_at self.now.filters) self.now.course H lines.now
+            → Held self.now.course (crossed_words (filter_at self.now.filters) self.now.course H) responses.new }
+    {
+        for pass in 0..self.course.first {
+            self.cross_pass(responses, lines, pass);
+        }
     }
 }

@@ -10,13 +10,16 @@ mod crossing;
 mod lines;
 mod writing;
 
-ghost use Rattle.std.specs.Prelude.{◌≡◌, length};
+ghost use Rattle.std.specs.Prelude.{◌≡◌, ◌<◌, ◌≤◌, length};
+ghost use Rattle.axis.specs.Axis.{direction_of};
+ghost use Rattle.task_words.specs.Strips.{from_edge};
 ghost use Rattle.task_words.specs.Writes.{linked};
 ghost use Rattle.strips.specs.StripRecord.{StripAt, EdgeFits};
-ghost use Rattle.link.specs.Courses.{unit_gain_filters, course_along, course_of, LinkAt};
+ghost use Rattle.link.specs.Courses.{unit_gain_filters, course_along, course_of, edge_of, LinkAt};
 
 use filter::FilterWords;
 use plan::Plan;
+use strips::Strip;
 use task_words::Half;
 
 // The link of a pass of block k: its linked strip is that of the whole map where the strips of its needs are.
@@ -28,14 +31,19 @@ pub fn link(plan: Plan, k: usize, pass: usize, strips: &mut [u64])
     if course.order == 0 {
         return;
     }
-    let filters = unit_gain_filters(plan);
+    let link = BlockLink {
+        plan,
+        k,
+        course,
+        filters: unit_gain_filters(plan),
+    };
     // Both buffers are cleared before any pass runs: a link takes longer with a clear between (docs/changes/CR08.md).
     let mut lines = [0; squares::LINES];
     let mut responses = [0; crossing::RESPONSES];
     let read = ahead::read_strips(strips, plan, k, pass);
-    lines::link_lines(&mut lines, strips, plan, k, course, &filters);
-    crossing::cross(&mut responses, &lines, course, &filters);
-    carrying::carry(&mut responses, &lines, strips, plan, k, course, &filters);
+    link.link_lines(&mut lines, strips);
+    link.cross(&mut responses, &lines);
+    link.carry(&mut responses, &lines, strips);
     // What was read ahead goes into the margin, where nothing reads it.
     responses[0] = read;
     let lone = strips::strip_of(plan, Half::Lone, k, pass);
@@ -57,19 +65,67 @@ pub struct Course {
     pub order: usize,
 }
 
+// The link of a pass of block k of a plan: its course, and the plan's filters with gain 1.
+#[derive(Clone, Copy)]
+pub struct BlockLink {
+    pub plan: Plan,
+    pub k: usize,
+    pub course: Course,
+    pub filters: [FilterWords; 4],
+}
+
+// An edge of a block: the strip past it, the pass that comes from there and its order, and the gain that the strip's words are
+// taken times.
+#[derive(Clone, Copy)]
+pub struct Edge {
+    pub strip: Strip,
+    pub pass: usize,
+    pub order: usize,
+    pub gain: u64,
+}
+
+impl BlockLink {
+    // The edge where a pass comes from. The gain is that of the passes after it, up to the link's own.
+    fn edge(&self, pass: usize) -> Edge
+        requires { StripAt self.now.plan self.now.k pass × (pass ≤ self.now.course.pass) × (self.now.course.pass < 4) }
+        ensures { result ≡ edge_of self.now pass }
+    {
+        Edge {
+            strip: strips::strip_before(self.plan, self.k, pass),
+            pass,
+            order: self.filters[pass].order,
+            gain: filter::gains_after(self.plan, pass, self.course.pass),
+        }
+    }
+}
+
+impl Edge {
+    // The place of the strip's lines at a distance from the edge.
+    fn place(&self, distance: usize) -> usize
+        requires { distance < self.now.order }
+        ensures { result ≡ from_edge (direction_of self.now.pass) self.now.order distance }
+    {
+        if axis::is_backward(self.pass) {
+            distance
+        } else {
+            self.order - 1 - distance
+        }
+    }
+}
+
 // The course of a link of a pass along lines of so many places.
 fn course_along(pass: usize, places: usize, lines: usize, order: usize) -> Course
     requires { EdgeFits order places }
     ensures { result ≡ course_along pass places lines order }
 {
     Course {
-        pass: pass,
+        pass,
         first: squares::axis_start(pass),
         passes: squares::axis_passes(pass),
-        places: places,
-        lines: lines,
+        places,
+        lines,
         from: strips::edge_start(pass, order, places),
-        order: order,
+        order,
     }
 }
 

@@ -7,23 +7,19 @@ use native.Mathlib.Numerals.{add-one}
 use Rattle.word.proofs.Ring.{add_assoc, zero_right, reduced_small}
 use Rattle.word.specs.Word.{◌⊕◌, ◌⊗◌}
 use Rattle.plan.specs.Rules.{order_limit}
-use Rattle.plan.specs.declared.Plan.{Plan}
 use Rattle.buffer.specs.Lists.{word_at}
 use Rattle.passes.specs.Filter.{Filter}
 use Rattle.axis.specs.Axis.{direction_of}
 use Rattle.passes.specs.Square.{weighted_sum}
-use Rattle.filter.specs.declared.FilterWords.{FilterWords}
-use Rattle.strips.specs.StripRecord.{strip_before}
-use Rattle.strips.specs.declared.Strip.{Strip}
 use Rattle.squares.specs.LinePasses.{pass_square, with_histories, crossed, response}
 use Rattle.squares.specs.LineBuffers.{row_words, rows_before, filter_at, square_at}
-use Rattle.link.specs.Courses.{index_at, CourseFits}
+use Rattle.link.specs.Courses.{index_at, CourseFits, edges_of, edge_of}
 use Rattle.link.specs.Crossing.{response_place, crossed_words, Held}
 use Rattle.link.specs.Carrying.{DistanceAdded, history_word, HistoriesAdded, CarryFits, PassToCarry, Carried, response_of}
 use Rattle.link.specs.declared.Course.{Course}
+use Rattle.link.specs.declared.BlockLink.{BlockLink}
+use Rattle.link.specs.declared.Edge.{Edge}
 use Rattle.link.proofs.Courses.{scaled_edges_law}
-use Rattle.filter.specs.FilterWords.{gains_after}
-use Rattle.task_words.specs.ScaledEdges.{scaled_edges}
 use Rattle.passes.specs.Table.{sum_of}
 use Rattle.number.specs.Numbers.{row_major}
 
@@ -64,32 +60,33 @@ sum_reads p q v w (suc n) e f =
     (ap₂ ◌⊗◌ (e n (omega arith)) (f n (omega arith)))
 
 -- What `carry_pass` does.
-pub histories_carried : {plan : Plan} {k : ℕ} {course : Course} {filters : List FilterWords} {strips lines : List ℕ}
-    → CarryFits plan k course filters strips lines → (pass : ℕ) {responses : ℕ} → PassToCarry course pass responses
-    → (strip : Strip) → strip ≡ strip_before plan k pass → {gain : ℕ} → gain ≡ gains_after plan pass course.pass → {row : ℕ}
-    → row ≡ rows_before (filter_at filters) pass → {square : List (List ℕ)} {before after : List ℕ}
-    → ((j p : ℕ) → j < (filter_at filters pass).order → p < order_limit
-    → square_at square j p ≡ word_at lines (row_major row_words (row + j) (course.from + p)))
-    → HistoriesAdded course.lines course.order (filter_at filters pass).order
-    (history_word gain (direction_of pass) (filter_at filters pass).order strip strips) square before after
-    → Carried (filter_at filters) course pass (scaled_edges plan strips k course.pass pass) before after
-histories_carried {plan} {k} {course} {filters} {strips} {lines} held pass here strip s g {row} r {square} {before} q added =
+pub histories_carried : {link : BlockLink} {strips lines : List ℕ} → CarryFits link strips lines → (pass : ℕ) {responses : ℕ}
+    → PassToCarry link.course pass responses → {edge : Edge} → edge ≡ edge_of link pass → {row : ℕ}
+    → row ≡ rows_before (filter_at link.filters) pass → {square : List (List ℕ)} {before after : List ℕ}
+    → ((j p : ℕ) → j < edge.order → p < order_limit
+    → square_at square j p ≡ word_at lines (row_major row_words (row + j) (link.course.from + p)))
+    → HistoriesAdded link.course.lines link.course.order edge.order
+    (history_word edge.gain (direction_of edge.pass) edge.order edge.strip strips) square before after
+    → Carried (filter_at link.filters) link.course pass (edges_of link strips pass) before after
+histories_carried {link} {strips} {lines} held pass here edge_is {row} r {square} {before} q added =
     let fits = held.link_fits in
     let h : pass < 4 = omega (arith, here.in_course, fits.course_fits.passes_counted) in
-    let order = (filter_at filters pass).order in
+    let order = (filter_at link.filters pass).order in
+    let weights = rw edge_is at q in
+    let sums = rw edge_is at added in
     record {
-      length_kept = added.length_kept;
+      length_kept = sums.length_kept;
       at = λ line place l i.
-          added.at line place l i.below
+          sums.at line place l i.below
           ∙ ap (word_at before (response_place line place) ⊕◌)
-          (sum_reads _ _ _ _ order (scaled_edges_law fits strips pass h s g line)
+          (sum_reads _ _ _ _ order (scaled_edges_law fits strips pass h refl refl line)
           (λ j c.
           let low = i.low in
           let high = i.high in
-          q j place c (omega (arith, i.below, fits.course_fits.order_limited))
-          ∙ ap (λ z. word_at lines (row_major row_words (z + j) (course.from + place))) r
+          weights j place c (omega (arith, i.below, fits.course_fits.order_limited))
+          ∙ ap (λ z. word_at lines (row_major row_words (z + j) (link.course.from + place))) r
           ∙ ap (word_at lines) (omega arith)
-          ∙ held.ready.squares pass j (index_at course place) here.from_first here.in_course c (omega arith)));
+          ∙ held.ready.squares pass j (index_at link.course place) here.from_first here.in_course c (omega arith)));
     }
 
 -- ---- the passes of the link's axis, one after another

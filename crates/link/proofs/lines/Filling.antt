@@ -9,29 +9,25 @@ use native.Mathlib.Omega.{arith}
 use native.Mathlib.Nat.{add-zero, sub-zero, mul-le-mul_right}
 use borrow.Author.Tests.{lt-ltb, le-ltb}
 use lib.ListN.{length}
-use Rattle.word.specs.Word.{◌⊗◌}
 use Rattle.number.proofs.Sums.{total_grows}
 use Rattle.plan.specs.Rules.{order_limit}
-use Rattle.plan.specs.declared.Plan.{Plan}
 use Rattle.buffer.specs.Lists.{word_at}
 use Rattle.passes.specs.Filter.{Filter}
 use Rattle.axis.specs.Axis.{direction_of}
 use Rattle.passes.specs.Square.{unit_history}
 use Rattle.number.specs.Numbers.{row_major}
-use Rattle.filter.specs.declared.FilterWords.{FilterWords}
-use Rattle.task_words.specs.Strips.{from_edge}
-use Rattle.strips.specs.StripRecord.{strip_read}
-use Rattle.strips.specs.declared.Strip.{Strip}
 use Rattle.squares.proofs.Lines.{margin_below}
 use Rattle.squares.proofs.LineRows.{row_passed, rows_next, rows_in_law}
 use Rattle.squares.proofs.Units.{units_filled}
 use Rattle.squares.specs.LinePasses.{only_at, line_passes, pass_square, row_end}
 use Rattle.squares.specs.LineBuffers.{row_words, line_rows, line_words, filter_at, rows_before, unit_lines, OrdersFit}
 use Rattle.squares.specs.Rows.{JoinsAt, LinesPassed, RowsFilled}
-use Rattle.link.specs.Courses.{CourseFits}
+use Rattle.link.specs.Courses.{CourseFits, edges_of, edge_of}
 use Rattle.link.specs.Lines.{strip_lines, row_history, row_input, PassFilled, ZeroWords, PassToFill, LinesFilled, LinesReady}
 use Rattle.link.specs.declared.Course.{Course}
-use Rattle.link.proofs.Courses.{link_orders}
+use Rattle.link.specs.declared.BlockLink.{BlockLink}
+use Rattle.link.specs.declared.Edge.{Edge}
+use Rattle.link.proofs.Courses.{link_orders, scaled_edges_law}
 use Rattle.link.proofs.lines.StripRows.{strips_filled}
 
 -- ---- the rows of a pass
@@ -90,13 +86,12 @@ unit_rows course H pass row order h rows =
     rows_as rows (λ k u i. ap (λ f. f u i) (sym (unit_history_law course H pass k h)))
     (λ k j b. ap (λ f. f j) (sym (unit_input course H pass k h)))
 
-module _ {plan : Plan} {k : ℕ} {course : Course} {filters : List FilterWords} {n pass : ℕ} {before : List ℕ}
-    (fill : PassToFill plan k course filters n pass before) where
+module _ {link : BlockLink} {n pass : ℕ} {before : List ℕ} (fill : PassToFill link n pass before) where
   abbrev order : ℕ
-  order = (filter_at filters pass).order
+  order = (filter_at link.filters pass).order
 
   abbrev row : ℕ
-  row = rows_before (filter_at filters) pass
+  row = rows_before (filter_at link.filters) pass
 
   pub fill_pass_below : pass < 4
   fill_pass_below = omega (arith, fill.in_course, fill.link_fits.course_fits.passes_counted)
@@ -105,31 +100,31 @@ module _ {plan : Plan} {k : ℕ} {course : Course} {filters : List FilterWords} 
   fill_order_limited = (link_orders fill.link_fits).order_limited pass fill_pass_below
 
   pub fill_rows_in : row + order ≤ line_rows
-  fill_rows_in = rows_in_law (filter_at filters) (link_orders fill.link_fits) pass fill_pass_below
+  fill_rows_in = rows_in_law (filter_at link.filters) (link_orders fill.link_fits) pass fill_pass_below
 
   pub fill_long : (row + order) * row_words ≤ length before
   fill_long = omega (arith, mul-le-mul_right row_words fill_rows_in, fill.long)
 
-  module _ (H : ℕ → ℕ → ℕ → ℕ) where
-    pub pass_strips : {at : ℕ} {after : List ℕ} → at ≡ row → (gain : ℕ) (strip : Strip) (strips : List ℕ) → pass < course.first
-        → after ≡ strip_lines gain (direction_of pass) order strip strips at course.places order before
-        → ((k j : ℕ) → k < order → gain ⊗ strip_read strip strips j (from_edge (direction_of pass) order k) ≡ H pass j k)
-        → PassFilled (filter_at filters) course H pass before after
-    pass_strips at_is gain strip strips h e f =
-        strip_rows course H pass row order h
-        (rw (e, at_is)
-        (strips_filled course.places row fill.link_fits.course_fits.few_places gain (direction_of pass) order strip strips
-        before fill_long fill.zeros course.first course.passes))
-        f
+  pub pass_strips : {at : ℕ} {after : List ℕ} → at ≡ row → {edge : Edge} → edge ≡ edge_of link pass → (strips : List ℕ)
+      → pass < link.course.first
+      → after ≡ strip_lines edge.gain (direction_of edge.pass) edge.order edge.strip strips at link.course.places edge.order before
+      → PassFilled (filter_at link.filters) link.course (edges_of link strips) pass before after
+  pass_strips at_is edge_is strips h e =
+      strip_rows link.course (edges_of link strips) pass row order h
+      (rw (rw edge_is at e, at_is)
+      (strips_filled link.course.places row fill.link_fits.course_fits.few_places (edge_of link pass).gain (direction_of pass) order
+      (edge_of link pass).strip strips before fill_long fill.zeros link.course.first link.course.passes))
+      (λ k j. scaled_edges_law fill.link_fits strips pass fill_pass_below refl refl j k)
 
-    pub pass_units : {at : ℕ} {after : List ℕ} → at ≡ row → course.first ≤ pass
-        → after ≡ unit_lines (direction_of pass) at course.places order before
-        → PassFilled (filter_at filters) course H pass before after
+  module _ (H : ℕ → ℕ → ℕ → ℕ) where
+    pub pass_units : {at : ℕ} {after : List ℕ} → at ≡ row → link.course.first ≤ pass
+        → after ≡ unit_lines (direction_of pass) at link.course.places order before
+        → PassFilled (filter_at link.filters) link.course H pass before after
     pass_units at_is h e =
         let fits = fill.link_fits.course_fits in
-        unit_rows course H pass row order h
+        unit_rows link.course H pass row order h
         (rw (e, at_is)
-        (units_filled course.places course.first course.passes pass row order h fill.in_course fits.few_passes
+        (units_filled link.course.places link.course.first link.course.passes pass row order h fill.in_course fits.few_passes
         fits.few_places fill_order_limited before fill_long fill.zeros))
 
 -- ---- the rows of all passes

@@ -13,7 +13,7 @@ use Rattle.link.proofs.crossing.copy_ends.Goals.{After-margin-to}
 row_below : (c : After-margin-to) → c.margin-to.result < row_words
 row_below c =
     rw c.margin-to.ensures
-    (margin_below (direction_of c.args.pass) c.args.course.lines c.loop-distance.distance c.requires.course_fits.few_lines
+    (margin_below (direction_of c.args.pass) c.args.course.now.lines c.loop-distance.distance c.requires.course_fits.few_lines
     (omega (arith, c.requires.order_limited)))
 
 pub loop-distance-init : goal.loop-distance-init
@@ -35,6 +35,6 @@ loop-distance-preserved c =
     record {
       length_kept = omega (arith, c.copy_words.auto, c.loop-distance.invariant.length_kept);
       as_made =
-          ends_next (direction_of a.pass) a.course a.row a.lines.now a.responses.now c.loop-distance.distance
+          ends_next (direction_of a.pass) a.course.now a.row a.lines.now a.responses.now c.loop-distance.distance
           c.loop-distance.invariant.as_made c.margin-to.ensures c.copy_words.ensures;
     }

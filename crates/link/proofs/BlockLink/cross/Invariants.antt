@@ -9,7 +9,7 @@ use Rattle.link.specs.Lines.{LinesReady}
 use Rattle.link.specs.Crossing.{response_words, Held}
 use Rattle.link.specs.declared.Course.{Course}
 use Rattle.link.proofs.crossing.OtherAxis.{crossed_to}
-use Rattle.link.proofs.crossing.cross.Given as goal
+use Rattle.link.proofs.BlockLink.cross.Given as goal
 
 -- The first passes have been made.
 pub record PassesMade (filters : ℕ → Filter) (course : Course) (lines responses : List ℕ) (pass : ℕ) : Type 0 where
@@ -17,4 +17,4 @@ pub record PassesMade (filters : ℕ → Filter) (course : Course) (lines respon
   pub held : (H : ℕ → ℕ → ℕ → ℕ) → LinesReady filters course H lines → Held course (crossed_to filters course H pass) responses
 
 abbrev pub invariant-loop-pass : goal.invariant-loop-pass
-invariant-loop-pass l = PassesMade (filter_at l.filters) l.course l.lines l.responses l.pass
+invariant-loop-pass l = PassesMade (filter_at l.self.filters) l.self.course l.lines l.responses l.pass

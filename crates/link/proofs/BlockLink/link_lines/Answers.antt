@@ -4,7 +4,7 @@ use Rattle.squares.specs.LineBuffers.{filter_at}
 use Rattle.link.proofs.Courses.{link_orders}
 use Rattle.link.proofs.lines.Filling.{lines_ready}
 use Rattle.task_words.specs.ScaledEdges.{scaled_edges}
-use Rattle.link.proofs.lines.link_lines.Goals as goal
+use Rattle.link.proofs.BlockLink.link_lines.Goals as goal
 
 pub run_lines-requires : goal.run_lines-requires
 run_lines-requires c =
@@ -21,6 +21,6 @@ run_lines-requires c =
 pub returns : goal.returns
 returns c =
     let link = c.requires.link_fits in
-    lines_ready (filter_at c.args.filters.now) c.args.course
-    (scaled_edges c.args.plan c.args.strips.now c.args.k c.args.course.pass) link.course_fits
+    lines_ready (filter_at c.args.self.now.filters) c.args.self.now.course
+    (scaled_edges c.args.self.now.plan c.args.strips.now c.args.self.now.k c.args.self.now.course.pass) link.course_fits
     (link_orders link) c.fill_lines.ensures c.run_lines.ensures
