@@ -265,8 +265,8 @@ module _ (plan : Plan) (lent : Buffers) (start_accepted : start_answer plan lent
         report_is = made;
         never_more = says.most;
         names_next = λ X long l.
-            let (t, k, e, first) = says.names l in
-            rw (made, e) (refl, accepted_next X long steps t k first.holds);
+            let (next, e, first) = says.names l in
+            rw (made, e) (refl, accepted_next X long steps next.task next.block first.holds);
         names_none = λ all. let (none, tally) = says.none all in rw (made, none, tally, all);
         marks_past = kept.marks_past;
         strips_past = kept.strips_past;
