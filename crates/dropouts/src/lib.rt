@@ -42,8 +42,8 @@ fn count_inside(plan: Plan, rectangle: Rectangle, map: &[i32]) -> usize
     found
 }
 
-// The dropouts among the heights of a row. A sum of 0s and 1s, several at a time: `filter` and `count`, one by one, take
-// three times as long.
+// The dropouts among the heights of a row.
+// A sum of 0s and 1s, several at a time: `filter` and `count`, one by one, take three times as long.
 fn count_row(heights: &[i32]) -> usize
     ensures { result ≡ count_by is_dropout heights.now }
 {

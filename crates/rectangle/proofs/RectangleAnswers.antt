@@ -1,14 +1,16 @@
 -- What a call about a rectangle answers, whatever it is lent, by the tests that are made. Assumes nothing.
 use mathlib.Core.Path.{◌≡◌, refl, sym, ◌∙◌}
-use mathlib.Core.Bool.{true, false, not-eq-not}
+use mathlib.Core.Bool.{false}
 use mathlib.Core.List.{[], ◌∷◌}
 use Prim.Native.Nat.{ℕ}
-use lib.Dec.{ltb, eqb}
-use borrow.Author.Tests.{le-ltb, ltb-false, eqb-false}
+use lib.Dec.{eqb}
+use borrow.Author.Tests.{eqb-false}
+use native.Mathlib.Omega.{arith}
+use Rattle.std.proofs.lemmas.Bool.{true_from_ne_false}
+use Rattle.std.proofs.lemmas.Bool.Decides.{nat_tests}
 use Rattle.refusal.specs.Refusals.{Answer, accepted, refused}
 use Rattle.refusal.specs.Table.{Row, ◌at◌when◌, first_of, first_due}
 use Rattle.refusal.proofs.Table.{first_append, accepted_before, rows_accepted, none_of, not_answered}
-use Rattle.number.proofs.Tests.{or_left, or_right}
 use Rattle.plan.specs.declared.Lengths.{Lengths}
 use Rattle.plan.specs.declared.Plan.{Plan}
 use Rattle.plan.specs.FirstTests.{lent_rows}
@@ -17,24 +19,15 @@ use Rattle.rectangle.specs.Rectangle.{Inside, outside, rectangle_rows}
 
 module _ (plan : Plan) (top left bottom right : ℕ) where
   inside_the_map : Inside plan top left bottom right → outside plan top left bottom right ≡ false
-  inside_the_map i =
-      rw (
-        le-ltb bottom top i.top_bottom,
-        le-ltb right left i.left_right,
-        le-ltb plan.grid.rows bottom i.bottom_low,
-        le-ltb plan.grid.columns right i.right_low,
-      )
+  inside_the_map inside = grind (arith, nat_tests)
 
   not_outside : outside plan top left bottom right ≡ false → Inside plan top left bottom right
   not_outside e =
-      let f = or_right (ltb bottom top) _ e in
-      let g = or_right (ltb right left) _ f in
-      let h = or_right (ltb plan.grid.rows bottom) _ g in
       record {
-        top_bottom = ltb-false bottom top (or_left (ltb bottom top) _ e);
-        left_right = ltb-false right left (or_left (ltb right left) _ f);
-        bottom_low = ltb-false plan.grid.rows bottom (or_left (ltb plan.grid.rows bottom) _ g);
-        right_low = ltb-false plan.grid.columns right h;
+        top_bottom = grind (arith, nat_tests);
+        left_right = grind (arith, nat_tests);
+        bottom_low = grind (arith, nat_tests);
+        right_low = grind (arith, nat_tests);
       }
 
 before_accepted : (answer : Answer) → first_of answer accepted ≡ answer
@@ -74,7 +67,7 @@ module _ (plan : Plan) (lent : Lengths) (top left bottom right : ℕ) where
         → first_due (rectangle_rows plan lent top left bottom right) ≡ refused 12 0
     others_refused none =
         accepted_before (lent_rows plan lent) (is_outside ∷ []) (sym (lent_accepted plan lent enough))
-        ∙ rw ((not-eq-not {b = true}).0 (λ within. none (not_outside plan top left bottom right within)))
+        ∙ rw (true_from_ne_false (outside plan top left bottom right) (λ within. none (not_outside plan top left bottom right within)))
 
   pub accepted_inside : first_due (rectangle_rows plan lent top left bottom right) ≡ accepted
       → Suffices plan lent × Inside plan top left bottom right
