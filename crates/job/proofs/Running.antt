@@ -6,6 +6,8 @@ use Prim.Native.Nat.{ℕ, zero, suc, ◌+◌, ◌-◌, ◌≤◌, ◌<◌, min}
 use native.Mathlib.Omega.{arith}
 use lib.IntN.{ℤ}
 use lib.ListN.{length}
+use mir.Val.{bool_byte}
+use Rattle.std.specs.Result.{is_ok}
 use Rattle.std.specs.Prelude.{Result, Ok, Err}
 use Rattle.refusal.specs.declared.Refusal.{Refusal}
 use Rattle.refusal.specs.Table.{answer_of, if_accepted}
@@ -25,6 +27,11 @@ use Rattle.job.specs.RunSteps.{RanSteps, steps_of}
 pub one_most : (outcome : Result Unit Refusal) → if_accepted (answer_of outcome) 1 0 ≤ 1
 one_most (Ok tt) = omega arith
 one_most (Err refusal) = omega arith
+
+-- What the code counts of an answer.
+pub one_counted : (outcome : Result Unit Refusal) → bool_byte (is_ok outcome) ≡ if_accepted (answer_of outcome) 1 0
+one_counted (Ok tt) = refl
+one_counted (Err refusal) = refl
 
 -- ---- the steps of two lists, as a number stands for one at a block
 

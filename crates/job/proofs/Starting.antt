@@ -1,9 +1,11 @@
 -- The marks that start leaves, one after another; and the ways out of start.
 -- Assumes nothing.
 use mathlib.Core.Path.{◌≡◌, ap, sym, ◌∙◌}
-use mathlib.Core.List.{List}
-use Prim.Native.Nat.{ℕ, ◌+◌, ◌≤◌}
-use lib.ListN.{length, set}
+use mathlib.Core.List.{List, ◌++◌}
+use Prim.Native.Nat.{ℕ, zero, suc, ◌+◌, ◌≤◌}
+use native.Mathlib.Omega.{arith}
+use Rattle.std.proofs.lemmas.List.Edits.{fill_more}
+use lib.ListN.{length, set, drop, replicate}
 use Rattle.std.specs.Prelude.{Result, Ok, Err}
 use Rattle.refusal.specs.declared.Refusal.{Refusal}
 use Rattle.refusal.specs.Refusals.{Answer, accepted, refused_for}
@@ -27,6 +29,14 @@ module _ (words : List ℕ) where
   pub unmarked_next : (n : ℕ) → set (unmarked n words) n 1879048192 ≡ unmarked (n + 1) words
   unfolding unmarked
   unmarked_next n = ap (set (unmarked n words) n) (sym (mark_nothing n)) ∙ written_next _ _ n words
+
+  -- Words filled with the mark of no task are unmarked.
+  pub filled : (n : ℕ) → n ≤ length words → replicate n 1879048192 ++ drop n words ≡ unmarked n words
+  filled zero h = sym unmarked_none
+  filled (suc n) h =
+      let next : n + 1 ≡ suc n = omega arith in
+      rw next at (sym (fill_more n 1879048192 words (omega arith))
+          ∙ ap (λ list. set list n 1879048192) (filled n (omega arith)) ∙ unmarked_next n)
 
 -- ---- the ways out of start
 

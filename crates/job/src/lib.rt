@@ -1,10 +1,10 @@
 // The calls of a job: the start, one task, and a list of tasks, or of tasks and recalls, one after another.
 #![tactic(auto)]
 
-ghost use Rattle.std.specs.Prelude.{◌≡◌, ℕ, ℤ, List, length};
+ghost use Rattle.std.specs.Prelude.{◌≡◌, ◌≤◌, ℕ, ℤ, List, length};
 ghost use Rattle.refusal.specs.Refusals.{accepted};
 ghost use Rattle.refusal.specs.Table.{answer_of};
-ghost use Rattle.job_spec.specs.Calls.{start_answer, marks_after_start, strips_after_start, task_answer, strips_after, output_after, performed, after_task, calls_of};
+ghost use Rattle.job_spec.specs.Calls.{start_answer, unmarked, marks_after_start, strips_after_start, task_answer, strips_after, output_after, performed, after_task, calls_of};
 ghost use Rattle.job_spec.specs.Steps.{Step, after_step, step_answer};
 ghost use Rattle.job.specs.Fits.{Fits};
 ghost use Rattle.job.specs.Lent.{lists_in};
@@ -38,9 +38,17 @@ pub fn start(plan: Plan, marks: &mut [u32], strips: &mut [u64]) -> Result<(), Re
         map: None,
         output: None,
     })?;
-    marks[..sizes.marks].fill(tasks::UNMARKED);
-    strips[..sizes.strips].fill(0);
+    unmark(marks, sizes.marks);
+    buffer::clear_words(strips, 0, 1, sizes.strips);
     Ok(())
+}
+
+// The first `count` marks have their kind and no bit.
+fn unmark(marks: &mut [u32], count: usize)
+    requires { count ≤ length marks.old }
+    ensures { marks.new ≡ unmarked count marks.old }
+{
+    marks[..count].fill(tasks::UNMARKED);
 }
 
 // Calls one task at one block: refused, or its bit is set and its strips or its output are written.
@@ -160,6 +168,7 @@ struct AnySteps;
 impl Numbered for TaskCalls {
     ghost step = { task_at };
 
+    #[tactic(auto, unfolding(job_spec::specs::Steps::step_answer, job_spec::specs::Steps::after_step))]
     fn perform(
         plan: Plan,
         number: usize,
