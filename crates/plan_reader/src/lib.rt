@@ -119,7 +119,7 @@ fn decode_signed28(payload: u32) -> i64
     requires { payload < payload_limit }
     ensures { result ≡ signed28 payload }
 {
-    if payload < 134217728 {
+    if payload < number::PAYLOAD_LIMIT / 2 {
         i64::from(payload)
     } else {
         i64::from(payload) - i64::from(number::PAYLOAD_LIMIT)
