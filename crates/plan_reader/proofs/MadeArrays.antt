@@ -25,6 +25,6 @@ module _ {F B : Type 0} {g : Mut F (ℕ × Unit {0}) B} {f : F} (made : List B) 
       made_from (i + 1) count (omega arith) (subst (λ (q : F). IsFromFnResultFrom g q made (i + 1) count) call.0 each.4) k d (omega arith) high)
       (eq-or-lt_of_le {n = i} {m = k} low)
 
-  pub made_listed : B → IsFromFnResult g f made n → made ≡ list_of value n
+  pub made_listed : (default : B) → IsFromFnResult g f made n → made ≡ list_of value n
   made_listed d result =
       listed_only value made n d result.long (λ i h. made_from 0 n (omega arith) result.each i d (omega arith) h)

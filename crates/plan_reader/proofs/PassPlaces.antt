@@ -22,3 +22,6 @@ module _ (words : List ℕ) where
   unfolding pass_place
   pass_place_bounded zero = omega arith
   pass_place_bounded (suc i) = omega (arith, pass_place_bounded i, order_bounded (pass_place words i))
+
+-- For a walk from pass to pass.
+pub ruleset walked = (pass_place_first, pass_place_next, pass_place_bounded)

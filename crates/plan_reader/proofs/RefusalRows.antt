@@ -15,11 +15,11 @@ use Rattle.refusal.specs.Table.{Row, first_due}
 use Rattle.refusal.proofs.Table.{first_append, both_accepted, rows_accepted, refused_before, accepted_before}
 use Rattle.number.specs.Numbers.{all_below}
 use Rattle.buffer.specs.Lists.{word_at, joined}
-use Rattle.number.proofs.Tests.{all_fails}
+use Rattle.number.proofs.Tests.{all_none, all_more, all_fails}
 use Rattle.plan_reader.specs.ReadPlan.{payload_at, order_at, pass_place, word_rows, side_reaches, side_rows}
 use Rattle.number.specs.KindWords.{kind_of}
 
--- Two tests, one after the other.
+-- For tests one after another.
 pub ruleset in_turn = (refused_before, accepted_before)
 
 pub word_accepted : (words : List ℕ) (place kind : ℕ) → place < length words → kind_of (word_at words place) ≡ kind
@@ -36,6 +36,9 @@ module _ (words : List ℕ) where
   pub side_accepted : all_below (side_reaches words) 4 ≡ true → first_due (side_rows words) ≡ accepted
   unfolding side_rows
   side_accepted all = rw all
+
+-- For the test of the side against each order.
+pub ruleset side_tested = (all_none, all_more, side_below, side_accepted)
 
 -- ---- rows one behind another: the first that refuse decide
 
@@ -58,7 +61,7 @@ module _ (rows : ℕ → List Row) where
       (λ (l : i < count). refused_before (joined rows count) (rows count) (joined_refused count i before here l))
       (eq-or-lt_of_le {n = i} {m = count} (omega arith))
 
--- A test of each row list in a loop.
+-- For a loop of tests.
 pub ruleset each_in_turn = (joined_none, joined_more)
 
 module _ (rows : ℕ → List Row) where

@@ -1,9 +1,8 @@
 // Reads a plan from its words.
 #![tactic(auto)]
 
-ghost use Rattle.std.specs.Prelude.{◌≡◌, ◌+◌, ◌<◌, ◌≤◌, ◌%◌};
+ghost use Rattle.std.specs.Prelude.{◌≡◌, ◌+◌, ◌<◌, ◌≤◌};
 ghost use Rattle.refusal.specs.Table.{first_due, answer_of};
-ghost use Rattle.plan.specs.Rules.{order_limit};
 ghost use Rattle.buffer.specs.Lists.{word_at};
 ghost use Rattle.plan_reader.specs.PlanWords.{rows_in, columns_in, size_allowed, order_in, pass_allowed, signed28, kind_number};
 ghost use Rattle.plan_reader.specs.ReadPlan.{payload_at, order_at, pass_place, word_rows, head_rows, coefficient_rows, pass_rows, passes_rows, end_rows, side_rows, plan_rows, pass_from, plan_from, read_plan, read_given};
@@ -68,7 +67,7 @@ fn order_at(words: &[u32], place: usize) -> usize
 }
 
 // The place of the pass word of pass i, of the end word for i = 4.
-#[tactic(auto, using(crate::proofs::PassPlaces::pass_place_first, crate::proofs::PassPlaces::pass_place_next, crate::proofs::PassPlaces::pass_place_bounded))]
+#[tactic(auto, using(crate::proofs::PassPlaces::walked))]
 fn pass_place(words: &[u32], i: usize) -> usize
     requires { i ≤ 4 }
     ensures { result ≡ pass_place words.now i }
@@ -120,7 +119,7 @@ fn decode_signed28(payload: u32) -> i64
     requires { payload < payload_limit }
     ensures { result ≡ signed28 payload }
 {
-    if payload < 134217728 {
+    if payload < number::PAYLOAD_LIMIT / 2 {
         i64::from(payload)
     } else {
         i64::from(payload) - i64::from(number::PAYLOAD_LIMIT)
@@ -201,7 +200,7 @@ fn test_end(words: &[u32]) -> Result<(), Refusal>
     Ok(())
 }
 
-#[tactic(auto, using(number::proofs::Tests::all_none, number::proofs::Tests::all_more, crate::proofs::RefusalRows::side_below, crate::proofs::RefusalRows::side_accepted))]
+#[tactic(auto, using(crate::proofs::RefusalRows::side_tested))]
 fn test_side(words: &[u32]) -> Result<(), Refusal>
     ensures { answer_of result ≡ first_due (side_rows words.now) }
 {
