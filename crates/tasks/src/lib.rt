@@ -83,17 +83,11 @@ pub fn mark_valid(grid: Grid, block: usize, mark: u32) -> bool
 }
 
 // Bits 0 to 5 of a mark are clear where the block has no such task.
-#[tactic(auto, using(number::proofs::Tests::all_none, number::proofs::Tests::all_more))]
 fn spares_clear(grid: Grid, at: Position, mark: u32) -> bool
     requires { InBlocks grid at }
     ensures { result ≡ all_below (spare_clear grid at.row at.column mark) 6 }
 {
-    for task in 0..TASKS {
-        if !spare_clear(grid, at, mark, task) {
-            return false;
-        }
-    }
-    true
+    (0..TASKS).all(|task| spare_clear(grid, at, mark, task))
 }
 
 #[tactic(auto, unfolding(crate::specs::Marks::spare_clear))]
@@ -126,17 +120,11 @@ fn link_marked(grid: Grid, marks: &[u32], pass: usize, block: usize) -> bool
 }
 
 // The links of the first passes are marked at the neighbours.
-#[tactic(auto, using(number::proofs::Tests::all_none, number::proofs::Tests::all_more))]
 fn links_marked(grid: Grid, marks: &[u32], passes: usize, block: usize) -> bool
     requires { LentAt grid (length marks.now) block × (passes ≤ 4) }
     ensures { result ≡ all_below (link_done grid (is_marked marks.now) block) passes }
 {
-    for pass in 0..passes {
-        if !link_marked(grid, marks, pass, block) {
-            return false;
-        }
-    }
-    true
+    (0..passes).all(|pass| link_marked(grid, marks, pass, block))
 }
 
 // All needs of a task are marked.
