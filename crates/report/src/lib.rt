@@ -46,7 +46,7 @@ pub fn report(plan: Plan, marks: &[u32]) -> Result<Progress, Refusal>
     report_on(plan.grid, marks)
 }
 
-// The report on as many marks as a map of these sizes needs.
+// The report on as many marks as a map of these sizes needs. Grid and marks stay apart, for the reason that tasks gives.
 #[tactic(auto, unfolding(crate::specs::Report::report_on, crate::specs::Report::progress_of))]
 fn report_on(grid: Grid, marks: &[u32]) -> Result<Progress, Refusal>
     requires { Lent grid (length marks.now) }
@@ -64,7 +64,7 @@ fn report_on(grid: Grid, marks: &[u32]) -> Result<Progress, Refusal>
     })
 }
 
-// The least block whose mark is broken, or the number of blocks, a number above every block, as its definition has it.
+// The least block whose mark is broken, or the number of blocks: no `Option`, for the reason at `tasks::broken_at`.
 #[tactic(auto, using(tasks::proofs::Verdicts::below_none, tasks::proofs::Verdicts::below_valid, tasks::proofs::Verdicts::below_all, tasks::proofs::Verdicts::first_least), unfolding(crate::specs::Report::first_broken))]
 pub fn first_broken(grid: Grid, marks: &[u32]) -> usize
     requires { Lent grid (length marks.now) }

@@ -6,3 +6,4 @@ pub mod Marking
 pub mod Verdicts
 pub mod Progress
 pub mod Lent
+pub mod Ranges

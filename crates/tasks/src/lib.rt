@@ -17,8 +17,8 @@ ghost use Rattle.tasks.specs.Lent.{Lent, LentAt};
 use grid::{Grid, Position};
 use refusal::Refusal;
 
-// Tasks 0 to 5: collect, the links down, up, right and left, finish. Numbers, not an enum: they are document 01's, the
-// places of the bits in a mark, and what definitions and calls name a task by; a link is its pass and 1.
+// Tasks 0 to 5: collect, the links down, up, right and left, finish.
+// Numbers, no enum: they are document 01's, a mark's bits go by them, and definitions and calls name tasks by them.
 pub const TASKS: usize = 6;
 
 // The payload of a mark is below it: bits 0 to 5 are the tasks', those above are spare.
@@ -83,17 +83,11 @@ pub fn mark_valid(grid: Grid, block: usize, mark: u32) -> bool
 }
 
 // Bits 0 to 5 of a mark are clear where the block has no such task.
-#[tactic(auto, using(number::proofs::Tests::all_none, number::proofs::Tests::all_more))]
 fn spares_clear(grid: Grid, at: Position, mark: u32) -> bool
     requires { InBlocks grid at }
     ensures { result ≡ all_below (spare_clear grid at.row at.column mark) 6 }
 {
-    for task in 0..TASKS {
-        if !spare_clear(grid, at, mark, task) {
-            return false;
-        }
-    }
-    true
+    (0..TASKS).all(|task| spare_clear(grid, at, mark, task))
 }
 
 #[tactic(auto, unfolding(crate::specs::Marks::spare_clear))]
@@ -111,9 +105,7 @@ fn passes_needed(task: usize) -> usize
     task.min(PASSES)
 }
 
-// Grid and marks are two parameters: of a struct of both, clauses would have to say `self.entry.grid` and
-// `self.entry.marks.now` for `grid` and `marks.now`, and callers, who have the two apart, would build it for one call.
-// `Lent` and `LentAt` name what is asked of them.
+// Grid and marks apart: of a struct of both, clauses would say `self.entry.grid` and `self.entry.marks.now` in their place.
 
 // The link of a pass is marked at the neighbour, if there is one.
 #[tactic(auto, unfolding(crate::specs::Neighbours::link_done))]
@@ -128,17 +120,11 @@ fn link_marked(grid: Grid, marks: &[u32], pass: usize, block: usize) -> bool
 }
 
 // The links of the first passes are marked at the neighbours.
-#[tactic(auto, using(number::proofs::Tests::all_none, number::proofs::Tests::all_more))]
 fn links_marked(grid: Grid, marks: &[u32], passes: usize, block: usize) -> bool
     requires { LentAt grid (length marks.now) block × (passes ≤ 4) }
     ensures { result ≡ all_below (link_done grid (is_marked marks.now) block) passes }
 {
-    for pass in 0..passes {
-        if !link_marked(grid, marks, pass, block) {
-            return false;
-        }
-    }
-    true
+    (0..passes).all(|pass| link_marked(grid, marks, pass, block))
 }
 
 // All needs of a task are marked.
@@ -161,8 +147,8 @@ pub fn is_ready(grid: Grid, marks: &[u32], task: usize, block: usize) -> bool
         && needs_met(grid, marks, task, block)
 }
 
-// A block where its mark is broken, else the number of blocks: above every block, so that the least of several is their
-// `min`, which it could not be of `Option`s, whose `None` is below.
+// A block where its mark is broken, else the number of blocks.
+// A number, no `Option`: it is above every block, so that the least of several is their `min`; a `None` is below.
 fn broken_at(grid: Grid, marks: &[u32], block: usize) -> usize
     requires { LentAt grid (length marks.now) block }
     ensures { result ≡ broken_at grid marks.now block }
