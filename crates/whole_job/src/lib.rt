@@ -9,7 +9,6 @@ ghost use Rattle.whole_job.specs.WholeJob.{after_step, after_steps, whole_answer
 use job::Lists;
 use plan::{BufferOf7, Lengths, Plan};
 use refusal::Refusal;
-use report::Progress;
 
 // Starts a job and performs all its tasks, in the order in which the report names them.
 pub fn whole_job(plan: Plan, map: &[i32], lent: &mut Lists) -> Result<(), Refusal>
@@ -42,10 +41,11 @@ fn perform_steps(plan: Plan, count: usize, map: &[i32], lent: &mut Lists)
 fn perform_named(plan: Plan, map: &[i32], lent: &mut Lists)
     ensures { lists_in lent.new ≡ after_step plan map.now (lists_in lent.old) }
 {
-    if let Ok(Progress {
-        next: Some(next), ..
-    }) = report::report(plan, lent.marks)
-    {
+    let marks = &mut *lent.marks;
+    let Ok(progress) = report::report(plan, marks) else {
+        return;
+    };
+    if let Some(next) = progress.next {
         let _ = job::task(plan, next.task, next.block, map, lent);
     }
 }
