@@ -1,20 +1,22 @@
 -- The gain of a pass may come first: a pass over a window is the pass of gain 1 over the window's words times the gain.
 -- Assumes nothing.
 use mathlib.Core.Path.{◌≡◌, refl, sym, ap, ◌∙◌}
-use mathlib.Core.List.{List}
+use mathlib.Core.List.{List, ◌++◌}
 use mathlib.Core.Logic.{◌≢◌}
-use Prim.Native.Nat.{ℕ, suc, ◌+◌, ◌*◌, ◌^◌, ◌<◌, ◌≤◌}
+use Prim.Native.Nat.{ℕ, zero, suc, ◌+◌, ◌-◌, ◌*◌, ◌^◌, ◌<◌, ◌≤◌}
 use native.Mathlib.Nat.{mul-le-mul_left, mul-le-mul_right}
 use native.Mathlib.Omega.{arith}
-use lib.ListN.{length}
+use lib.ListN.{length, take, drop, set}
+use Rattle.std.proofs.lemmas.List.{length-drop, length-take-le, set-append_left, set-append_right, get_or-take, get_or-drop}
 use borrow.Author.Tests.{lt-ltb, le-ltb}
+use borrow.Rule.Slice.PartMut.{mid_of, put_mid, put_same}
 use Rattle.word.specs.Word.{◌⊗◌}
 use Rattle.word.proofs.Ring.{one_mul, reduced_small}
 use Rattle.buffer.specs.Lists.{word_at}
-use Rattle.buffer.specs.Written.{row_written}
+use Rattle.buffer.specs.Written.{written, row_written}
 use Rattle.buffer.specs.Copies.{scaled_from}
 use Rattle.buffer.proofs.Written.{written_same}
-use Rattle.buffer.proofs.Copies.{rectangle_more, rectangle_unchanged, rectangle_other}
+use Rattle.buffer.proofs.Copies.{row_length, rectangle_more, rectangle_unchanged, rectangle_other}
 use Rattle.passes.specs.Filter.{Filter}
 use Rattle.axis.specs.Axis.{Axis, columns, rows, Direction, forward, backward, axis_of, direction_of, along, across, line_of}
 use Rattle.passes.proofs.Passes.{filter_lines_reads, filter_lines_scales}
@@ -39,6 +41,39 @@ row_fits {n} W fits row h =
     let wide : (W.top + row) * 1 ≤ (W.top + row) * W.stride =
     mul-le-mul_left (W.top + row) (omega (arith, fits.wide, fits.in_row)) in
     (omega arith, end)
+
+-- A row that is written in a list of its own, and put back.
+put_row : (start width : ℕ) (words : ℕ → ℕ) (a : List ℕ) → start + width ≤ length a → (n : ℕ) → n ≤ width
+    → put_mid start width a (row_written 0 words n (mid_of start width a)) ≡ row_written start words n a
+unfolding row_written written
+put_row start width words a fits zero h = put_same start width a
+put_row start width words a fits (suc n) h =
+    let row : List ℕ = row_written 0 words n (mid_of start width a) in
+    let before : length (take start a) ≡ start = length-take-le start a (omega arith) in
+    let long : length row ≡ width =
+    row_length 0 words n (mid_of start width a)
+    ∙ length-take-le width (drop start a) (omega (arith, length-drop start a)) in
+    let place : (start + n) - start ≡ 0 + n = omega arith in
+    ap (take start a ++◌)
+    (sym (set-append_left row (drop width (drop start a)) (0 + n) (words n) (omega arith))
+    ∙ ap (λ p. set (row ++ drop width (drop start a)) p (words n)) (sym place))
+    ∙ sym (set-append_right (take start a) (row ++ drop width (drop start a)) start (start + n) (words n) before (omega arith))
+    ∙ ap (λ z. set z (start + n) (words n)) (put_row start width words a fits n (omega arith))
+
+-- The same of words that are scaled.
+pub row_put : (gain start width : ℕ) (a : List ℕ) → start + width ≤ length a
+    → let row = mid_of start width a in
+    put_mid start width a (row_written 0 (scaled_from gain row 0 1) width row)
+    ≡ row_written start (scaled_from gain a start 1) width a
+unfolding row_written
+row_put gain start width a fits =
+    put_row start width (scaled_from gain (mid_of start width a) 0 1) a fits width (omega arith)
+    ∙ written_same _ _ _ (scaled_from gain a start 1) width a (λ i h. refl)
+    (λ i h.
+    ap (gain ⊗◌)
+    (get_or-take width (drop start a) (0 + i * 1) 0 (omega arith)
+    ∙ get_or-drop start a (0 + i * 1) 0
+    ∙ ap (word_at a) (omega arith)))
 
 -- One row more: no word of it stands in the rows before.
 pub scale_row : {m : ℕ} (gain : ℕ) (W : Window) → WindowFits m columns forward W 0 → (n : ℕ) (a b : List ℕ) {e : List ℕ}

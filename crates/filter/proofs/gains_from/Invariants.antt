@@ -1,13 +1,10 @@
 -- `gains_from` has the product of those of the gains passed so far that count.
 use mathlib.Core.Path.{◌≡◌}
-use Prim.Native.Nat.{◌-◌, ◌≤◌, min}
+use Prim.Native.Nat.{◌-◌, min}
 use Rattle.passes.specs.Gains.{gains_from}
 use Rattle.filter.specs.PlanFilters.{filters_of}
 use Rattle.filter.proofs.gains_from.Given as goal
 
 abbrev pub invariant-loop-i : goal.invariant-loop-i
 invariant-loop-i l =
-    (l.i ≤ 4) × (l.product ≡ gains_from (filters_of l.plan) l.first (min (l.i - l.first) l.count))
-
-abbrev pub decreases-loop-i : goal.decreases-loop-i
-decreases-loop-i l = 4 - l.i
+    l.product ≡ gains_from (filters_of l.fn.plan) l.fn.first (min (l.i-counter - l.fn.first) l.fn.count)
