@@ -1,4 +1,5 @@
 // The axis and the direction of a pass, by its number: passes 0 down, 1 up, 2 right and 3 left.
+// Passes stay numbers: a plan's list of passes, the strips and the tasks of the C interface count them.
 #![tactic(auto)]
 
 ghost use Rattle.std.specs.Prelude.{◌≡◌};

@@ -2,7 +2,7 @@
 use mathlib.Core.Logic.{◌≢◌}
 use mathlib.Core.Path.{◌≡◌, refl, sym, ap, ◌∙◌, fun_ext}
 use mathlib.Core.List.{List, map}
-use Prim.Native.Nat.{ℕ, zero, suc}
+use Prim.Native.Nat.{ℕ, zero, suc, ◌<◌}
 use native.Mathlib.Omega.{arith}
 use lib.IntN.{ℤ, pos}
 use lib.ListN.{get_or, length, length-map, get_or-map}
@@ -16,14 +16,13 @@ use Rattle.buffer.specs.Lists.{word_at, number_at}
 use Rattle.passes.specs.Gains.{filter_with_gain, gains_from}
 use Rattle.filter.specs.PlanFilters.{filter_of, filters_of}
 use Rattle.filter.specs.FilterWords.{filter_with, filter_words, with_gain, gains_first_filters, gains_first_words}
-use Rattle.filter.proofs.Buffers.{HoldsBelow}
 
 residues_at : (l : List ℤ) (k : ℕ) → word_at (map residue l) k ≡ residue (number_at l k)
 residues_at l k = ap (get_or (map residue l) k) (sym residue_zero) ∙ get_or-map residue l k (pos 0)
 
 -- A list that holds the residues of another is the list of its residues.
 pub residues_are : (n : ℕ) (l : List ℤ) (m : List ℕ) → length l ≡ n → length m ≡ n
-    → HoldsBelow n (λ k. residue (number_at l k)) m → m ≡ map residue l
+    → ((k : ℕ) → k < n → word_at m k ≡ residue (number_at l k)) → m ≡ map residue l
 residues_are n l m e f holds =
     ext_get_or 0 m (map residue l) (f ∙ sym (length-map l residue ∙ e))
     (λ k h. holds k (omega arith) ∙ sym (residues_at l k))

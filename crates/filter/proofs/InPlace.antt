@@ -14,7 +14,7 @@ use Rattle.passes.specs.Line.{history, output, words_before}
 use Rattle.passes.specs.Filter.{Filter, less_feedback, filter_step}
 use Rattle.passes.proofs.Line.{words_before_history, words_before_inside, words_before_past}
 use Rattle.passes.proofs.Linear.{filter_step_reads, filter_step_small}
-use Rattle.filter.specs.declared.Lines.{Lines}
+use Rattle.filter.specs.declared.in_place.Lines.{Lines}
 use Rattle.buffer.specs.Written.{written}
 use Rattle.filter.specs.Kernel.{tap_place, output_at, outputs_at, outputs_at_time, lead_place, line_place, first_taps, filter_in_place, LinesFit, Apart}
 use Rattle.buffer.proofs.Written.{written_length, written_other, written_at}

@@ -1,4 +1,3 @@
-pub mod Buffers
 pub mod Filters
 pub mod GainsWithin
 pub mod Turns

@@ -1,6 +1,4 @@
 -- The numbers that `run_pass` works out of a pass number and a window. Assumes nothing.
-use mathlib.Core.Path.{◌≡◌}
-use mathlib.Core.Bool.{Bool}
 use Prim.Native.Nat.{ℕ, ◌+◌, ◌-◌, ◌*◌, ◌<◌, ◌≤◌}
 use native.Mathlib.Nat.{mul-le-mul_right}
 use native.Mathlib.Omega.{arith}
@@ -11,13 +9,14 @@ use Rattle.filter.specs.Windows.{WindowFits}
 use Rattle.number.proofs.RowMajor.{place_below}
 use Rattle.filter.proofs.Windows.{some_lines, few_places, lines_fit}
 
--- What the arithmetic wants: b says whether the pass is backward, s is its step, m the length of its lines.
-pub record NumbersFit (n : ℕ) (W : Window) (q : ℕ) (b : Bool) (s m : ℕ) : Type 0 where
-  pub some : 0 < m
-  pub places : m + q ≤ n
+-- What the arithmetic wants of the lines' length and step.
+pub record NumbersFit (n : ℕ) (a : Axis) (d : Direction) (W : Window) (q : ℕ) : Type 0 where
+  pub some : 0 < along a W.height W.width
+  pub places : along a W.height W.width + q ≤ n
   pub corner : row_major W.stride W.top W.left < n
-  pub past : row_major W.stride W.top W.left + if_backward b ((m + q) - 1) * s < n
-  pub before : if_forward b q * s ≤ row_major W.stride W.top W.left
+  pub past : row_major W.stride W.top W.left
+      + if_backward (is_backward d) ((along a W.height W.width + q) - 1) * along a W.stride 1 < n
+  pub before : if_forward (is_backward d) q * along a W.stride 1 ≤ row_major W.stride W.top W.left
 
 before_corner : {n : ℕ} (a : Axis) (d : Direction) (W : Window) (q : ℕ) → WindowFits n a d W q
     → if_forward (is_backward d) q * along a W.stride 1 ≤ row_major W.stride W.top W.left
@@ -34,9 +33,8 @@ past_corner a backward W q fits h =
     let l = lines_fit a backward W q fits in
     omega (arith, l.high 0 0 l.some (omega (arith, (some_lines a backward W q fits).1)))
 
-pub numbers_fit : {n : ℕ} (a : Axis) (d : Direction) (W : Window) (q : ℕ) → WindowFits n a d W q → {b : Bool} {s m : ℕ}
-    → b ≡ is_backward d → s ≡ along a W.stride 1 → m ≡ along a W.height W.width → NumbersFit n W q b s m
-numbers_fit {n} a d W q fits eb es em =
+pub numbers_fit : {n : ℕ} (a : Axis) (d : Direction) (W : Window) (q : ℕ) → WindowFits n a d W q → NumbersFit n a d W q
+numbers_fit {n} a d W q fits =
     let corner : row_major W.stride W.top W.left < n =
     omega (
       arith,
@@ -44,7 +42,7 @@ numbers_fit {n} a d W q fits eb es em =
       place_below (W.top + W.height + along a (if_backward (is_backward d) q) 0) W.stride W.top W.left
           (omega (arith, fits.tall)) (omega (arith, fits.wide, fits.in_row)),
     ) in
-    rw (eb, es, em) record {
+    record {
       some = (some_lines a d W q fits).1;
       places = omega (arith, few_places a d W q fits);
       corner = corner;

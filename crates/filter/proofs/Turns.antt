@@ -10,17 +10,11 @@ use Rattle.word.specs.Word.{◌⊖◌, ◌⊗◌}
 use Rattle.word.proofs.Ring.{one_mul, reduced_small}
 use Rattle.buffer.specs.Lists.{word_at}
 use Rattle.passes.specs.Filter.{Filter, less_feedback, filter_step}
-use Rattle.filter.specs.declared.Lines.{Lines}
+use Rattle.filter.specs.declared.in_place.Lines.{Lines}
 use Rattle.filter.specs.FilterWords.{filter_by}
-use Rattle.filter.specs.Kernel.{tap_place, feedback_from, TapsFit, PlacesFit, LinesFit, Apart, lead_place, first_taps, output_at, with_nearest, next_output_at, outputs_at, outputs_at_time, filter_in_place}
+use Rattle.filter.specs.Kernel.{tap_place, feedback_from, PlacesFit, LinesFit, Apart, lead_place, first_taps, output_at, with_nearest, next_output_at, outputs_at, outputs_at_time, filter_in_place}
 
 -- ---- one output
-
-pub taps_fit : {n c forth back r : ℕ} → TapsFit n c forth back r → (k : ℕ) → k ≤ r → TapsFit n c forth back k
-taps_fit {n} {c} {forth} {back} {r} h k l =
-    let e : k * forth ≤ r * forth = mul-le-mul_right forth l in
-    let f : k * back ≤ r * back = mul-le-mul_right back l in
-    record { low = omega arith; high = omega arith }
 
 module _ (q : ℕ) (d : List ℕ) (r v forth back : ℕ) (buffer : List ℕ) (c : ℕ) where
   -- No tap yet,
@@ -101,6 +95,11 @@ places_fit {n} {L} h t k l e =
       low = omega arith;
       high = λ x f. let y : L.first + t * L.forth + x * L.apart < n = h.high x t f l in omega arith;
     }
+
+-- The arithmetic of a place of the first line fits a word.
+pub lead_fits : {n : ℕ} {L : Lines} {places : ℕ} → LinesFit n L places → n ≤ 2 ^ 64 → (t : ℕ) → t < places
+    → (L.first + t * L.forth < 2 ^ 64) × (t * L.back ≤ L.first)
+lead_fits h small t l = (omega (arith, h.high 0 t h.some l), h.low t l)
 
 pub lines_fit_fewer : {n : ℕ} {L : Lines} {places : ℕ} → LinesFit n L places → (p : ℕ) → p ≤ places → LinesFit n L p
 lines_fit_fewer h p l =

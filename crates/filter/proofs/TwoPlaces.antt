@@ -12,7 +12,7 @@ use lib.Seq.{get_or-set_same, get_or-set_other, set_comm}
 use Rattle.buffer.specs.Lists.{word_at}
 use Rattle.passes.specs.Filter.{Filter, filter_step}
 use Rattle.passes.proofs.Linear.{filter_step_reads}
-use Rattle.filter.specs.declared.Lines.{Lines}
+use Rattle.filter.specs.declared.in_place.Lines.{Lines}
 use Rattle.filter.specs.Kernel.{tap_place, output_at, with_nearest, next_output_at, outputs_at, next_place, outputs_at_two, TwoPlacesFit, lead_place, line_place, first_taps, outputs_at_time, filter_in_place, LinesFit, Apart}
 use Rattle.filter.proofs.Turns.{places_fit}
 use Rattle.filter.proofs.InPlace.{output_at_reads, tap_is}

@@ -17,7 +17,7 @@ use Rattle.passes.specs.Passes.{reflect, filter_line, filter_lines}
 use Rattle.passes.proofs.Line.{output_reads, words_before_inside, words_before_past}
 use Rattle.passes.proofs.Linear.{filter_step_reads}
 use Rattle.passes.proofs.Passes.{reflect_lt, reflect_twice, filter_lines_reads}
-use Rattle.filter.specs.declared.Lines.{Lines}
+use Rattle.filter.specs.declared.in_place.Lines.{Lines}
 use Rattle.filter.specs.declared.Window.{Window}
 use Rattle.filter.specs.Kernel.{line_place, filter_in_place, LinesFit, Apart}
 use Rattle.number.specs.Numbers.{row_major}

@@ -2,7 +2,7 @@
 use Rattle.std.specs.Prelude.{◌≡◌, List, ◌≢◌, ℕ, zero, suc, ◌+◌, ◌-◌, ◌*◌, ◌<◌, ◌≤◌, min, set}
 use Rattle.buffer.specs.Lists.{word_at}
 use Rattle.passes.specs.Filter.{Filter, less_feedback, filter_step}
-use Rattle.filter.specs.declared.Lines.{Lines}
+use Rattle.filter.specs.declared.in_place.Lines.{Lines}
 
 -- ---- one output
 

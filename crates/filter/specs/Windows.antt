@@ -7,7 +7,7 @@ use Rattle.buffer.specs.Written.{rectangle_written}
 use Rattle.passes.specs.Filter.{Filter}
 use Rattle.passes.specs.Passes.{filter_lines}
 use Rattle.axis.specs.Axis.{Axis, Direction, forward, backward, axis_of, direction_of, along, across, line_of, is_backward, if_forward, if_backward}
-use Rattle.filter.specs.declared.Lines.{Lines}
+use Rattle.filter.specs.declared.in_place.Lines.{Lines}
 use Rattle.filter.specs.declared.Window.{Window}
 
 -- The place of row y and column x of a window,

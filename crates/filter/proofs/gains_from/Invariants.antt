@@ -7,4 +7,4 @@ use Rattle.filter.proofs.gains_from.Given as goal
 
 abbrev pub invariant-loop-i : goal.invariant-loop-i
 invariant-loop-i l =
-    l.product ≡ gains_from (filters_of l.plan) l.first (min (l.i - l.first) l.count)
+    l.product ≡ gains_from (filters_of l.fn.plan) l.fn.first (min (l.i-counter - l.fn.first) l.fn.count)
