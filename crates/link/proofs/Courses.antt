@@ -32,20 +32,6 @@ use Rattle.link.specs.declared.BlockLink.{BlockLink}
 use Rattle.filter.specs.FilterWords.{gains_after}
 use Rattle.task_words.specs.ScaledEdges.{scaled_edges}
 
-pub course_along_is : (pass n lines order : ℕ) {first passes from : ℕ} → first ≡ axis_start pass → passes ≡ axis_passes pass
-    → from ≡ edge_start (direction_of pass) order n
-    → record {
-      pass = pass;
-      first = first;
-      passes = passes;
-      places = n;
-      lines = lines;
-      from = from;
-      order = order;
-    }
-    ≡ course_along pass n lines order
-course_along_is pass n lines order a b c = rw (a, b, c)
-
 -- ---- the course of block k's link
 
 pub course_is : (plan : Plan) (k pass : ℕ) {shape : BlockShape} {n lines order : ℕ} {course : Course}

@@ -41,14 +41,6 @@ multiple_next place strips at step weight n before e there f g =
     ∙ written_other (λ l. response_place l place) _ n before _ (λ i h q. omega arith))
     f))
 
--- No place yet.
-pub multiples_none : (lines : ℕ) (words weights : ℕ → ℕ) (before : List ℕ) → MultiplesAdded lines 0 words weights before before
-multiples_none lines words weights before =
-    record {
-      added = record { length_kept = refl; at = λ line place h b. absurd (omega arith) };
-      rest = λ line place h b. refl;
-    }
-
 -- The gain of a word may go to its weight.
 gain_of_weight : (gain word weight : ℕ) → word ⊗ (gain ⊗ weight) ≡ (gain ⊗ word) ⊗ weight
 gain_of_weight gain word weight = mul_left_comm word gain weight ∙ sym (mul_assoc gain word weight)

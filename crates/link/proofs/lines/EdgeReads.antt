@@ -26,19 +26,6 @@ pub record SomeInside (strip : Strip) (place n : ℕ) : Type 0 where
   pub before_past : place < strip.past
 
 module _ (strip : Strip) (place n : ℕ) where
-  pub lines_read : strip.first ≤ place → place < strip.past → {r : ℕ} → r ≡ min n strip.lines
-      → r ≡ lines_inside strip place n
-  unfolding lines_inside
-  lines_read a b e = rw (le-leb strip.first place a, lt-ltb place strip.past b) e
-
-  pub lines_low : place < strip.first → 0 ≡ lines_inside strip place n
-  unfolding lines_inside
-  lines_low a = rw (lt-leb strip.first place a)
-
-  pub lines_high : strip.first ≤ place → strip.past ≤ place → 0 ≡ lines_inside strip place n
-  unfolding lines_inside
-  lines_high a b = rw (le-leb strip.first place a, le-ltb place strip.past b)
-
   -- Where there are lines, the place lies in the block.
   pub lines_some : 0 < lines_inside strip place n → SomeInside strip place n
   unfolding lines_inside

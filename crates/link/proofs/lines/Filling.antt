@@ -20,10 +20,10 @@ use Rattle.squares.proofs.Lines.{margin_below}
 use Rattle.squares.proofs.LineRows.{row_passed, rows_next, rows_in_law}
 use Rattle.squares.proofs.Units.{units_filled}
 use Rattle.squares.specs.LinePasses.{only_at, line_passes, pass_square, row_end}
-use Rattle.squares.specs.LineBuffers.{row_words, line_rows, line_words, filter_at, rows_before, unit_lines, OrdersFit}
+use Rattle.squares.specs.LineBuffers.{row_words, line_rows, filter_at, rows_before, unit_lines, OrdersFit}
 use Rattle.squares.specs.Rows.{JoinsAt, LinesPassed, RowsFilled}
 use Rattle.link.specs.Courses.{CourseFits, edges_of, edge_of}
-use Rattle.link.specs.Lines.{strip_lines, row_history, row_input, PassFilled, ZeroWords, PassToFill, LinesFilled, LinesReady}
+use Rattle.link.specs.Lines.{strip_lines, row_history, row_input, PassFilled, PassToFill, LinesFilled, LinesReady}
 use Rattle.link.specs.declared.Course.{Course}
 use Rattle.link.specs.declared.BlockLink.{BlockLink}
 use Rattle.link.specs.declared.Edge.{Edge}
@@ -128,11 +128,6 @@ module _ {link : BlockLink} {n pass : ℕ} {before : List ℕ} (fill : PassToFil
         fits.few_places fill_order_limited before fill_long fill.zeros))
 
 -- ---- the rows of all passes
-
-pub filled_none : (filters : ℕ → Filter) (course : Course) (H : ℕ → ℕ → ℕ → ℕ) (buffer : List ℕ)
-    → ZeroWords line_words buffer → LinesFilled filters course H 0 buffer
-filled_none filters course H buffer empty =
-    record { length_is = empty.length_is; zeros = λ z h. empty.zeros z; lines = λ pass k h. absurd (omega arith) }
 
 pub filled_more : (filters : ℕ → Filter) (course : Course) (H : ℕ → ℕ → ℕ → ℕ) (pass : ℕ) → CourseFits course
     → {before after : List ℕ} → LinesFilled filters course H pass before → PassFilled filters course H pass before after

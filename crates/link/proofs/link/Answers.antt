@@ -45,10 +45,6 @@ carry-requires c =
     let ready = c.link_lines.ensures in
     record { carry_fits = record { link_fits = fits (goal.at.carry-requires c).After-unit_gain_filters; ready = ready }; held = c.cross.ensures _ ready }
 
-pub half_words-shift-requires : goal.half_words-shift-requires
-half_words-shift-requires c =
-    (fits (goal.at.half_words-shift-requires c).After-unit_gain_filters).kept
-
 pub write_strip-requires : goal.write_strip-requires
 write_strip-requires c =
     link_laid c.args.plan c.args.k c.args.pass c.requires c.course_of-course.ensures c.if-course-eq0.false

@@ -1,7 +1,7 @@
 -- The linked strip of a link, place by place. Assumes nothing.
 use mathlib.Core.Bool.{cond}
 use mathlib.Core.List.{List}
-use mathlib.Core.Path.{◌≡◌, refl, ap, sym, ◌∙◌}
+use mathlib.Core.Path.{◌≡◌, ap, sym, ◌∙◌}
 use mathlib.Core.Logic.{◌≢◌}
 use Prim.Native.Nat.{ℕ, suc, ◌+◌, ◌-◌, ◌*◌, ◌<◌, ◌≤◌}
 use native.Mathlib.Decide.{ℕ_discrete, dec_lt}
@@ -161,11 +161,6 @@ laid_fewer laid p few e =
       inside = λ line place h b. rw e (laid.inside line place h (omega arith));
       apart = λ line place l q h b c d. laid.apart line place l q h (omega arith) c (omega arith);
     }
-
-pub places_none : (lone : Strip) (shift side : ℕ) (words : ℕ → ℕ → ℕ) (before : List ℕ)
-    → PlacesWritten lone shift side 0 words before before
-places_none lone shift side words before =
-    record { length_kept = refl; here = λ line place h b. absurd (omega arith); rest = λ z out. refl }
 
 module _ {m r : ℕ} (lone : Strip) (shift side n : ℕ) (responses before : List ℕ) (laid : StripLaid m lone shift (n + 1) side r)
     {b : List ℕ} (held : PlacesWritten lone shift side n (linked_word lone before responses) before b) where
