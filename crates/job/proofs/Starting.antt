@@ -36,7 +36,7 @@ module _ (words : List ℕ) where
   filled (suc n) h =
       let next : n + 1 ≡ suc n = omega arith in
       rw next at (sym (fill_more n 1879048192 words (omega arith))
-          ∙ ap (λ list. set list n 1879048192) (filled n (omega arith)) ∙ unmarked_next n)
+      ∙ ap (λ list. set list n 1879048192) (filled n (omega arith)) ∙ unmarked_next n)
 
 -- ---- the ways out of start
 

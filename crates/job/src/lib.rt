@@ -1,27 +1,19 @@
-// The calls of a job: the start, one task, and a list of tasks, or of tasks and recalls, one after another.
+// The calls of a job: the start, one task, and a list of tasks, or of tasks and recalls, one after another. Each buffer is lent by
+// itself, as in C: of a struct of them each contract would say, beside its equations, that its references stay.
 #![tactic(auto)]
 
 ghost use Rattle.std.specs.Prelude.{◌≡◌, ◌≤◌, ℕ, ℤ, List, length};
 ghost use Rattle.refusal.specs.Refusals.{accepted};
 ghost use Rattle.refusal.specs.Table.{answer_of};
-ghost use Rattle.job_spec.specs.Calls.{start_answer, unmarked, marks_after_start, strips_after_start, task_answer, strips_after, output_after, performed, after_task, calls_of};
+ghost use Rattle.job_spec.specs.Calls.{lists, start_answer, unmarked, marks_after_start, strips_after_start, task_answer, strips_after, output_after, performed, after_task, calls_of};
 ghost use Rattle.job_spec.specs.Steps.{Step, after_step, step_answer};
 ghost use Rattle.job.specs.Fits.{Fits};
-ghost use Rattle.job.specs.Lent.{lists_in};
 ghost use Rattle.job.specs.RunCalls.{Ran};
 ghost use Rattle.job.specs.RunSteps.{RanSteps, step_at, steps_of};
 ghost use Rattle.job.specs.RunList.{task_at, steps_by, StepsRun};
 
 use plan::{BufferOf7, Lengths, Plan};
 use refusal::Refusal;
-
-// The lists that a job's calls write.
-#[derive(Drop)]
-pub struct Lists<'a> {
-    pub marks: &'a mut [u32],
-    pub strips: &'a mut [u64],
-    pub output: &'a mut [u64],
-}
 
 // The number that stands for a recall in a list of steps: tasks are 0 to 5.
 pub const RECALL: usize = 6;
@@ -57,13 +49,15 @@ pub fn task(
     task: usize,
     block: usize,
     map: &[i32],
-    lent: &mut Lists,
+    marks: &mut [u32],
+    strips: &mut [u64],
+    output: &mut [u64],
 ) -> Result<(), Refusal>
-    ensures answer { answer_of result ≡ task_answer plan map.now (lists_in lent.old) task block }
-    ensures written { lists_in lent.new ≡ after_task plan map.now task block (lists_in lent.old) }
+    ensures answer { answer_of result ≡ task_answer plan map.now (lists marks.old strips.old output.old) task block }
+    ensures written { lists marks.new strips.new output.new ≡ after_task plan map.now task block (lists marks.old strips.old output.old) }
 {
-    test_task(plan, task, block, map, lent)?;
-    perform(plan, task, block, map, lent);
+    test_task(plan, task, block, map, marks, strips, output)?;
+    perform(plan, task, block, map, marks, strips, output);
     Ok(())
 }
 
@@ -73,26 +67,36 @@ fn test_task(
     task: usize,
     block: usize,
     map: &[i32],
-    lent: &Lists,
+    marks: &[u32],
+    strips: &[u64],
+    output: &[u64],
 ) -> Result<(), Refusal>
-    ensures { answer_of result ≡ task_answer plan map.now (lists_in lent.now) task block }
+    ensures { answer_of result ≡ task_answer plan map.now (lists marks.now strips.now output.now) task block }
 {
     plan.sizes_for(Lengths {
-        of7: Some(BufferOf7::Marks(lent.marks.len())),
-        strips: Some(lent.strips.len()),
+        of7: Some(BufferOf7::Marks(marks.len())),
+        strips: Some(strips.len()),
         map: Some(map.len()),
-        output: Some(lent.output.len()),
+        output: Some(output.len()),
     })?;
-    tasks::verdict(plan.grid, lent.marks, task, block)
+    tasks::verdict(plan.grid, marks, task, block)
 }
 
 // Performs an accepted task.
-fn perform(plan: Plan, task: usize, block: usize, map: &[i32], lent: &mut Lists)
-    requires { task_answer plan map.now (lists_in lent.old) task block ≡ accepted }
-    ensures { lists_in lent.new ≡ performed plan map.now task block (lists_in lent.old) }
+fn perform(
+    plan: Plan,
+    task: usize,
+    block: usize,
+    map: &[i32],
+    marks: &mut [u32],
+    strips: &mut [u64],
+    output: &mut [u64],
+)
+    requires { task_answer plan map.now (lists marks.old strips.old output.old) task block ≡ accepted }
+    ensures { lists marks.new strips.new output.new ≡ performed plan map.now task block (lists marks.old strips.old output.old) }
 {
-    tasks::set_bit(lent.marks, task, block);
-    write_block(plan, task, block, map, lent.strips, lent.output);
+    tasks::set_bit(marks, task, block);
+    write_block(plan, task, block, map, strips, output);
 }
 
 // Writes what a task writes: collect the lone half of the block's slot, a link its strip in the linked half, finish the
@@ -123,11 +127,13 @@ pub fn run_calls(
     tasks: &[usize],
     blocks: &[usize],
     map: &[i32],
-    lent: &mut Lists,
+    marks: &mut [u32],
+    strips: &mut [u64],
+    output: &mut [u64],
 ) -> usize
-    ensures { Ran plan map.now (calls_of tasks.now blocks.now) (lists_in lent.old) (lists_in lent.new) result }
+    ensures { Ran plan map.now (calls_of tasks.now blocks.now) (lists marks.old strips.old output.old) (lists marks.new strips.new output.new) result }
 {
-    run_list::<TaskCalls>(plan, tasks, blocks, map, lent)
+    run_list::<TaskCalls>(plan, tasks, blocks, map, marks, strips, output)
 }
 
 // Steps, one after another: step number i is a recall of block blocks[i] where tasks[i] is `RECALL`, else a call of task tasks[i]
@@ -138,11 +144,13 @@ pub fn run_steps(
     tasks: &[usize],
     blocks: &[usize],
     map: &[i32],
-    lent: &mut Lists,
+    marks: &mut [u32],
+    strips: &mut [u64],
+    output: &mut [u64],
 ) -> usize
-    ensures { RanSteps plan (steps_of map.now tasks.now blocks.now) (lists_in lent.old) (lists_in lent.new) result }
+    ensures { RanSteps plan (steps_of map.now tasks.now blocks.now) (lists marks.old strips.old output.old) (lists marks.new strips.new output.new) result }
 {
-    run_list::<AnySteps>(plan, tasks, blocks, map, lent)
+    run_list::<AnySteps>(plan, tasks, blocks, map, marks, strips, output)
 }
 
 // What the numbers of a list stand for: tasks alone, or steps, of which some are recalls.
@@ -155,10 +163,12 @@ trait Numbered {
         number: usize,
         block: usize,
         map: &[i32],
-        lent: &mut Lists,
+        marks: &mut [u32],
+        strips: &mut [u64],
+        output: &mut [u64],
     ) -> Result<(), Refusal>
-        ensures answer { answer_of result ≡ step_answer plan (step map.now number block) (lists_in lent.old) }
-        ensures written { lists_in lent.new ≡ after_step plan (step map.now number block) (lists_in lent.old) };
+        ensures answer { answer_of result ≡ step_answer plan (step map.now number block) (lists marks.old strips.old output.old) }
+        ensures written { lists marks.new strips.new output.new ≡ after_step plan (step map.now number block) (lists marks.old strips.old output.old) };
 }
 
 struct TaskCalls;
@@ -174,9 +184,11 @@ impl Numbered for TaskCalls {
         number: usize,
         block: usize,
         map: &[i32],
-        lent: &mut Lists,
+        marks: &mut [u32],
+        strips: &mut [u64],
+        output: &mut [u64],
     ) -> Result<(), Refusal> {
-        task(plan, number, block, map, lent)
+        task(plan, number, block, map, marks, strips, output)
     }
 }
 
@@ -189,12 +201,14 @@ impl Numbered for AnySteps {
         number: usize,
         block: usize,
         map: &[i32],
-        lent: &mut Lists,
+        marks: &mut [u32],
+        strips: &mut [u64],
+        output: &mut [u64],
     ) -> Result<(), Refusal> {
         if number == RECALL {
-            recall::recall(plan, block, lent.marks)
+            recall::recall(plan, block, marks)
         } else {
-            task(plan, number, block, map, lent)
+            task(plan, number, block, map, marks, strips, output)
         }
     }
 }
@@ -205,13 +219,15 @@ fn run_list<N: Numbered>(
     numbers: &[usize],
     blocks: &[usize],
     map: &[i32],
-    lent: &mut Lists,
+    marks: &mut [u32],
+    strips: &mut [u64],
+    output: &mut [u64],
 ) -> usize
-    ensures { StepsRun plan (steps_by N.step map.now numbers.now blocks.now) (lists_in lent.old) (lists_in lent.new) result }
+    ensures { StepsRun plan (steps_by N.step map.now numbers.now blocks.now) (lists marks.old strips.old output.old) (lists marks.new strips.new output.new) result }
 {
     let mut accepted = 0;
     for i in 0..numbers.len().min(blocks.len()) {
-        let answer = N::perform(plan, numbers[i], blocks[i], map, lent);
+        let answer = N::perform(plan, numbers[i], blocks[i], map, marks, strips, output);
         accepted += usize::from(answer.is_ok());
     }
     accepted

@@ -6,8 +6,7 @@ use Rattle.job.proofs.test_task.Goals as goal
 pub verdict-requires : goal.verdict-requires
 verdict-requires c =
     let a = c.args in
-    let l = a.lent.now in
-    marks_lent a.plan a.map.now l.marks.now l.strips.now l.output.now a.task a.block _ c.sizes_for.ensures _
+    marks_lent a.plan a.map.now a.marks.now a.strips.now a.output.now a.task a.block _ c.sizes_for.ensures _
     c.in_ok-sizes_for.was
 
 pub returns : goal.returns
