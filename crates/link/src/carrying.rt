@@ -91,11 +91,11 @@ impl Edge {
         responses: &mut [u64],
         strips: &[u64],
         course: &Course,
-        square: &[[u64; plan::ORDER_LIMIT]; plan::ORDER_LIMIT],
+        square: [[u64; plan::ORDER_LIMIT]; plan::ORDER_LIMIT],
     )
         requires { HistoriesFit course.now (length responses.old) (length strips.now) self.now.strip × (self.now.order ≤ order_limit) }
         ensures { HistoriesAdded course.now.lines course.now.order self.now.order
-            (history_word self.now.gain (direction_of self.now.pass) self.now.order self.now.strip strips.now) square.now
+            (history_word self.now.gain (direction_of self.now.pass) self.now.order self.now.strip strips.now) square
             responses.old responses.new }
     {
         for distance in 0..self.order {
@@ -116,7 +116,7 @@ impl BlockLink {
         let edge = self.edge(pass);
         let row = squares::rows_before(&self.filters, pass);
         let square = squares::square_from(lines, row, edge.order, self.course.from);
-        edge.add_histories(responses, strips, &self.course, &square);
+        edge.add_histories(responses, strips, &self.course, square);
     }
 
     // Adds the histories of all passes of the link's axis to the responses.

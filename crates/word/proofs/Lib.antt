@@ -1,3 +1,4 @@
+pub mod Halves
 pub mod Ring
 pub mod Residues
 pub mod SignedReading
