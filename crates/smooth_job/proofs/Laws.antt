@@ -26,6 +26,7 @@ use Rattle.report.specs.Values.{Values}
 use Rattle.report.specs.Report.{report}
 use Rattle.whole_job.specs.WholeJob.{whole_answer}
 use Rattle.whole_job.proofs.Steps.{whole_job_done}
+use Rattle.std.specs.Prelude.{Ok}
 use Rattle.smooth_job.specs.declared.Smoothed.{Smoothed}
 use Rattle.smooth_job.specs.Promises.{Smooths, SmoothDone, SmoothTable}
 use Rattle.smooth_job.specs.Program.{pixel_limit, strip_limit, plan_words, heights_in, plan_in, count_rows, input_rows, Asked, refused_input, job, asked_by, map_in, asked, job_lists, job_after, Line, reported_after, answer_to, smooth_given, output_of}
@@ -138,7 +139,7 @@ smooth_table input output = by (first_due (input_rows input)) refl
         ∙ sym (accepted_before (input_rows input) _ (sym e))
 
 -- No answer has more pixels than the limit.
-pub few_pixels : (input output : List ℕ) (r : Smoothed) → smooth_given r ≡ answer_to (asked input) output
+pub few_pixels : (input output : List ℕ) (r : Smoothed) → smooth_given (Ok r) ≡ answer_to (asked input) output
     → r.rows * r.columns ≤ pixel_limit
 unfolding answer_to
 few_pixels input output r e =

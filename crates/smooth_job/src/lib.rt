@@ -125,7 +125,6 @@ fn plan_in(input: &[u8], count: usize) -> Result<Plan, Refusal>
 }
 
 // A word of 32 bits as a height, two's complement.
-#[tactic(auto, unfolding(crate::specs::Program::signed32))]
 pub fn decode_signed32(word: u32) -> i32
     ensures { result ≡ signed32 word }
 {
