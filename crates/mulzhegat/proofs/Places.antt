@@ -9,40 +9,25 @@ use lib.IntN.{ℤ}
 use lib.ListN.{length}
 use borrow.Author.Tests.{leb-true, ltb-true, not-false}
 use Rattle.number.proofs.RowMajor.{row_of, column_of}
-use Rattle.refusal.specs.declared.Refusal.{Refusal}
-use Rattle.refusal.specs.Refusals.{place_of, refused, number_in, place_in}
-use Rattle.refusal.specs.Table.{Row, first_due, answer_of}
-use Rattle.plan.specs.declared.BufferOf7.TheVariants.{NoneOf7}
+use Rattle.refusal.specs.Refusals.{refused, number_in, place_in}
+use Rattle.refusal.specs.Table.{Row, first_due}
 use Rattle.plan.specs.declared.Lengths.{Lengths}
 use Rattle.plan.specs.declared.Plan.{Plan}
-use Rattle.plan.specs.declared.PlanSizes.{PlanSizes}
-use Rattle.plan.specs.declared.PlanSizes.TheVariants as sizes
 use Rattle.plan.specs.Rules.{keeps_rules}
-use Rattle.plan.specs.FirstTests.{lent_rows, only_of7, sizes_for, plan_sizes, sizes_given}
+use Rattle.plan.specs.FirstTests.{lent_rows, nothing_lent, sizes_for, plan_sizes}
 use Rattle.grid.specs.Grid.{block_total}
 use Rattle.plan.proofs.Needed.{bounds}
 use Rattle.plan_reader.specs.PlanWords.{size_allowed, side_allowed, pass_allowed, end_allowed}
 use Rattle.plan_reader.specs.ReadPlan.{payload_at, order_at, pass_place, word_rows, head_rows, coefficient_rows, pass_rows, passes_rows, end_rows, side_rows, plan_rows, read_plan}
 use Rattle.plan_reader.proofs.PassPlaces.{order_bounded, pass_place_bounded}
-use Rattle.plan_writer.specs.declared.PlanWritten.{PlanWritten}
-use Rattle.plan_writer.specs.declared.PlanWritten.TheVariants as written
-use Rattle.plan_writer.specs.WritePlan.{lent_to_writer, write_plan, written_given}
+use Rattle.plan_writer.specs.WritePlan.{lent_to_writer, write_plan}
 use Rattle.serial.specs.Serial.{lent_to_passes, serial_answer}
-use Rattle.rectangle.specs.declared.RectangleSum.{RectangleSum}
-use Rattle.rectangle.specs.declared.RectangleSum.TheVariants as rectangle
-use Rattle.rectangle.specs.Rectangle.{lent_to_sum, rectangle_call, sum_given}
-use Rattle.dropouts.specs.declared.DropoutCount.{DropoutCount}
-use Rattle.dropouts.specs.declared.DropoutCount.TheVariants as count
-use Rattle.dropouts.specs.Dropouts.{lent_to_count, dropouts_call, count_given}
+use Rattle.rectangle.specs.Rectangle.{lent_to_sum, rectangle_call}
+use Rattle.dropouts.specs.Dropouts.{lent_to_count, dropouts_call}
 use Rattle.macro_values.specs.declared.Quantity.{Quantity}
-use Rattle.macro_values.specs.declared.MacroRead.{MacroRead}
-use Rattle.macro_values.specs.declared.PairRead.{PairRead}
-use Rattle.macro_values.specs.MacroValues.{macro_call, pair_call, value_given, pair_given}
+use Rattle.macro_values.specs.MacroValues.{macro_call, pair_call}
 use Rattle.tasks.specs.Verdict.{verdict_rows}
 use Rattle.job_spec.specs.Calls.{Buffers, lent_to_start, start_answer, lent_to_task, task_answer}
-use Rattle.report.specs.declared.ReportAnswer.{ReportAnswer}
-use Rattle.report.specs.declared.ReportAnswer.TheVariants as reported
-use Rattle.report.specs.Values.{report_given}
 use Rattle.report.specs.Report.{marks_rows, lent_to_report, report}
 use Rattle.recall.specs.RecallCall.{lent_to_recall, recall_answer}
 use Rattle.turns.specs.declared.Job.{Job}
@@ -180,7 +165,7 @@ module _ (plan : Plan) where
       after_lent (lent_to_task heights buffers) (verdict_rows plan.grid buffers.marks t k)
       (λ kept. (at_0, λ n. (block_place _ kept, λ n. (at_0, λ n. (at_0, λ n. tt)))))
 
-  report_place : (marks : List ℕ) → place_in (report plan marks).answer < half
+  pub report_place : (marks : List ℕ) → place_in (report plan marks).answer < half
   unfolding report
   report_place marks =
       after_lent (lent_to_report marks) (marks_rows plan.grid marks) (λ kept. (block_place _ kept, λ n. tt))
@@ -192,11 +177,11 @@ module _ (plan : Plan) where
 
   -- ---- the other calls: their refusals have place 0
 
-  sizes_place : place_in (plan_sizes plan).answer < half
+  pub sizes_place : place_in (plan_sizes plan).answer < half
   unfolding sizes_for
-  sizes_place = lent_place (only_of7 NoneOf7)
+  sizes_place = lent_place nothing_lent
 
-  written_place : (room : ℕ) → place_in (write_plan plan room).answer < half
+  pub written_place : (room : ℕ) → place_in (write_plan plan room).answer < half
   unfolding write_plan
   written_place room = lent_place (lent_to_writer room)
 
@@ -204,12 +189,12 @@ module _ (plan : Plan) where
   unfolding serial_answer
   serial_place map_length output_length = lent_place (lent_to_passes map_length output_length)
 
-  rectangle_place : (table : List ℕ) (top left bottom right : ℕ)
+  pub rectangle_place : (table : List ℕ) (top left bottom right : ℕ)
       → place_in (rectangle_call plan table top left bottom right).answer < half
   unfolding rectangle_call
   rectangle_place table top left bottom right = after_lent (lent_to_sum table) _ (λ kept. (at_0, λ n. tt))
 
-  dropouts_place : (heights : List ℤ) (top left bottom right : ℕ)
+  pub dropouts_place : (heights : List ℤ) (top left bottom right : ℕ)
       → place_in (dropouts_call plan heights top left bottom right).answer < half
   unfolding dropouts_call
   dropouts_place heights top left bottom right = after_lent (lent_to_count heights) _ (λ kept. (at_0, λ n. tt))
@@ -227,7 +212,8 @@ module _ (plan : Plan) where
 
 -- ---- several jobs: 18 names one of at most eight, 9 a place of the common list
 
-dispatch_place : (jobs : List Job) (last : ℕ) (marks : List ℕ) → length marks ≤ half → place_in (dispatch jobs last marks).answer < half
+dispatch_place : (jobs : List Job) (last : ℕ) (marks : List ℕ) → length marks ≤ half
+    → place_in (dispatch jobs last marks).answer < half
 unfolding dispatch dispatch_rows
 dispatch_place jobs last marks short =
     in_half (dispatch_rows jobs marks) (
@@ -269,41 +255,3 @@ capped_codes answer =
       as_code = λ fits. let e : place ≡ place_in answer = omega arith in ap (number * half +◌) e;
       place_capped = λ long. column_of half number place (omega arith) ∙ omega arith;
     }
-
--- ---- the place of a refusal that a call answered
-
-module _ (plan : Plan) (refusal : Refusal) where
-  pub sizes_refused : (answer : PlanSizes) → sizes_given answer ≡ plan_sizes plan → answer ≡ sizes.Refused refusal
-      → place_of refusal < half
-  sizes_refused answer is e = rw e at (rw (← is) at (sizes_place plan))
-
-  pub written_refused : (room : ℕ) (answer : PlanWritten) → written_given answer ≡ write_plan plan room
-      → answer ≡ written.Refused refusal → place_of refusal < half
-  written_refused room answer is e = rw e at (rw (← is) at (written_place plan room))
-
-  pub report_refused : (marks : List ℕ) (answer : ReportAnswer) → report_given answer ≡ report plan marks
-      → answer ≡ reported.Refused refusal → place_of refusal < half
-  report_refused marks answer is e = rw e at (rw (← is) at (report_place plan marks))
-
-  pub rectangle_refused : (table : List ℕ) (top left bottom right : ℕ) (answer : RectangleSum)
-      → sum_given answer ≡ rectangle_call plan table top left bottom right → answer ≡ rectangle.Refused refusal
-      → place_of refusal < half
-  rectangle_refused table top left bottom right answer is e =
-      rw e at (rw (← is) at (rectangle_place plan table top left bottom right))
-
-  pub dropouts_refused : (heights : List ℤ) (top left bottom right : ℕ) (answer : DropoutCount)
-      → count_given answer ≡ dropouts_call plan heights top left bottom right → answer ≡ count.Refused refusal
-      → place_of refusal < half
-  dropouts_refused heights top left bottom right answer is e =
-      rw e at (rw (← is) at (dropouts_place plan heights top left bottom right))
-
--- ---- the place beside a macro variable
-
-module _ (plan : Plan) (table : List ℕ) (top left bottom right : ℕ) where
-  pub macro_answered : (quantity : Quantity) (read : MacroRead)
-      → value_given read ≡ macro_call quantity plan table top left bottom right → place_in (answer_of read.outcome) < half
-  macro_answered quantity read is = rw (← is) at (macro_place plan quantity table top left bottom right)
-
-  pub pair_answered : (read : PairRead) → pair_given read ≡ pair_call plan table top left bottom right
-      → place_in (answer_of read.outcome) < half
-  pair_answered read is = rw (← is) at (pair_place plan table top left bottom right)

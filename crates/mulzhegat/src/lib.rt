@@ -1,7 +1,7 @@
 // The C interface: each function takes its arguments apart, calls the Rattle function of the same job, or for macro
 // variables the two that it is made of, and answers one number: 0 where the call is accepted, else the documents' number
 // of the refusal times 2^32, plus its place.
-#![tactic(auto)]
+#![tactic(auto, using(crate::proofs::Calls::call_answers), unfolding(macro_values::specs::MacroValues::macro_call, macro_values::specs::MacroValues::pair_call))]
 
 ghost use Rattle.std.specs.Prelude.{◌≡◌, length};
 ghost use Rattle.refusal.specs.Refusals.{refused_for};
@@ -18,7 +18,7 @@ ghost use Rattle.job_spec.specs.Calls.{lists, start_answer, marks_after_start, s
 ghost use Rattle.report.specs.Values.{values_of};
 ghost use Rattle.report.specs.Report.{report};
 ghost use Rattle.recall.specs.RecallCall.{recall_answer, marks_after_recall};
-ghost use Rattle.turns.specs.Dispatch.{turn_values, dispatch_given, dispatch};
+ghost use Rattle.turns.specs.Dispatch.{turn_values, dispatch};
 ghost use Rattle.mulzhegat.specs.Places.{Fits};
 ghost use Rattle.mulzhegat.specs.Codes.{code_of, capped_code, sizes_record, progress_record, turn_record, state_of, float_in, VariableWritten, pair_states, pair_floats, PairWritten};
 
@@ -37,10 +37,7 @@ pub extern "C" fn mzg_plan_read(words: &[u32], plan: &mut [i64; plan_record::REC
     ensures { (result ≡ code_of (read_plan words.now).answer) × (plan.new ≡ record_of_plan (read_plan words.now).value) }
 {
     let answer = plan_reader::read_plan(words);
-    *plan = match answer {
-        Ok(taken) => plan_record::record_of_plan(taken),
-        Err(_) => [0; plan_record::RECORD_LENGTH],
-    };
+    *plan = answer.map_or([0; plan_record::RECORD_LENGTH], plan_record::record_of_plan);
     answer_code(answer)
 }
 
@@ -62,10 +59,7 @@ pub extern "C" fn mzg_plan_sizes(
     ensures { (result ≡ code_of (plan_sizes (plan_of_record plan.now)).answer) × (sizes.new ≡ sizes_record (plan_sizes (plan_of_record plan.now)).value) }
 {
     let answer = plan_record::plan_of_record(plan).sizes();
-    *sizes = match answer {
-        Ok(known) => sizes_record(known),
-        Err(_) => [0; 7],
-    };
+    *sizes = answer.map_or([0; 7], sizes_record);
     answer_code(answer)
 }
 
@@ -116,10 +110,7 @@ pub extern "C" fn mzg_report(
     ensures values { progress.new ≡ progress_record (report (plan_of_record plan.now) marks.now).value }
 {
     let answer = report::report(plan_record::plan_of_record(plan), marks);
-    *progress = match answer {
-        Ok(made) => progress_record(made),
-        Err(_) => [0; 5],
-    };
+    *progress = answer.map_or([0; 5], progress_record);
     answer_code(answer)
 }
 
@@ -146,10 +137,7 @@ pub extern "C" fn mzg_dispatch(jobs: &[Job], last: usize, marks: &[u32], turn: &
     ensures words { turn.new ≡ turn_record (dispatch jobs.now last marks.now).value }
 {
     let answer = dispatch::dispatch(jobs, last, marks);
-    *turn = match answer {
-        Ok(made) => turn_record(made),
-        Err(_) => [0; 4],
-    };
+    *turn = answer.map_or([0; 4], turn_record);
     match answer {
         Ok(_) => 0,
         Err(refusal) => capped_code(refusal),
@@ -197,12 +185,7 @@ pub extern "C" fn mzg_rectangle(
 ) -> u64
     ensures { (result ≡ code_of (rectangle_call (plan_of_record plan.now) table.now top left bottom right).answer) × (sum.new ≡ (rectangle_call (plan_of_record plan.now) table.now top left bottom right).value) }
 {
-    let rectangle = Rectangle {
-        top,
-        left,
-        bottom,
-        right,
-    };
+    let rectangle = rectangle_of(top, left, bottom, right);
     let answer = rectangle_by_record(plan, rectangle, table);
     *sum = answer.unwrap_or(0);
     answer_code(answer)
@@ -222,12 +205,7 @@ pub extern "C" fn mzg_dropouts(
     ensures { (result ≡ code_of (dropouts_call (plan_of_record plan.now) map.now top left bottom right).answer) × (count.new ≡ (dropouts_call (plan_of_record plan.now) map.now top left bottom right).value) }
 {
     let taken = plan_record::plan_of_record(plan);
-    let rectangle = Rectangle {
-        top,
-        left,
-        bottom,
-        right,
-    };
+    let rectangle = rectangle_of(top, left, bottom, right);
     let answer = dropouts::count_dropouts(taken, rectangle, map);
     *count = answer.unwrap_or(0) as u64;
     answer_code(answer)
@@ -249,12 +227,7 @@ pub extern "C" fn mzg_macro_total(
 ) -> u64
     ensures { VariableWritten (macro_call Quantity.Total (plan_of_record plan.now) table.now top left bottom right) result state.new value.new }
 {
-    let rectangle = Rectangle {
-        top,
-        left,
-        bottom,
-        right,
-    };
+    let rectangle = rectangle_of(top, left, bottom, right);
     macro_quantity(plan, Quantity::Total, rectangle, table, state, value)
 }
 
@@ -272,12 +245,7 @@ pub extern "C" fn mzg_macro_pixels(
 ) -> u64
     ensures { VariableWritten (macro_call Quantity.Pixels (plan_of_record plan.now) table.now top left bottom right) result state.new value.new }
 {
-    let rectangle = Rectangle {
-        top,
-        left,
-        bottom,
-        right,
-    };
+    let rectangle = rectangle_of(top, left, bottom, right);
     macro_quantity(plan, Quantity::Pixels, rectangle, table, state, value)
 }
 
@@ -295,12 +263,7 @@ pub extern "C" fn mzg_macro_pair(
 ) -> u64
     ensures { PairWritten (pair_call (plan_of_record plan.now) table.now top left bottom right) result states.new values.new }
 {
-    let rectangle = Rectangle {
-        top,
-        left,
-        bottom,
-        right,
-    };
+    let rectangle = rectangle_of(top, left, bottom, right);
     let sum = rectangle_by_record(plan, rectangle, table);
     let answer = macro_values::pair_by_sum(sum, rectangle);
     let pair = answer.unwrap_or(MacroPair {
@@ -333,6 +296,18 @@ fn macro_quantity(
 
 // ---- rectangles
 
+// The rectangle of four numbers as C gives them.
+fn rectangle_of(top: usize, left: usize, bottom: usize, right: usize) -> Rectangle
+    ensures { result ≡ record { top = top; left = left; bottom = bottom; right = right } }
+{
+    Rectangle {
+        top,
+        left,
+        bottom,
+        right,
+    }
+}
+
 // The rectangle sum, for all calls that begin with it: one function, so that the record is copied once.
 fn rectangle_by_record(
     plan: &[i64; plan_record::RECORD_LENGTH],
@@ -346,6 +321,7 @@ fn rectangle_by_record(
 
 // ---- answers
 
+// The number that C is answered, where every place fits its lower half.
 fn answer_code<T: Copy>(answer: Result<T, Refusal>) -> u64
     requires { Fits (answer_of answer) }
     ensures { result ≡ code_of (answer_of answer) }
@@ -360,14 +336,14 @@ fn refusal_code(refusal: Refusal) -> u64
     requires { Fits (refused_for refusal) }
     ensures { result ≡ code_of (refused_for refusal) }
 {
-    (refusal.number() as u64) * 4294967296 + (refusal.place() as u64)
+    u64::from(refusal.number()) * 4294967296 + (refusal.place() as u64)
 }
 
 // The same of a refusal whose place may be too long for the lower half: the most that it holds stands for such a place.
 fn capped_code(refusal: Refusal) -> u64
     ensures { result ≡ capped_code (refused_for refusal) }
 {
-    (refusal.number() as u64) * 4294967296 + (refusal.place().min(4294967295) as u64)
+    u64::from(refusal.number()) * 4294967296 + (refusal.place().min(4294967295) as u64)
 }
 
 fn sizes_record(known: Sizes) -> [u64; 7]
