@@ -11,6 +11,7 @@ ghost use Rattle.plan_reader.specs.ReadPlan.{read_plan, read_given};
 ghost use Rattle.report.specs.Report.{report};
 ghost use Rattle.smooth_job.specs.Program.{pixel_limit, strip_limit, byte_at, word_in, plan_length, signed32, heights_in, job, asked, asked_with, refused_with, reported_with, answer_to, smooth_given, output_of, cut_limit, cut_length};
 
+use job::Lists;
 use plan::Plan;
 use refusal::Refusal;
 use std::io;
@@ -125,6 +126,7 @@ fn plan_in(input: &[u8], count: usize) -> Result<Plan, Refusal>
 }
 
 // A word of 32 bits as a height, two's complement.
+#[tactic(auto, unfolding(crate::specs::Program::signed32))]
 pub fn decode_signed32(word: u32) -> i32
     ensures { result ≡ signed32 word }
 {
@@ -191,7 +193,12 @@ fn smooth_heights(plan: Plan, map: &[i32], output: &mut [u64]) -> Result<Smoothe
 {
     let mut marks = fresh_marks();
     let mut strips = fresh_strips();
-    whole_job::whole_job(plan, map, &mut marks, &mut strips, output)?;
+    let mut lists = Lists {
+        marks: &mut marks,
+        strips: &mut strips,
+        output,
+    };
+    whole_job::whole_job(plan, map, &mut lists)?;
     reported(plan, &marks)
 }
 

@@ -9,13 +9,12 @@ use borrow.Author.Rules.{rules}
 use Rattle.smooth_job.proofs.plan_in.Goals as goal
 
 pub loop-i-init : goal.loop-i-init
-loop-i-init c = (omega arith, search rules, sym (listed_none _))
+loop-i-init c = (search rules, sym (listed_none _))
 
 pub loop-i-preserved : goal.loop-i-preserved
 loop-i-preserved c = (
-  omega arith,
   simp length-set (omega arith),
-  filled_more _ _ _ _ (omega arith) c.word_at-word.ensures c.loop-i.invariant.2,
+  filled_more _ _ _ _ (omega arith) c.word_at.ensures c.loop-i.invariant.1,
 )
 
 pub slice_bounds-read_plan-end : goal.slice_bounds-read_plan-end
@@ -25,4 +24,4 @@ pub returns : goal.returns
 returns c =
     let l = c.loop-i in
     let e : l.i ≡ c.args.count = omega arith in
-    c.read_plan.ensures ∙ ap read_plan (rw e at l.invariant.2)
+    c.read_plan.ensures ∙ ap read_plan (rw e at l.invariant.1)

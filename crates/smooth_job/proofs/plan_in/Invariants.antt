@@ -9,7 +9,4 @@ use Rattle.smooth_job.proofs.plan_in.Given as goal
 
 abbrev pub invariant-loop-i : goal.invariant-loop-i
 invariant-loop-i l =
-    (l.i ≤ l.count) × (length l.words ≡ word_limit) × (take l.i l.words ≡ list_of (word_in l.input) l.i)
-
-abbrev pub decreases-loop-i : goal.decreases-loop-i
-decreases-loop-i l = l.count - l.i
+    (length l.words ≡ word_limit) × (take l.i l.words ≡ list_of (word_in l.input) l.i)

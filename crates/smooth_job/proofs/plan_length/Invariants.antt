@@ -7,7 +7,4 @@ use Rattle.smooth_job.proofs.plan_length.Given as goal
 
 abbrev pub invariant-loop-i : goal.invariant-loop-i
 invariant-loop-i l =
-    (l.i ≤ l.most) × (l.most ≤ length l.input / 4) × (plan_length l.input ≡ after_end (word_in l.input) l.i (l.most - l.i))
-
-abbrev pub decreases-loop-i : goal.decreases-loop-i
-decreases-loop-i l = l.most - l.i
+    (l.most ≤ length l.input / 4) × (plan_length l.input ≡ after_end (word_in l.input) l.i (l.most - l.i))

@@ -4,12 +4,12 @@ use Rattle.smooth_job.proofs.smooth_counted.Goals as goal
 
 pub returns-then-pixels-gt-PIXEL_LIMIT : goal.returns-then-pixels-gt-PIXEL_LIMIT
 returns-then-pixels-gt-PIXEL_LIMIT c =
-    let both = too_many_pixels c.args.plan c.args.input.now _ c.requires.0 c.if-pixels-gt-PIXEL_LIMIT.true c.refused.result _ c.refused.ensures in
+    let both = too_many_pixels c.args.plan c.args.input.now _ c.requires.0 c.if-pixels-gt-PIXEL_LIMIT.true _ in
     record { answer = both.0; output = both.1 }
 
 pub returns-then-input-first : goal.returns-then-input-first
 returns-then-input-first c =
-    let both = wrong_heights c.args.plan c.args.input.now _ c.requires.0 c.if-pixels-gt-PIXEL_LIMIT.false _ c.requires.1 c.if-input-first.true c.refused-then-input-first.result _ c.refused-then-input-first.ensures in
+    let both = wrong_heights c.args.plan c.args.input.now _ c.requires.0 c.if-pixels-gt-PIXEL_LIMIT.false _ c.requires.1 c.if-input-first.true _ in
     record { answer = both.0; output = both.1 }
 
 pub returns : goal.returns

@@ -12,14 +12,13 @@ use Rattle.smooth_job.proofs.smooth_map.Goals as goal
 
 pub loop-q-init : goal.loop-q-init
 unfolding heights_in
-loop-q-init c = (omega arith, search rules, sym (listed_none _))
+loop-q-init c = (search rules, sym (listed_none _))
 
 pub loop-q-preserved : goal.loop-q-preserved
 unfolding heights_in
 loop-q-preserved c = (
-  omega arith,
   simp length-set (omega arith),
-  filled_more _ _ _ _ (omega arith) (read_back_law {w = w32} (search rules) c.height_at-height.ensures) c.loop-q.invariant.2,
+  filled_more _ _ _ _ (omega arith) (read_back_law {w = w32} (search rules) c.height_at.ensures) c.loop-q.invariant.1,
 )
 
 pub slice_bounds-smooth_heights-end : goal.slice_bounds-smooth_heights-end
@@ -29,5 +28,5 @@ pub returns : goal.returns
 returns c =
     let l = c.loop-q in
     let e : l.q ≡ c.args.pixels = omega arith in
-    let heights = rw e at l.invariant.2 in
+    let heights = rw e at l.invariant.1 in
     record { answer = rw heights at c.smooth_heights.ensures.answer; output = rw heights at c.smooth_heights.ensures.output }

@@ -7,7 +7,4 @@ use Rattle.smooth_job.proofs.smooth_map.Given as goal
 
 abbrev pub invariant-loop-q : goal.invariant-loop-q
 invariant-loop-q l =
-    (l.q ≤ l.pixels) × (length l.heights ≡ pixel_limit) × (take l.q l.heights ≡ heights_in l.input l.first l.q)
-
-abbrev pub decreases-loop-q : goal.decreases-loop-q
-decreases-loop-q l = l.pixels - l.q
+    (length l.heights ≡ pixel_limit) × (take l.q l.heights ≡ heights_in l.input l.first l.q)

@@ -9,9 +9,9 @@ use Rattle.smooth_job.proofs.smooth_plan.Goals as goal
 pub smooth_counted-requires : goal.smooth_counted-requires
 unfolding sizes_of
 smooth_counted-requires c =
-    let are = (sizes_known c.args.plan _ _ c.sizes-known.ensures _ c.in-Known.is).1 in
+    let are = (sizes_known c.args.plan _ _ c.sizes.ensures _ c.in_ok-sizes.was).1 in
     (ap (λ (z : Sizes). z.pixels) are, c.requires.1, c.requires.2)
 
-pub returns-in-Refused : goal.returns-in-Refused
-returns-in-Refused c =
-    kept_refused c.args.plan c.args.input.now c.requires.0 _ c.sizes-known.ensures _ c.in-Refused.is
+pub returns-in_err-sizes : goal.returns-in_err-sizes
+returns-in_err-sizes c =
+    kept_refused c.args.plan c.args.input.now c.requires.0 _ c.sizes.ensures _ c.in_err-sizes.was
