@@ -214,6 +214,7 @@ impl Numbered for AnySteps {
 }
 
 // The steps of two lists, as many as the shorter has; the answer is how many were accepted.
+#[tactic(auto, using(crate::proofs::Running::running_start, crate::proofs::Running::one_most, crate::proofs::Running::one_counted))]
 fn run_list<N: Numbered>(
     plan: Plan,
     numbers: &[usize],

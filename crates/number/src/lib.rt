@@ -1,24 +1,10 @@
-// Numbers: the lesser of two, yes and no as 1 and 0, a number that counts by a test, a range from 1 on, and words of a kind and a
+// Numbers: a number that counts by a test, a range from 1 on, and words of a kind and a
 // payload.
 #![tactic(auto)]
 
-ghost use Rattle.std.specs.Prelude.{◌≡◌, cond, ◌<◌, min};
-ghost use Rattle.number.specs.Numbers.{within, one};
+ghost use Rattle.std.specs.Prelude.{◌≡◌, cond, ◌<◌};
+ghost use Rattle.number.specs.Numbers.{within};
 ghost use Rattle.number.specs.KindWords.{payload_limit, kind_of, payload_of, word_of};
-
-// The lesser of two numbers.
-pub fn lesser(a: usize, b: usize) -> usize
-    ensures { result ≡ min a b }
-{
-    a.min(b)
-}
-
-// 1 for yes, 0 for no.
-pub fn one_if(yes: bool) -> usize
-    ensures { result ≡ one yes }
-{
-    usize::from(yes)
-}
 
 // A number where something holds, and 0 where not.
 pub fn counted_if(holds: bool, number: usize) -> usize
