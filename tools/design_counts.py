@@ -23,7 +23,7 @@ def line_of(text, position):
     return text.count("\n", 0, position) + 1
 
 
-FUNCTION = re.compile(r"fn (\w+)(?:<[^>]*>)?\(([^{;]*?)\)(?:\s*->\s*[^\n{]+)?\n((?:[ ]*(?:requires|ensures|≡|[ ]{8,})[^\n]*\n)*)", re.S)
+FUNCTION = re.compile(r"fn (\w+)(?:<[^>]*>)?\(([^{]*?)\)(?:\s*->\s*[^\n{]+)?\n((?:[ ]*(?:requires|ensures|≡|[ ]{8,})[^\n]*\n)*)", re.S)
 
 
 def functions(text):

@@ -100,7 +100,7 @@ fn perform(
 }
 
 // Writes what a task writes: collect the lone half of the block's slot, a link its strip in the linked half, finish the
-// block's output words.
+// block's output words. By the task's number, as document 01 has it: this is the one place where it is taken apart.
 fn write_block(
     plan: Plan,
     task: usize,

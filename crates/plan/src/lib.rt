@@ -37,7 +37,8 @@ pub struct Pass {
     pub coefficients: [i64; ORDER_LIMIT],
 }
 
-// A plan (document 01's term): the size of the map and the block side, and the passes down, up, right and left.
+// A plan (document 01's term): the size of the map and the block side, and the passes down, up, right and left. Its rules are no
+// invariant of the type: a record is what a caller gave, 6 is answered by `check`, and the definitions speak of any plan.
 #[derive(Clone, Copy)]
 pub struct Plan {
     pub grid: Grid,

@@ -111,9 +111,5 @@ fn row(number: u32, place: usize) -> Reason
 pub fn too_short(length: usize, needed: usize, cause: Refusal) -> Result<(), Refusal>
     ensures { answer_of result ≡ cond (ltb length needed) (refused_for cause) accepted }
 {
-    if length < needed {
-        Err(cause)
-    } else {
-        Ok(())
-    }
+    if length < needed { Err(cause) } else { Ok(()) }
 }

@@ -141,7 +141,12 @@ fn height_at(input: &[u8], i: usize) -> i32
 // ---- the job
 
 // With a plan that was read, its words the first of the input.
-fn smooth_plan(plan: Plan, first: usize, input: &[u8], output: &mut [u64]) -> Result<Smoothed, Refusal>
+fn smooth_plan(
+    plan: Plan,
+    first: usize,
+    input: &[u8],
+    output: &mut [u64],
+) -> Result<Smoothed, Refusal>
     requires { (keeps_rules plan ≡ true) × (first ≡ plan_length input.now) × (first ≤ word_limit) }
     ensures answer { smooth_given result ≡ answer_to (asked_with input.now plan) output.old }
     ensures output { output.new ≡ output_of (asked_with input.now plan) output.old }
@@ -172,7 +177,13 @@ fn smooth_counted(
 }
 
 // The job on the heights from a word of the input on.
-fn smooth_map(plan: Plan, first: usize, pixels: usize, input: &[u8], output: &mut [u64]) -> Result<Smoothed, Refusal>
+fn smooth_map(
+    plan: Plan,
+    first: usize,
+    pixels: usize,
+    input: &[u8],
+    output: &mut [u64],
+) -> Result<Smoothed, Refusal>
     requires { (pixels ≤ pixel_limit) × (first + pixels ≤ length input.now / 4) }
     ensures answer { smooth_given result ≡ answer_to (job plan (heights_in input.now first pixels)) output.old }
     ensures output { output.new ≡ output_of (job plan (heights_in input.now first pixels)) output.old }
