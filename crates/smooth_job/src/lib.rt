@@ -1,7 +1,7 @@
 // Document 01's program on its input: the tests, the plan, the heights, and the whole job. Reading and printing are left to main.
 #![tactic(auto)]
 
-ghost use Rattle.std.specs.Prelude.{◌≡◌, true, ◌+◌, ◌*◌, ◌/◌, ◌<◌, ◌≤◌, length, replicate, take, IfOk};
+ghost use Rattle.std.specs.Prelude.{◌≡◌, true, ◌+◌, ◌*◌, ◌/◌, ◌<◌, ◌≤◌, length, take, IfOk};
 ghost use Rattle.std.specs.Io.KnownBytes.{Consumes, IsAtEnd};
 ghost use Rattle.plan.specs.Rules.{keeps_rules};
 ghost use Rattle.refusal.specs.Refusals.{number_of, place_of};
@@ -9,7 +9,7 @@ ghost use Rattle.plan.specs.Sizes.{needed_pixels, word_limit};
 ghost use Rattle.buffer.specs.Lists.{list_of};
 ghost use Rattle.plan_reader.specs.ReadPlan.{read_plan, read_given};
 ghost use Rattle.report.specs.Report.{report};
-ghost use Rattle.smooth_job.specs.Program.{pixel_limit, strip_limit, byte_at, word_in, plan_length, signed32, heights_in, job, asked, asked_with, refused_with, reported_with, answer_to, smooth_given, output_of, cut_limit, cut_length};
+ghost use Rattle.smooth_job.specs.Program.{pixel_limit, byte_at, word_in, plan_length, signed32, heights_in, job, asked, asked_with, refused_with, reported_with, answer_to, smooth_given, output_of, cut_limit, cut_length};
 
 use plan::Plan;
 use refusal::Refusal;
@@ -200,22 +200,10 @@ fn smooth_heights(plan: Plan, map: &[i32], output: &mut [u64]) -> Result<Smoothe
     ensures answer { smooth_given result ≡ answer_to (job plan map.now) output.old }
     ensures output { output.new ≡ output_of (job plan map.now) output.old }
 {
-    let mut marks = fresh_marks();
-    let mut strips = fresh_strips();
+    let mut marks = [0; PIXEL_LIMIT];
+    let mut strips = [0; STRIP_LIMIT];
     whole_job::whole_job(plan, map, &mut marks, &mut strips, output)?;
     reported(plan, &marks)
-}
-
-fn fresh_marks() -> [u32; PIXEL_LIMIT]
-    ensures { result ≡ replicate pixel_limit 0 }
-{
-    [0; PIXEL_LIMIT]
-}
-
-fn fresh_strips() -> [u64; STRIP_LIMIT]
-    ensures { result ≡ replicate strip_limit 0 }
-{
-    [0; STRIP_LIMIT]
 }
 
 // The size and what the report says of the marks.
