@@ -1,5 +1,6 @@
 // The axis and the direction of a pass, by its number: passes 0 down, 1 up, 2 right and 3 left.
 // Passes stay numbers: a plan's list of passes, the strips and the tasks of the C interface count them.
+// Two names each, `along` and `across`, `if_forward` and `if_backward`, so that a call says which of the two is meant.
 #![tactic(auto)]
 
 ghost use Rattle.std.specs.Prelude.{◌≡◌};

@@ -57,6 +57,10 @@ module _ {plan : Plan} {k pass : ℕ} {shape : BlockShape} {n m : ℕ} (placed :
     module _ {first step place height width : ℕ} (begins : first ≡ address_in strip 0 strip.first) (stepped : step ≡ along a strip.place_step strip.line_step)
         (at : place ≡ work_place a 0 (start + strip.first)) (tall : height ≡ along a places strip.lines)
         (wide : width ≡ across a places strip.lines) where
+      -- No row of the rectangle copied is wider than the stride.
+      pub strip_narrow : width ≤ work_stride
+      strip_narrow = rw wide (lines_narrow a (start + strip.first) places strip.lines places_in_work lines_few)
+
       -- What the copy asks: it is in the strips and in the work array, and none of its rows reaches into the next.
       pub strip_asked :
           CopyFits (record { start = first; stride = step; height = height; width = width })
@@ -69,7 +73,7 @@ module _ {plan : Plan} {k pass : ℕ} {shape : BlockShape} {n m : ℕ} (placed :
               rw (at, tall, wide)
               (lines_fit a (start + strip.first) places strip.lines m places_in_work lines_few moves.sized);
         },
-        rw wide (lines_narrow a (start + strip.first) places strip.lines places_in_work lines_few),
+        strip_narrow,
       )
 
       pub strip_loaded : (gain : ℕ) (strips : List ℕ) {before after : List ℕ} → length before ≡ m

@@ -44,7 +44,7 @@ struct Rows {
 
 // A rectangle in a buffer: its rows, their number, and the words of each.
 #[derive(Clone, Copy)]
-struct Rectangle {
+struct BufferRectangle {
     start: usize,
     stride: usize,
     height: usize,
@@ -90,7 +90,7 @@ pub fn finish(plan: Plan, k: usize, map: &[i32], strips: &[u64], output: &mut [u
     let mut work = [0; STRIDE * STRIDE];
     block.load(map, &mut work);
     block.run_passes(strips, 4, &mut work);
-    let source = Rectangle {
+    let source = BufferRectangle {
         start: CORNER,
         stride: STRIDE,
         height: shape.rows,
@@ -115,7 +115,7 @@ impl Block {
         let shape = self.shape;
         let stride = self.plan.grid.columns;
         for column in (0..shape.columns).step_by(LINE_HEIGHTS) {
-            let group = Rectangle {
+            let group = BufferRectangle {
                 start: shape.start + column,
                 stride,
                 height: shape.rows,
@@ -169,7 +169,7 @@ impl Block {
         let index = margin_start(pass, order, self.shape.extent(pass)) + first;
         let height = axis::along(pass, places, strip.lines);
         let width = axis::across(pass, places, strip.lines);
-        let source = Rectangle {
+        let source = BufferRectangle {
             start: strip.first_at(first),
             stride: axis::along(pass, strip.place_step, strip.line_step),
             height,
@@ -200,7 +200,7 @@ impl Block {
         let index = strips::edge_start(pass, order, self.shape.extent(pass));
         let width = axis::across(pass, order, side);
         let height = axis::along(pass, order, side);
-        let source = Rectangle {
+        let source = BufferRectangle {
             start: work_place(pass, index),
             stride: STRIDE,
             height,
@@ -214,7 +214,7 @@ impl Block {
     }
 }
 
-impl Rectangle {
+impl BufferRectangle {
     // The rectangle, times a gain, into rows of another buffer: along its longer side, since a loop over a few words
     // costs more than the words.
     fn copy(self, from: &[u64], to: &mut [u64], target: Rows, gain: u64)

@@ -9,7 +9,6 @@ use lib.ListN.{length, set, drop, replicate}
 use Rattle.std.specs.Prelude.{Result, Ok, Err}
 use Rattle.refusal.specs.declared.Refusal.{Refusal}
 use Rattle.refusal.specs.Refusals.{Answer, accepted, refused_for}
-use Rattle.refusal.specs.Table.{answer_of}
 use Rattle.plan.specs.declared.Plan.{Plan}
 use Rattle.plan.specs.declared.Sizes.{Sizes}
 use Rattle.plan.specs.Sizes.{sizes_of}

@@ -1,4 +1,4 @@
--- Inner: what a list of numbers and blocks does, whatever its numbers stand for.
+-- What a list of numbers and blocks does, whatever its numbers stand for: tasks alone, or tasks and recalls.
 use Rattle.std.specs.Prelude.{◌≡◌, List, [], ◌∷◌, ℕ, zero, suc, min, ℤ, length}
 use Rattle.buffer.specs.Lists.{word_at}
 use Rattle.plan.specs.declared.Plan.{Plan}

@@ -15,7 +15,7 @@ ghost use Rattle.job.specs.RunList.{task_at, steps_by, StepsRun};
 use plan::{BufferOf7, Lengths, Plan};
 use refusal::Refusal;
 
-// The number that stands for a recall in a list of steps: tasks are 0 to 5.
+// The number that stands for a recall in a list of steps: tasks are 0 to 5, and stay numbers (`tasks::TASKS`).
 pub const RECALL: usize = 6;
 
 // Starts a job: no task is marked, and all needed strip words are 0.
@@ -100,7 +100,7 @@ fn perform(
 }
 
 // Writes what a task writes: collect the lone half of the block's slot, a link its strip in the linked half, finish the
-// block's output words.
+// block's output words. By the task's number, as `tasks::has_task` goes (the reason is at `tasks::TASKS`).
 fn write_block(
     plan: Plan,
     task: usize,
@@ -121,7 +121,7 @@ fn write_block(
 }
 
 // Calls of tasks, one after another: call number i is of task tasks[i] at block blocks[i], as many as the shorter list has. The
-// answer is how many were accepted. Demand 3 is part of its contract.
+// answer is how many were accepted. Demand 3 is part of its contract, which speaks of two lists, each of its own length.
 pub fn run_calls(
     plan: Plan,
     tasks: &[usize],

@@ -1,7 +1,7 @@
 // Strips read ahead. A link uses up to six strips one after another, each in another place of memory: where they are in no
 // cache, it waits for each. So it first reads a word of each of their cache lines, and the lines are on their way together.
 // What these words are does not count. Joined by `or` to one word, they are stored where nothing reads it: if they were not
-// stored, the compiler would leave the reads out.
+// stored, the compiler would leave the reads out. Plan, block and pass stay parameters, as in `strips`.
 ghost use Rattle.std.specs.Prelude.{length};
 ghost use Rattle.link.specs.Courses.{LinkAt};
 

@@ -1,7 +1,8 @@
 // The four links: of a lone strip and the strips of its needs, the linked strip. No heights are read, and no block is swept:
 // the passes run along the unit histories of each pass, along the few lines past the block's edges, and over their ends. They
 // run with gain 1; the words past an edge take the gains of the passes after their own, up to the link's.
-// An inner crate: what its functions require, their callers in this repository show.
+// An inner crate: what its functions require, their callers in this repository show. Places of whole buffers stay numbers, as those
+// of `buffer` do.
 #![tactic(auto)]
 
 mod ahead;

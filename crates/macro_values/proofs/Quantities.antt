@@ -10,7 +10,7 @@ use lib.IntN.{ℤ}
 use lib.Dec.{eqb}
 use borrow.Author.Tests.{eq-eqb, ne_eqb}
 use Rattle.refusal.specs.declared.Refusal.{Refusal}
-use Rattle.refusal.specs.Refusals.{accepted, refused}
+use Rattle.refusal.specs.Refusals.{accepted, refused, refused_for}
 use Rattle.refusal.specs.Table.{Given}
 use Rattle.plan.specs.declared.Plan.{Plan}
 use Rattle.plan.proofs.Needed.{bounds}
@@ -58,6 +58,21 @@ pub value_outside : (sum : ℤ) (top left bottom right : ℕ) → outside_floats
 unfolding quantity_value
 value_outside sum top left bottom right e =
     rw (total_outside_test sum e) (both_vacant (eqb top bottom || eqb left right))
+
+-- ---- by the sum
+
+module _ (answer : Result ℤ Refusal) (top left bottom right : ℕ) where
+  pub value_of_refusal : (quantity : Quantity) {refusal : Refusal} → answer ≡ Err refusal
+      → ◌≡◌ {A = Given Variable} (record { answer = refused_for refusal; value = vacant })
+      (value_by_sum quantity (sum_given answer) top left bottom right)
+  value_of_refusal quantity is = rw is
+
+  pub pair_of_sum : {sum : ℤ} {total pixels : Variable} → answer ≡ Ok sum
+      → total ≡ quantity_value wanted.Total sum top left bottom right
+      → pixels ≡ quantity_value wanted.Pixels sum top left bottom right
+      → ◌≡◌ {A = Given VariablePair} (record { answer = accepted; value = record { total = total; pixels = pixels } })
+      (pair_by_sum (sum_given answer) top left bottom right)
+  pair_of_sum is e f = rw (is, e, f)
 
 -- ---- the calls
 

@@ -339,7 +339,8 @@ fn refusal_code(refusal: Refusal) -> u64
     u64::from(refusal.number()) * 4294967296 + (refusal.place() as u64)
 }
 
-// The same of a refusal whose place may be too long for the lower half: the most that it holds stands for such a place.
+// The same of a refusal whose place may be too long for the lower half: the most that it holds stands for such a place. Only the
+// dispatcher's may be; the codes of all other calls are exact, by another definition.
 fn capped_code(refusal: Refusal) -> u64
     ensures { result ≡ capped_code (refused_for refusal) }
 {

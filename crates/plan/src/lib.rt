@@ -37,7 +37,8 @@ pub struct Pass {
     pub coefficients: [i64; ORDER_LIMIT],
 }
 
-// A plan (document 01's term): the size of the map and the block side, and the passes down, up, right and left.
+// A plan (document 01's term): the size of the map and the block side, and the passes down, up, right and left. Its rules are no
+// invariant of the type: a record is what a caller gave, 6 is answered by `check`, and the definitions speak of any plan.
 #[derive(Clone, Copy)]
 pub struct Plan {
     pub grid: Grid,
@@ -148,7 +149,8 @@ impl Plan {
         sum
     }
 
-    // The order of a pass, by a loop over all four, as in `order_sum`.
+    // The order of a pass, by a loop over all four, as in `order_sum`. Two functions: a loop that is handed the test would have
+    // to say in its contract what the test answers.
     pub fn order(self, pass: usize) -> usize
         requires { (keeps_rules self ≡ true) × (pass < 4) }
         ensures { result ≡ order_of self pass }
@@ -210,7 +212,7 @@ fn test_length(lent: Option<usize>, needed: usize, cause: Refusal) -> Result<(),
     }
 }
 
-// The lengths of a call that is lent no strips, map or output.
+// The lengths of a call that is lent no strips, map or output. By name: `Lengths::from` would not say that nothing else is lent.
 pub fn only_of_7(buffer: BufferOf7) -> Lengths
     ensures { result ≡ only_of7 buffer }
 {

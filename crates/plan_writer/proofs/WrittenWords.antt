@@ -39,12 +39,10 @@ sets_parts a b l i n e = rw (← e) (sym (sets_append a b l i))
 
 -- ---- coefficients
 
-coefficients_kept_law : (plan : Plan) → keeps_rules plan ≡ true → (i : ℕ) → i < 4 → coefficients_kept (pass_at plan i) ≡ true
-unfolding keeps_rules passes_kept pass_kept
-coefficients_kept_law plan e i h =
-    let pass = pass_at plan i in
-    let kept = all_at (λ k. pass_kept plan.grid.side (pass_at plan k)) 4 i (and_right (grid_kept plan.grid) (passes_kept plan) e) h in
-    and_right (in_signed28 pass.gain) _ (and_right (leb pass.order plan.grid.side) _ (and_right (leb pass.order order_limit) _ kept))
+pub coefficients_kept_law : (side : ℕ) (pass : Pass) → pass_kept side pass ≡ true → coefficients_kept pass ≡ true
+unfolding pass_kept
+coefficients_kept_law side pass e =
+    and_right (in_signed28 pass.gain) _ (and_right (leb pass.order side) _ (and_right (leb pass.order order_limit) _ e))
 
 pub coefficient_signed : (pass : Pass) (j : ℕ) → pass.order ≤ order_limit → coefficients_kept pass ≡ true → j < pass.order
     → in_signed28 (coefficient_at pass j) ≡ true
@@ -79,6 +77,10 @@ length_pass i pass = omega (arith, length_coefficients pass pass.order)
 
 -- ---- the passes
 
+pub pass_kept_law : (plan : Plan) → keeps_rules plan ≡ true → (i : ℕ) → i < 4 → pass_kept plan.grid.side (pass_at plan i) ≡ true
+unfolding keeps_rules passes_kept
+pass_kept_law plan e i h = all_at _ 4 i (and_right (grid_kept plan.grid) (passes_kept plan) e) h
+
 -- Pass i keeps the rules, and there is room for its words where there is room for those of all passes.
 pub pass_fits : (plan : Plan) (n place i : ℕ) → keeps_rules plan ≡ true → i < 4 → place + (8 + order_sum plan 4) ≤ n
     → PassFits n i (pass_at plan i) (place + (2 * i + order_sum plan i))
@@ -90,7 +92,7 @@ pass_fits plan n place i kept h room =
       coefficients =
           record {
             order_limited = pass.order_limited;
-            kept = coefficients_kept_law plan kept i h;
+            kept = coefficients_kept_law plan.grid.side (pass_at plan i) (pass_kept_law plan kept i h);
             room = omega (arith, total_grows (order_of plan) i 4 h, room);
           };
     }

@@ -64,7 +64,8 @@ fn report_on(grid: Grid, marks: &[u32]) -> Result<Progress, Refusal>
     })
 }
 
-// The least block whose mark is broken, or the number of blocks: no `Option`, for the reason at `tasks::broken_at`.
+// The least block whose mark is broken, or the number of blocks: a number, no `Option`, as the definition has it that the rows of
+// report, recall and dispatcher and their laws cite.
 #[tactic(auto, using(tasks::proofs::Verdicts::below_none, tasks::proofs::Verdicts::below_valid, tasks::proofs::Verdicts::below_all, tasks::proofs::Verdicts::first_least), unfolding(crate::specs::Report::first_broken))]
 pub fn first_broken(grid: Grid, marks: &[u32]) -> usize
     requires { Lent grid (length marks.now) }

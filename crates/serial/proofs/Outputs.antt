@@ -8,7 +8,7 @@ use lib.IntN.{ℤ}
 use lib.ListN.{length, drop, length-map, length-append, length-drop, get_or-append}
 use Rattle.number.specs.Numbers.{row_major}
 use Rattle.number.proofs.RowMajor.{place_below, row_of, column_of}
-use Rattle.refusal.specs.Refusals.{accepted}
+use Rattle.refusal.specs.Refusals.{Answer, accepted}
 use Rattle.plan.specs.declared.Plan.{Plan}
 use Rattle.plan.specs.Sizes.{needed_pixels}
 use Rattle.buffer.specs.Lists.{word_at, word_map}
@@ -62,3 +62,13 @@ module _ (plan : Plan) (heights : List ℤ) (output : List ℕ) where
       sym
       (ap₂ (λ X n. passes_output plan X n output) (pixels_map plan.grid.columns heights) (length-map heights pixel)
       ∙ heights_output)
+
+  -- A call over the pixels' words is the call over the heights.
+  pub over_heights : {answer : Answer} {after : List ℕ}
+      → (answer ≡ serial_answer plan (length (map pixel heights)) (length output))
+      × (after ≡ serial_words_output plan (map pixel heights) output)
+      → (answer ≡ serial_answer plan (length heights) (length output)) × (after ≡ serial_output plan heights output)
+  over_heights told = (
+    told.0 ∙ ap (λ n. serial_answer plan n (length output)) (length-map heights pixel),
+    told.1 ∙ sym heights_as_words,
+  )

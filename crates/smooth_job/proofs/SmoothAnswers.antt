@@ -30,7 +30,7 @@ use Rattle.report.specs.Report.{report}
 use Rattle.job_spec.specs.Calls.{Buffers, lists}
 use Rattle.whole_job.specs.WholeJob.{whole_answer, after_whole_job}
 use Rattle.smooth_job.specs.declared.Smoothed.{Smoothed}
-use Rattle.smooth_job.specs.Program.{pixel_limit, strip_limit, word_in, plan_length, plan_words, heights_in, plan_in, count_rows, input_rows, Asked, refused_input, job, asked, asked_with, job_lists, job_after, Line, line_of, reported_with, refused_with, answer_to, smooth_given, output_of}
+use Rattle.smooth_job.specs.Program.{pixel_limit, strip_limit, word_in, plan_length, plan_words, heights_in, plan_in, count_rows, input_rows, Asked, refused_input, job, asked, asked_with, job_lists, job_after, Line, line_of, reported_with, answer_to, smooth_given, output_of}
 
 -- ---- the report
 

@@ -1,7 +1,7 @@
 // Document 01's program on its input: the tests, the plan, the heights, and the whole job. Reading and printing are left to main.
 #![tactic(auto)]
 
-ghost use Rattle.std.specs.Prelude.{◌≡◌, true, ◌+◌, ◌*◌, ◌/◌, ◌<◌, ◌≤◌, length, replicate, take, IfOk};
+ghost use Rattle.std.specs.Prelude.{◌≡◌, true, ◌+◌, ◌*◌, ◌/◌, ◌<◌, ◌≤◌, length, take, IfOk};
 ghost use Rattle.std.specs.Io.KnownBytes.{Consumes, IsAtEnd};
 ghost use Rattle.plan.specs.Rules.{keeps_rules};
 ghost use Rattle.refusal.specs.Refusals.{number_of, place_of};
@@ -9,7 +9,7 @@ ghost use Rattle.plan.specs.Sizes.{needed_pixels, word_limit};
 ghost use Rattle.buffer.specs.Lists.{list_of};
 ghost use Rattle.plan_reader.specs.ReadPlan.{read_plan, read_given};
 ghost use Rattle.report.specs.Report.{report};
-ghost use Rattle.smooth_job.specs.Program.{pixel_limit, strip_limit, byte_at, word_in, plan_length, signed32, heights_in, job, asked, asked_with, refused_with, reported_with, answer_to, smooth_given, output_of, cut_limit, cut_length};
+ghost use Rattle.smooth_job.specs.Program.{pixel_limit, word_in, plan_length, signed32, heights_in, job, asked, asked_with, refused_with, reported_with, answer_to, smooth_given, output_of, cut_limit, cut_length};
 
 use plan::Plan;
 use refusal::Refusal;
@@ -81,22 +81,14 @@ pub fn read_full<R: Read>(reader: &mut R, buffer: &mut [u8]) -> io::Result<usize
     Ok(count)
 }
 
-fn byte_at(input: &[u8], at: usize) -> u32
-    requires { at < length input.now }
-    ensures { (result ≡ byte_at input.now at) × (result < 256) }
-{
-    input[at] as u32
-}
-
 // A word of the input, its lowest byte first.
+#[tactic(auto, unfolding(crate::specs::Program::word_in))]
 pub fn word_at(input: &[u8], i: usize) -> u32
     requires { 4 * i + 3 < length input.now }
     ensures { result ≡ word_in input.now i }
 {
     let at = 4 * i;
-    let low = byte_at(input, at) + 256 * byte_at(input, at + 1);
-    let high = byte_at(input, at + 2) + 256 * byte_at(input, at + 3);
-    low + 65536 * high
+    u32::from_le_bytes([input[at], input[at + 1], input[at + 2], input[at + 3]])
 }
 
 // How many words the plan has: up to its first word of kind 6, looking at the limit at most.
@@ -200,22 +192,10 @@ fn smooth_heights(plan: Plan, map: &[i32], output: &mut [u64]) -> Result<Smoothe
     ensures answer { smooth_given result ≡ answer_to (job plan map.now) output.old }
     ensures output { output.new ≡ output_of (job plan map.now) output.old }
 {
-    let mut marks = fresh_marks();
-    let mut strips = fresh_strips();
+    let mut marks = [0; PIXEL_LIMIT];
+    let mut strips = [0; STRIP_LIMIT];
     whole_job::whole_job(plan, map, &mut marks, &mut strips, output)?;
     reported(plan, &marks)
-}
-
-fn fresh_marks() -> [u32; PIXEL_LIMIT]
-    ensures { result ≡ replicate pixel_limit 0 }
-{
-    [0; PIXEL_LIMIT]
-}
-
-fn fresh_strips() -> [u64; STRIP_LIMIT]
-    ensures { result ≡ replicate strip_limit 0 }
-{
-    [0; STRIP_LIMIT]
 }
 
 // The size and what the report says of the marks.

@@ -1,11 +1,12 @@
--- The unit histories of a pass beside lines of zeros. Assumes nothing.
+-- The unit histories of a pass beside lines of zeros, and arrays of arrays. Assumes nothing.
 use mathlib.Core.Path.{◌≡◌, refl, sym, ap, ◌∙◌}
 use mathlib.Core.Logic.{◌≢◌}
-use mathlib.Core.List.{List}
+use mathlib.Core.List.{List, []}
 use Prim.Native.Nat.{ℕ, zero, suc, ◌+◌, ◌*◌, ◌<◌, ◌≤◌}
 use native.Mathlib.Decide.{ℕ_discrete, dec_lt}
 use native.Mathlib.Omega.{arith}
 use lib.ListN.{length, set}
+use lib.Seq.{get_or-set_same, get_or-set_other}
 use Rattle.plan.specs.Rules.{order_limit}
 use Rattle.buffer.specs.Lists.{word_at}
 use Rattle.axis.specs.Axis.{Direction, forward, backward, direction_of}
@@ -15,7 +16,7 @@ use Rattle.buffer.proofs.Written.{written_next, written_length, written_other, w
 use Rattle.number.specs.Numbers.{row_major}
 use Rattle.filter.specs.Windows.{beyond}
 use Rattle.squares.specs.LinePasses.{only_at}
-use Rattle.squares.specs.LineBuffers.{row_words, unit_lines}
+use Rattle.squares.specs.LineBuffers.{row_words, unit_lines, square_at}
 use Rattle.squares.specs.Rows.{ZerosFrom, RowsFilled}
 use Rattle.squares.proofs.LinePasses.{only_at_same, only_at_other}
 use Rattle.squares.proofs.Lines.{margin_below, beside_lines}
@@ -156,3 +157,16 @@ module _ (places t m v row order : ℕ) (first : t ≤ v) (last : v < t + m) (tw
                   ];
             };
       }
+
+-- ---- arrays of arrays
+
+-- One row more.
+pub square_next : (v : ℕ → ℕ → ℕ) (places line : ℕ) (square : List (List ℕ)) (row : List ℕ) → line < length square
+    → ((p : ℕ) → p < places → word_at row p ≡ v line p)
+    → ((l p : ℕ) → l < line → p < places → square_at square l p ≡ v l p)
+    → (l p : ℕ) → l < line + 1 → p < places → square_at (set square line row) l p ≡ v l p
+square_next v places line square row h e f l p a b =
+    elim (ℕ_discrete l line) [
+      | yes q ↦ rw q (ap (λ z. word_at z p) (get_or-set_same square line row [] h) ∙ e p b)
+      | no q ↦ ap (λ z. word_at z p) (get_or-set_other square line l row [] q) ∙ f l p (omega arith) b
+    ]

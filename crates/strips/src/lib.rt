@@ -54,7 +54,8 @@ fn words_before_half(plan: Plan, half: Half) -> usize
     }
 }
 
-// The first word of block k's strip of a pass in a half.
+// The first word of block k's strip of a pass in a half. The four stay parameters: a struct of them would be
+// built for each call.
 pub fn strip_start(plan: Plan, half: Half, k: usize, pass: usize) -> usize
     requires { StripAt plan k pass }
     ensures { result ≡ strip_start plan half k pass }

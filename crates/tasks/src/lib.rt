@@ -32,7 +32,8 @@ pub const UNMARKED: u32 = MARK_KIND * number::PAYLOAD_LIMIT;
 // The passes down, up, right and left.
 const PASSES: usize = 4;
 
-// A block of the map has a task: collect and finish always, a link where its pass goes on from the block.
+// A block of the map has a task: collect and finish always, a link where its pass goes on from the block. By the task's number, for
+// the reason at `TASKS`.
 #[tactic(auto, using(crate::proofs::Existence::link_has, crate::proofs::Existence::past_links), unfolding(crate::specs::Tasks::has_task))]
 fn has_task(grid: Grid, task: usize, at: Position) -> bool
     requires { InBlocks grid at }
@@ -148,7 +149,7 @@ pub fn is_ready(grid: Grid, marks: &[u32], task: usize, block: usize) -> bool
 }
 
 // A block where its mark is broken, else the number of blocks.
-// A number, no `Option`: it is above every block, so that the least of several is their `min`; a `None` is below.
+// A number, no `Option`, as the definitions have it: it is above every block, so that the least of several is their `min`.
 fn broken_at(grid: Grid, marks: &[u32], block: usize) -> usize
     requires { LentAt grid (length marks.now) block }
     ensures { result ≡ broken_at grid marks.now block }

@@ -57,6 +57,7 @@ fn perform_named(plan: Plan, map: &[i32], marks: &mut [u32], strips: &mut [u64],
         return;
     };
     if let Some(next) = progress.next {
+        // Were it refused, it would leave the lists as they are.
         let _ = job::task(plan, next.task, next.block, map, marks, strips, output);
     }
 }

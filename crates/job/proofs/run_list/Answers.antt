@@ -1,5 +1,5 @@
 -- The loop keeps `Running`: what is left of the list gives what the whole list gives.
-use mathlib.Core.Path.{◌≡◌, ◌∙◌}
+use mathlib.Core.Path.{◌∙◌}
 use native.Mathlib.Omega.{arith}
 use Rattle.job.proofs.Running.{running_next, running_end, one_counted}
 use Rattle.job.proofs.run_list.Goals as goal

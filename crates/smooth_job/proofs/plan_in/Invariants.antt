@@ -1,6 +1,5 @@
 -- `smooth_job::plan_in` meets its contract: the first i words are filled in. Assumes nothing.
 use mathlib.Core.Path.{◌≡◌}
-use Prim.Native.Nat.{◌-◌, ◌≤◌}
 use lib.ListN.{length, take}
 use Rattle.buffer.specs.Lists.{list_of}
 use Rattle.plan.specs.Sizes.{word_limit}

@@ -1,6 +1,5 @@
 -- `smooth_job::smooth_map` meets its contract: the first q heights are filled in. Assumes nothing.
 use mathlib.Core.Path.{◌≡◌}
-use Prim.Native.Nat.{◌-◌, ◌≤◌}
 use lib.ListN.{length, take}
 use Rattle.smooth_job.specs.Program.{pixel_limit, heights_in}
 use Rattle.smooth_job.proofs.smooth_map.Given as goal

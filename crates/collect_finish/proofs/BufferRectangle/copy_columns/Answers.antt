@@ -1,7 +1,7 @@
 -- `copy_columns` has copied the columns passed so far, times the gain.
 use native.Mathlib.Omega.{arith}
 use Rattle.collect_finish.proofs.CopiedColumns.{columns_more}
-use Rattle.collect_finish.proofs.Rectangle.copy_columns.Goals as goal
+use Rattle.collect_finish.proofs.BufferRectangle.copy_columns.Goals as goal
 
 pub loop-column-preserved : goal.loop-column-preserved
 loop-column-preserved c =

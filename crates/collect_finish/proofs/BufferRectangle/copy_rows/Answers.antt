@@ -1,6 +1,6 @@
 -- `copy_rows` has copied the rows passed so far, times the gain.
 use Rattle.collect_finish.proofs.CopiedRows.{scaled_more}
-use Rattle.collect_finish.proofs.Rectangle.copy_rows.Goals as goal
+use Rattle.collect_finish.proofs.BufferRectangle.copy_rows.Goals as goal
 
 pub loop-row-preserved : goal.loop-row-preserved
 loop-row-preserved c =

@@ -2,7 +2,7 @@
 use Rattle.buffer.specs.Copies.{stride_heights}
 use Rattle.collect_finish.specs.Work.{work_stride}
 use Rattle.collect_finish.proofs.CopiedRows.{RectangleWritten}
-use Rattle.collect_finish.proofs.Rectangle.load.Given as goal
+use Rattle.collect_finish.proofs.BufferRectangle.load.Given as goal
 
 abbrev pub invariant-loop-row : goal.invariant-loop-row
 invariant-loop-row l =

@@ -1,7 +1,7 @@
 -- `copy_rows` has copied the rows passed so far, times the gain.
 use Rattle.buffer.specs.Copies.{stride_scaled}
 use Rattle.collect_finish.proofs.CopiedRows.{RectangleWritten}
-use Rattle.collect_finish.proofs.Rectangle.copy_rows.Given as goal
+use Rattle.collect_finish.proofs.BufferRectangle.copy_rows.Given as goal
 
 abbrev pub invariant-loop-row : goal.invariant-loop-row
 invariant-loop-row l =

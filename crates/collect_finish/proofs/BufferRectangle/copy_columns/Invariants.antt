@@ -1,7 +1,7 @@
 -- `copy_columns` has copied the columns passed so far, times the gain.
 use Rattle.buffer.specs.Copies.{stride_scaled}
 use Rattle.collect_finish.proofs.CopiedRows.{RectangleWritten}
-use Rattle.collect_finish.proofs.Rectangle.copy_columns.Given as goal
+use Rattle.collect_finish.proofs.BufferRectangle.copy_columns.Given as goal
 
 abbrev pub invariant-loop-column : goal.invariant-loop-column
 invariant-loop-column l =
