@@ -2,19 +2,16 @@
 -- elsewhere. Assumes nothing.
 use mathlib.Core.Path.{◌≡◌, refl, sym, ap, ap₂, ◌∙◌}
 use mathlib.Core.List.{List}
-use mathlib.Core.Logic.{◌≢◌, ⊎_elim}
-use Prim.Native.Nat.{ℕ, ◌+◌, ◌-◌, ◌*◌, ◌^◌, ◌<◌, ◌≤◌}
+use mathlib.Core.Logic.{◌≢◌}
+use Prim.Native.Nat.{ℕ, ◌+◌, ◌*◌, ◌^◌, ◌<◌, ◌≤◌}
 use native.Mathlib.Nat.{div-add-mod'}
 use native.Mathlib.Omega.{arith}
 use lib.ListN.{length, set}
-use Rattle.std.proofs.lemmas.List.{places, ext_get_or}
-use borrow.Rule.Slice.PartMut.{put_mid}
 use Rattle.word.specs.Word.{◌⊗◌}
 use Rattle.word.proofs.Ring.{one_mul, reduced_small}
 use Rattle.buffer.specs.Lists.{word_at, by_place}
 use Rattle.buffer.specs.Written.{written, cleared, row_written, rectangle_written}
 use Rattle.buffer.proofs.Written.{written_none, written_length, written_same, written_parts, written_more, written_other, written_at, written_unchanged}
-use Rattle.number.proofs.Tests.{lt_or_ge}
 use Rattle.number.proofs.RowMajor.{row_of, column_of, place_below, row_below, column_below}
 use Rattle.buffer.specs.Copies.{words_from, scaled_from, WordsFit}
 use Rattle.number.specs.Numbers.{row_major}
@@ -62,46 +59,6 @@ row_parts start words rest m n a b d e same f =
     ∙ written_same _ (λ i. start + (m + i)) rest (λ i. words (m + i)) n b (λ i h. omega arith) (λ i h. same i)
     ∙ ap (written (λ i. start + (m + i)) (λ i. words (m + i)) n) e
     ∙ sym (written_parts (λ i. start + i) words m n a)
-
--- A list with a part put in: its length, what stands in the part, and what stands before and behind it.
-put_length : (start k : ℕ) (a row : List ℕ) → length row ≡ k → start + k ≤ length a → length (put_mid start k a row) ≡ length a
-put_length start k a row e h = grind (arith, places)
-
-put_at : (start k : ℕ) (a row : List ℕ) (p : ℕ) → length row ≡ k → start + k ≤ length a → start ≤ p → p < start + k
-    → word_at (put_mid start k a row) p ≡ word_at row (p - start)
-put_at start k a row p e h l g = grind (arith, places)
-
-put_below : (start k : ℕ) (a row : List ℕ) (p : ℕ) → length row ≡ k → start + k ≤ length a → p < start
-    → word_at (put_mid start k a row) p ≡ word_at a p
-put_below start k a row p e h l = grind (arith, places)
-
-put_above : (start k : ℕ) (a row : List ℕ) (p : ℕ) → length row ≡ k → start + k ≤ length a → start + k ≤ p
-    → word_at (put_mid start k a row) p ≡ word_at a p
-put_above start k a row p e h l = grind (arith, places)
-
--- A row that is put in as a part.
-pub row_put : (start count : ℕ) (words : ℕ → ℕ) (a row : List ℕ) → start + count ≤ length a → length row ≡ count
-    → ((i : ℕ) → i < count → word_at row i ≡ words i)
-    → put_mid start ((start + count) - start) a row ≡ row_written start words count a
-row_put start count words a row room sized same =
-    let counted : (start + count) - start ≡ count = omega arith in
-    rw counted
-    (ext_get_or 0 (put_mid start count a row) (row_written start words count a)
-    (put_length start count a row sized room ∙ sym (row_length start words count a))
-    (λ p h.
-    ⊎_elim
-    (λ (below : p < start).
-    put_below start count a row p sized room below ∙ sym (row_other start words count a p (λ i l e. omega arith)))
-    (λ (from : start ≤ p).
-    ⊎_elim
-    (λ (inside : p < start + count).
-    put_at start count a row p sized room from inside
-    ∙ same (p - start) (omega arith)
-    ∙ sym (row_at start words count a refl room (p - start) p (omega arith) (omega arith)))
-    (λ (above : start + count ≤ p).
-    put_above start count a row p sized room above ∙ sym (row_other start words count a p (λ i l e. omega arith)))
-    (lt_or_ge p (start + count)))
-    (lt_or_ge p start)))
 
 -- Places that lie 1 apart are a row.
 pub row_apart : (start : ℕ) (words : ℕ → ℕ) (n : ℕ) (a : List ℕ)

@@ -44,12 +44,16 @@ pub fn read_heights(map: &[i32], map_start: usize, to: &mut [u64], to_start: usi
     }
 }
 
-// Words of one buffer to another.
+// Words of one buffer to another. By index: where the compiler does not know that the two lie apart, `copy_from_slice` calls
+// `memmove`, which the library does not ask for.
+#[tactic(auto, using(crate::proofs::Copies::row_none))]
 pub fn copy_words(from: &[u64], from_start: usize, to: &mut [u64], to_start: usize, count: usize)
     requires { (from_start + count ≤ length from.now) × (to_start + count ≤ length to.old) }
     ensures { to.new ≡ row_written to_start (words_from from.now from_start) count to.old }
 {
-    to[to_start..to_start + count].copy_from_slice(&from[from_start..from_start + count]);
+    for i in 0..count {
+        to[to_start + i] = from[from_start + i];
+    }
 }
 
 // Words that lie a step apart, each times a gain, to places of another buffer that lie a step of its own apart.

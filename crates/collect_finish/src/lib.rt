@@ -267,7 +267,8 @@ impl BufferRectangle {
         }
     }
 
-    // The words of its heights, row by row, to rows of the work array.
+    // The words of its heights, row by row, to rows of the work array: the loop of `copy_rows`, over a row that is read and not
+    // copied.
     #[tactic(auto, using(crate::proofs::CopiedRows::rows_none))]
     fn load(self, map: &[i32], work: &mut [u64], work_start: usize)
         requires { StrideFits (length map.now) self.start self.stride self.height self.width × StrideFits (length work.old) work_start work_stride self.height self.width }

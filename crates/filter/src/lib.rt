@@ -1,5 +1,6 @@
 // The kernel of every pass: one recursive filter over the lines of a window of a buffer, in place.
-// An inner crate: what its functions require, their callers in this repository show.
+// An inner crate: what its functions require, their callers in this repository show. Buffers come whole, with places as numbers: a
+// contract then says what the whole holds afterwards. That a filter has taps is asked where pairs of places need it, and no more.
 #![tactic(auto)]
 
 ghost use Rattle.std.specs.Prelude.{◌≡◌, cond, ◌&&◌, leb, ltb, ◌+◌, ◌-◌, ◌*◌, ◌^◌, ◌<◌, ◌≤◌, length};

@@ -106,7 +106,8 @@ impl Grid {
         block_extent(self.columns, self.side, block_column)
     }
 
-    // Where block k lies, and its extent.
+    // Where block k lies, and its extent. That k is a block of the map is asked of each number for one: a type for both would be
+    // made at each call.
     pub fn block_shape(self, k: usize) -> BlockShape
         requires { InGrid self k }
         ensures { result ≡ shape_of self k }

@@ -61,7 +61,8 @@ pub fn task(
     Ok(())
 }
 
-// The tests of a call of a task at a block: of the record and of the lengths, and then what the marks say.
+// The tests of a call of a task at a block: of the record and of the lengths, and then what the marks say. What is lent is spelled
+// out, here and in `whole_job`: a reader sees which length is which.
 fn test_task(
     plan: Plan,
     task: usize,

@@ -66,7 +66,7 @@ fn order_at(words: &[u32], place: usize) -> usize
     order_in(payload_at(words, place))
 }
 
-// The place of the pass word of pass i, of the end word for i = 4.
+// The place of the pass word of pass i, of the end word for i = 4. Passes stay numbers here too (see `axis`).
 #[tactic(auto, using(crate::proofs::PassPlaces::walked))]
 fn pass_place(words: &[u32], i: usize) -> usize
     requires { i ≤ 4 }

@@ -13,7 +13,7 @@ pub const PASS_LENGTH: usize = 2 + plan::ORDER_LIMIT;
 // The words of a record: rows, columns and side, and four passes.
 pub const RECORD_LENGTH: usize = 3 + 4 * PASS_LENGTH;
 
-// The place of the first word of pass i.
+// The place of the first word of pass i, a number as in `axis`.
 fn pass_start(i: usize) -> usize
     requires { i < 4 }
     ensures { result ≡ pass_start i }

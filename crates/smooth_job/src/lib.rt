@@ -104,7 +104,7 @@ pub fn plan_length(input: &[u8]) -> usize
     most
 }
 
-// The plan in the first words of the input.
+// The plan in the first words of the input, in a buffer of just a plan's words; the test program `calls_run` takes all of its own.
 fn plan_in(input: &[u8], count: usize) -> Result<Plan, Refusal>
     requires { (count ≤ word_limit) × (count ≤ length input.now / 4) }
     ensures { read_given result ≡ read_plan (list_of (word_in input.now) count) }

@@ -1,5 +1,6 @@
 // Passes along single lines, and the squares of the links: how a history moves across a line of zeros.
-// An inner crate: what its functions require, their callers in this repository show.
+// An inner crate: what its functions require, their callers in this repository show. Places of whole buffers stay numbers, as those
+// of `buffer` do.
 #![tactic(auto)]
 
 ghost use Rattle.std.specs.Prelude.{◌≡◌, ℕ, ◌+◌, ◌*◌, ◌<◌, ◌≤◌, length};

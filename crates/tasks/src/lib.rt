@@ -24,7 +24,8 @@ pub const TASKS: usize = 6;
 // The payload of a mark is below it: bits 0 to 5 are the tasks', those above are spare.
 const TASK_BITS_LIMIT: u32 = 1 << TASKS;
 
-// The kind of a mark, `mark_kind` of specs/Marks.antt, and the mark of a block with no task done.
+// The kind of a mark, `mark_kind` of specs/Marks.antt, and the mark of a block with no task done. A number beside the kinds of plan
+// words (`plan_reader::Kind`), which no plan word has.
 const MARK_KIND: u32 = 7;
 
 pub const UNMARKED: u32 = MARK_KIND * number::PAYLOAD_LIMIT;
