@@ -1,10 +1,8 @@
 -- `smooth_job::plan_in` meets its contract: the first i words are filled in. Assumes nothing.
-use mathlib.Core.Path.{◌≡◌, sym, ap, ◌∙◌}
+use mathlib.Core.Path.{sym}
 use native.Mathlib.Omega.{arith}
 use lib.ListN.{length-set}
-use lib.Seq.{length-take-le}
 use Rattle.buffer.proofs.Listed.{listed_none, filled_more}
-use Rattle.plan_reader.specs.ReadPlan.{read_plan}
 use borrow.Author.Rules.{rules}
 use Rattle.smooth_job.proofs.plan_in.Goals as goal
 
@@ -16,12 +14,3 @@ loop-i-preserved c = (
   simp length-set (omega arith),
   filled_more _ _ _ _ (omega arith) c.word_at.ensures c.loop-i.invariant.1,
 )
-
-pub slice_bounds-read_plan-end : goal.slice_bounds-read_plan-end
-slice_bounds-read_plan-end c = sym (length-take-le _ _ (omega arith))
-
-pub returns : goal.returns
-returns c =
-    let l = c.loop-i in
-    let e : l.i ≡ c.args.count = omega arith in
-    c.read_plan.ensures ∙ ap read_plan (rw e at l.invariant.1)

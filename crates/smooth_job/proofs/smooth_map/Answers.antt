@@ -1,9 +1,8 @@
 -- `smooth_job::smooth_map` meets its contract: the first q heights are filled in. Assumes nothing.
 use Rattle.std.proofs.Common.{w32}
-use mathlib.Core.Path.{◌≡◌, sym}
+use mathlib.Core.Path.{sym}
 use native.Mathlib.Omega.{arith}
 use lib.ListN.{length-set}
-use lib.Seq.{length-take-le}
 use Rattle.buffer.proofs.Listed.{listed_none, filled_more}
 use Rattle.smooth_job.specs.Program.{heights_in}
 use Rattle.number.proofs.SignedBits.{read_back_law}
@@ -20,13 +19,3 @@ loop-q-preserved c = (
   simp length-set (omega arith),
   filled_more _ _ _ _ (omega arith) (read_back_law {w = w32} (search rules) c.height_at.ensures) c.loop-q.invariant.1,
 )
-
-pub slice_bounds-smooth_heights-end : goal.slice_bounds-smooth_heights-end
-slice_bounds-smooth_heights-end c = sym (length-take-le _ _ (omega arith))
-
-pub returns : goal.returns
-returns c =
-    let l = c.loop-q in
-    let e : l.q ≡ c.args.pixels = omega arith in
-    let heights = rw e at l.invariant.1 in
-    record { answer = rw heights at c.smooth_heights.ensures.answer; output = rw heights at c.smooth_heights.ensures.output }

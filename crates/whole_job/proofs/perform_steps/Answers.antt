@@ -1,6 +1,5 @@
 -- The lists are those after the steps that were taken. Assumes nothing.
-use mathlib.Core.Path.{◌≡◌, refl, ◌∙◌}
-use native.Mathlib.Omega.{arith}
+use mathlib.Core.Path.{refl, ◌∙◌}
 use Rattle.whole_job.specs.WholeJob.{after_steps}
 use Rattle.whole_job.proofs.Performed.{steps_more}
 use Rattle.whole_job.proofs.perform_steps.Goals as goal
@@ -19,8 +18,3 @@ loop-preserved c =
       strips_length = call.auto.strips ∙ kept.strips_length;
       output_length = call.auto.output ∙ kept.output_length;
     }
-
-pub returns : goal.returns
-returns c =
-    let all : c.loop.counter ≡ c.args.count = omega arith in
-    rw all at c.loop.invariant.taken

@@ -20,8 +20,3 @@ overflow_add-sum c =
 pub loop-i-preserved : goal.loop-i-preserved
 loop-i-preserved c =
     ap₂ ◌+◌ c.loop-i.invariant c.counted_if-sum.ensures ∙ sum_below (order_of c.args.self) c.loop-i.i c.args.count
-
-pub returns : goal.returns
-returns c =
-    let e : min c.loop-i.i c.args.count ≡ c.args.count = omega arith in
-    rw e at c.loop-i.invariant
