@@ -112,7 +112,7 @@ module _ (plan : Plan) (lent : Lengths) where
       )
 
 -- A call that is lent at most the buffer that 7 is for.
-pub only_accepted : (plan : Plan) (buffer : BufferOf7) → keeps_rules plan ≡ true → Of7Enough plan (Some buffer)
+pub only_accepted : (plan : Plan) (buffer : Option BufferOf7) → keeps_rules plan ≡ true → Of7Enough plan buffer
     → first_due (lent_rows plan (only_of7 buffer)) ≡ accepted
 only_accepted plan buffer kept enough =
     lent_accepted plan (only_of7 buffer)

@@ -41,9 +41,9 @@ length_rows sizes lent =
 unfoldable pub lent_rows : Plan → Lengths → List Row
 lent_rows plan lent = 6 at 0 when not (keeps_rules plan) ∷ length_rows (sizes_of plan) lent
 
--- The lengths of a call that is lent no strips, map or output,
-abbrev pub only_of7 : BufferOf7 → Lengths
-only_of7 buffer = record { of7 = Some buffer; strips = None; map = None; output = None }
+-- The lengths of a call that is lent no strips, map or output, and of the buffers that 7 is for this one or none,
+abbrev pub only_of7 : Option BufferOf7 → Lengths
+only_of7 buffer = record { of7 = buffer; strips = None; map = None; output = None }
 
 -- and of one that is lent nothing.
 abbrev pub nothing_lent : Lengths

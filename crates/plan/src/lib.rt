@@ -212,12 +212,13 @@ fn test_length(lent: Option<usize>, needed: usize, cause: Refusal) -> Result<(),
     }
 }
 
-// The lengths of a call that is lent no strips, map or output. By name: `Lengths::from` would not say that nothing else is lent.
-pub fn only_of_7(buffer: BufferOf7) -> Lengths
+// The lengths of a call that is lent no strips, map or output, and of the buffers that 7 is for this one or none. By name:
+// `Lengths::from` would not say that nothing else is lent.
+pub fn only_of_7(buffer: Option<BufferOf7>) -> Lengths
     ensures { result ≡ only_of7 buffer }
 {
     Lengths {
-        of7: Some(buffer),
+        of7: buffer,
         strips: None,
         map: None,
         output: None,

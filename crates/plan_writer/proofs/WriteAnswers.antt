@@ -5,7 +5,7 @@ use mathlib.Core.List.{List, ◌++◌}
 use Prim.Native.Nat.{ℕ, ◌≤◌}
 use lib.ListN.{length, drop}
 use lib.Seq.{sets}
-use Rattle.std.specs.Prelude.{Ok, Err}
+use Rattle.std.specs.Prelude.{Ok, Err, Some}
 use Rattle.refusal.specs.declared.Refusal.{Refusal}
 use Rattle.refusal.specs.Refusals.{accepted}
 use Rattle.plan.specs.declared.BufferOf7.TheVariants as of7
@@ -26,7 +26,7 @@ module _ (plan : Plan) (words : List ℕ) where
       × (written_words plan words ≡ words_of plan ++ drop (word_count plan) words)
   unfolding write_plan written_words
   call_accepted kept room =
-      let accepts = only_accepted plan (of7.Words (length words)) kept room in (rw accepts, rw accepts)
+      let accepts = only_accepted plan (Some (of7.Words (length words))) kept room in (rw accepts, rw accepts)
 
   -- ---- by the sizes that the plan has or is refused
 

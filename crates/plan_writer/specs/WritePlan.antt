@@ -1,6 +1,6 @@
 -- The words of a plan, in the order of document 01's table, and the call that writes them, refused by 6 and 7; document
 -- 02, CR 4.
-use Rattle.std.specs.Prelude.{List, [], ◌∷◌, ◌++◌, ℕ, ◌+◌, ◌*◌, ℤ, length, drop, Result}
+use Rattle.std.specs.Prelude.{List, [], ◌∷◌, ◌++◌, ℕ, ◌+◌, ◌*◌, ℤ, length, drop, Result, Some}
 use Rattle.refusal.specs.declared.Refusal.{Refusal}
 use Rattle.refusal.specs.Table.{first_due, if_accepted, Given, given, given_by}
 use Rattle.plan.specs.declared.BufferOf7.TheVariants as of7
@@ -51,7 +51,7 @@ words_of plan =
 
 -- The writer is lent room for the words.
 abbrev pub lent_to_writer : (room : ℕ) → Lengths
-lent_to_writer room = only_of7 (of7.Words room)
+lent_to_writer room = only_of7 (Some (of7.Words room))
 
 -- How many words are written into so much room; 0 beside a refusal, by 6 or by 7.
 unfoldable pub write_plan : Plan → (room : ℕ) → Given ℕ

@@ -20,7 +20,7 @@ pub fn write_plan(plan: Plan, words: &mut [u32]) -> Result<usize, Refusal>
     ensures answer { written_given result ≡ write_plan plan (length words.old) }
     ensures written { words.new ≡ written_words plan words.old }
 {
-    let sizes = plan.sizes_for(plan::only_of_7(BufferOf7::Words(words.len())))?;
+    let sizes = plan.sizes_for(plan::only_of_7(Some(BufferOf7::Words(words.len()))))?;
     write_words(plan, words);
     Ok(sizes.words)
 }

@@ -7,6 +7,7 @@ use native.Mathlib.Omega.{arith}
 use lib.Dec.{ltb}
 use lib.ListN.{length}
 use borrow.Author.Tests.{ltb-true, le-ltb}
+use Rattle.std.specs.Prelude.{Some}
 use Rattle.number.proofs.Tests.{and_left}
 use Rattle.refusal.specs.Table.{◌at◌when◌, first_due}
 use Rattle.refusal.proofs.Table.{accepted_before}
@@ -38,7 +39,7 @@ own_tests : (plan : Plan) (marks : List ℕ) (k : ℕ) → keeps_rules plan ≡ 
 unfolding recall_answer
 own_tests plan marks k kept enough =
     accepted_before (lent_rows plan (lent_to_recall marks)) (own_rows plan.grid marks k)
-    (sym (only_accepted plan (Marks (length marks)) kept enough))
+    (sym (only_accepted plan (Some (Marks (length marks))) kept enough))
 
 none_broken : (grid : Grid) (marks : List ℕ) → Valid grid marks → block_total grid ≤ first_broken grid marks
 unfolding first_broken

@@ -1,5 +1,5 @@
 -- The call of recall: its answer, and the marks after it. Document 02, CR 8.
-use Rattle.std.specs.Prelude.{◌≡◌, Bool, true, false, not, List, [], ◌∷◌, ◌++◌, ℕ, ◌≤◌, ◌<◌, ltb, length}
+use Rattle.std.specs.Prelude.{◌≡◌, Bool, true, false, not, List, [], ◌∷◌, ◌++◌, ℕ, ◌≤◌, ◌<◌, ltb, length, Some}
 use Rattle.refusal.specs.Refusals.{Answer, accepted, refused}
 use Rattle.refusal.specs.Table.{Row, ◌at◌when◌, first_due, if_accepted}
 use Rattle.buffer.specs.Lists.{word_at}
@@ -23,7 +23,7 @@ recall_rows grid done broken k =
 
 -- Recall is lent marks.
 abbrev pub lent_to_recall : List ℕ → Lengths
-lent_to_recall marks = only_of7 (Marks (length marks))
+lent_to_recall marks = only_of7 (Some (Marks (length marks)))
 
 -- What a recall of block k answers: 6, 7 for the marks, which are all that it is lent, 8, 9 at the least broken mark of all, 17.
 unfoldable pub recall_answer : Plan → List ℕ → ℕ → Answer

@@ -32,7 +32,7 @@ pub fn recall(plan: Plan, block: usize, marks: &mut [u32]) -> Result<(), Refusal
 fn test_recall(plan: Plan, block: usize, marks: &[u32]) -> Result<(), Refusal>
     ensures { answer_of result ≡ recall_answer plan marks.now block }
 {
-    plan.sizes_for(plan::only_of_7(BufferOf7::Marks(marks.len())))?;
+    plan.sizes_for(plan::only_of_7(Some(BufferOf7::Marks(marks.len()))))?;
     test_marks(plan.grid, block, marks)
 }
 

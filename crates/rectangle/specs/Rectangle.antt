@@ -1,6 +1,6 @@
 -- The rectangle sum as a call, and what every call about a rectangle tests: document 01, the paragraph on the rectangle
 -- sum and refusals 6, 7 and 12; document 02, CR 2, CR 4, CR 5 and CR 7.
-use Rattle.std.specs.Prelude.{Bool, ◌||◌, List, [], ◌∷◌, ◌++◌, ℕ, ◌≤◌, ℤ, pos, ltb, length, Result}
+use Rattle.std.specs.Prelude.{Bool, ◌||◌, List, [], ◌∷◌, ◌++◌, ℕ, ◌≤◌, ℤ, pos, ltb, length, Result, Some}
 use Rattle.refusal.specs.declared.Refusal.{Refusal}
 use Rattle.refusal.specs.Table.{Row, ◌at◌when◌, first_due, Given, given, given_by}
 use Rattle.number.specs.Numbers.{row_major}
@@ -35,7 +35,7 @@ rectangle_rows plan lent top left bottom right = lent_rows plan lent ++ (12 at 0
 
 -- The sum is lent a table, so that 7 stands between 6 and 12.
 abbrev pub lent_to_sum : List ℕ → Lengths
-lent_to_sum table = only_of7 (Table (length table))
+lent_to_sum table = only_of7 (Some (Table (length table)))
 
 -- The sum over a rectangle, from -2^63 to 2^63 - 1: the word of the four corners, read as signed; 0 beside a refusal.
 unfoldable pub rectangle_call : Plan → List ℕ → (top left bottom right : ℕ) → Given ℤ

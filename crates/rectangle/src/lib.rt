@@ -26,7 +26,7 @@ pub struct Rectangle {
 pub fn rectangle_sum(plan: Plan, rectangle: Rectangle, table: &[u64]) -> Result<i64, Refusal>
     ensures { sum_given result ≡ rectangle_call plan table.now rectangle.top rectangle.left rectangle.bottom rectangle.right }
 {
-    rectangle.test(plan, plan::only_of_7(BufferOf7::Table(table.len())))?;
+    rectangle.test(plan, plan::only_of_7(Some(BufferOf7::Table(table.len()))))?;
     Ok(word::signed(corners(plan, rectangle, table)))
 }
 

@@ -123,7 +123,7 @@ module _ (plan : Plan) (kept : keeps_rules plan ≡ true) (done : ℕ → ℕ �
       let whole = all_valid plan.grid marks valid in
       rw (
         accepted_before (lent_rows plan (lent_to_report marks)) (marks_rows plan.grid marks)
-            (sym (only_accepted plan (Marks (length marks)) kept enough)),
+            (sym (only_accepted plan (Some (Marks (length marks))) kept enough)),
         le-ltb (first_broken plan.grid marks) (needed_marks plan) (omega arith),
         count_same plan.grid (is_marked marks) done same,
         tally_same plan.grid (is_marked marks) done same,

@@ -50,7 +50,7 @@ marks_rows grid marks = broken_row grid (first_broken grid marks) ∷ []
 
 -- The report is lent marks.
 abbrev pub lent_to_report : List ℕ → Lengths
-lent_to_report marks = only_of7 (Marks (length marks))
+lent_to_report marks = only_of7 (Some (Marks (length marks)))
 
 -- The report on the marks of a plan: refused by 6, 7 or 9, with zeros beside it.
 unfoldable pub report : Plan → List ℕ → Given Values

@@ -42,7 +42,7 @@ struct Sums {
 pub fn report(plan: Plan, marks: &[u32]) -> Result<Progress, Refusal>
     ensures { report_given result ≡ report plan marks.now }
 {
-    plan.sizes_for(plan::only_of_7(BufferOf7::Marks(marks.len())))?;
+    plan.sizes_for(plan::only_of_7(Some(BufferOf7::Marks(marks.len()))))?;
     report_on(plan.grid, marks)
 }
 
