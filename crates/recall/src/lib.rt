@@ -13,7 +13,6 @@ ghost use Rattle.recall.specs.Clearing.{first_reached, Clearable};
 use grid::{Grid, Position};
 use plan::{BufferOf7, Plan};
 use refusal::Refusal;
-use std::cmp::Ordering;
 
 // Recalls a block: refused, or the bits of its tasks and of every task that needs one of them, directly or through others,
 // are cleared, and no other bit.
@@ -70,17 +69,21 @@ fn clear_marks(grid: Grid, recalled: usize, marks: &mut [u32])
 
 // The first task of a block that a recall reaches; it reaches all later ones. In columns left of the recalled block these
 // are the left link and finish, right of it the right link too; in its own column, above it the up link too, below it the
-// down link too; of the block itself all.
+// down link too; of the block itself all. By tests one after another: both comparisons for every mark take a recall a quarter longer.
 #[tactic(auto, unfolding(crate::specs::Clearing::first_reached))]
 fn first_reached(recalled: Position, at: Position) -> usize
     ensures { result ≡ first_reached recalled at }
 {
-    match (at.column.cmp(&recalled.column), at.row.cmp(&recalled.row)) {
-        (Ordering::Less, _) => 4,
-        (Ordering::Greater, _) => 3,
-        (Ordering::Equal, Ordering::Less) => 2,
-        (Ordering::Equal, Ordering::Greater) => 1,
-        (Ordering::Equal, Ordering::Equal) => 0,
+    if at.column < recalled.column {
+        4
+    } else if recalled.column < at.column {
+        3
+    } else if at.row < recalled.row {
+        2
+    } else if recalled.row < at.row {
+        1
+    } else {
+        0
     }
 }
 
