@@ -1,4 +1,5 @@
-// Document 01's program on its input: the tests, the plan, the heights, and the whole job. Reading and printing are left to main.
+// Document 01's program on its input: the tests, the plan, the heights, and the whole job. How an input is read whole stands here
+// for both programs; what they read, and printing, are left to their mains.
 #![tactic(auto)]
 
 ghost use Rattle.std.specs.Prelude.{◌≡◌, true, ◌+◌, ◌*◌, ◌/◌, ◌<◌, ◌≤◌, length, take, IfOk};
