@@ -69,7 +69,7 @@ fn clear_marks(grid: Grid, recalled: usize, marks: &mut [u32])
 
 // The first task of a block that a recall reaches; it reaches all later ones. In columns left of the recalled block these
 // are the left link and finish, right of it the right link too; in its own column, above it the up link too, below it the
-// down link too; of the block itself all. By tests one after another: both comparisons for every mark take a recall a quarter longer.
+// down link too; of the block itself all. One test after another: a match on both comparisons is slower (docs/DESIGN-PASS.md).
 #[tactic(auto, unfolding(crate::specs::Clearing::first_reached))]
 fn first_reached(recalled: Position, at: Position) -> usize
     ensures { result ≡ first_reached recalled at }
